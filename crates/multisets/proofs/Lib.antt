@@ -1,0 +1,8 @@
+-- The laws of multisets and rows, over any likeness and any order.
+pub mod Relations
+pub mod RowLaws
+pub mod MultisetLaws
+pub mod MultisetOrder
+pub mod Totality
+pub mod MultisetMaps
+pub mod Agreement

@@ -1,0 +1,2 @@
+-- Lists as multisets and as rows, over any test of likeness.
+pub mod Multiset

@@ -1,0 +1,31 @@
+-- The sample signature with the starred cases as rules: packed and unpacked it reads back as the same file, and means
+-- those rules.
+use mathlib.Core.Path.{_≡_, refl}
+use mathlib.Core.List.{map, flatMap}
+use Rattle.terms.specs.Words.{words, forestOf}
+use Rattle.terms.specs.Sample.{Case, sample, starred}
+use Rattle.reader.specs.Reading.{bitField, wordBelow}
+use Rattle.reader.specs.Reading.Reading.{got}
+use Rattle.reader.specs.Format.{symbolReader, symbolsReader, forestReader, rulesReader, fileReader}
+use Rattle.reader.specs.Format.{RuleFile, systemOf}
+use Rattle.reader.specs.Packing.{items, packed, unpacked}
+use Rattle.reader.specs.Files.{paddingReader, endReader, readBytes, readWords}
+
+abbrev sampleFile : RuleFile
+sampleFile = record {
+  signature = sample;
+  rules = map (λ (c : Case). record { left = words (c .left); right = words (c .right) }) starred;
+}
+
+sample-packs : readBytes (packed sampleFile) ≡ got sampleFile 825
+unfolding readBytes fileReader symbolsReader symbolReader rulesReader forestReader bitField paddingReader packed items
+    flatMap
+sample-packs = refl
+
+sample-unpacks : readWords (unpacked sampleFile) ≡ got sampleFile 103
+unfolding readWords fileReader symbolsReader symbolReader rulesReader forestReader wordBelow endReader unpacked items flatMap
+sample-unpacks = refl
+
+sample-means : systemOf sampleFile .rules ≡ map (λ (c : Case). record { left = c .left; right = c .right }) starred
+unfolding forestOf
+sample-means = refl

@@ -1,0 +1,2 @@
+-- What a symbol table says of a symbol.
+pub mod TableLaws

@@ -1,0 +1,2 @@
+-- The decoded symbol table.
+pub mod Table

@@ -1,0 +1,71 @@
+-- The parts of a term, its arguments and the elements of its flattenings: they are smaller than it, and well formed
+-- where it is.
+--     row-arguments, arguments-row                          a symbol's arguments as a list and back
+--     Hereditary, row-each, flattening-each                 a property that goes down to the parts holds of them
+--     row-smaller, flattenings-smaller, flattenings-formed  two such properties
+use mathlib.Core.List.{List, [], _∷_, List·Memᴰ, List·Memᴰ·append-cases, List·Memᴰ·head, List·Memᴰ·tail}
+use mathlib.Core.List.{List·Memᴰ·not-nil, List·Memᴰ·eq-of-singleton}
+use mathlib.Core.Logic.{⊎-elim}
+use mathlib.Core.Path.{_≡_, refl, ap}
+use Prim.Native.Nat.{ℕ, _≤_, _<_}
+use native.Mathlib.Omega.{arith}
+use lib.Dec.{eqb}
+use Rattle.terms.specs.Signature.{Signature}
+use Rattle.terms.specs.Term.{Term, Terms, size, sizes, row, arguments, flattening, flattenings, WellFormed}
+use Rattle.terms.specs.Term.{WellFormeds}
+use Rattle.terms.specs.Term.Term.{var, app}
+use Rattle.terms.specs.Term.Terms.{nil, cons}
+use Rattle.multisets.proofs.Relations.{byTest}
+
+pub row-arguments : (l : List Term) → row (arguments l) ≡ l
+row-arguments [] = refl
+row-arguments (t ∷ l) = ap (_∷_ t) (row-arguments l)
+
+pub arguments-row : (ts : Terms) → arguments (row ts) ≡ ts
+arguments-row nil = refl
+arguments-row (cons t ts) = ap (cons t) (arguments-row ts)
+
+pub size-pos : (t : Term) → 0 < size t
+size-pos (var x) = omega arith
+size-pos (app f ts) = omega arith
+
+-- A property of terms, with one of rows of terms, that goes down to the parts.
+pub record Hereditary (P : Term → Type 0) (Q : Terms → Type 0) : Type 0 where
+  pub inner : (f : ℕ) (ts : Terms) → P (app f ts) → Q ts
+  pub head : (t : Term) (ts : Terms) → Q (cons t ts) → P t
+  pub tail : (t : Term) (ts : Terms) → Q (cons t ts) → Q ts
+
+module _ {P : Term → Type 0} {Q : Terms → Type 0} (d : Hereditary P Q) (u : Term) where
+  pub row-each : (ts : Terms) → Q ts → List·Memᴰ u (row ts) → P u
+  row-each nil q m = absurd (List·Memᴰ·not-nil m)
+  row-each (cons t ts) q (List·Memᴰ·head e) = rw e (d .head t ts q)
+  row-each (cons t ts) q (List·Memᴰ·tail m) = row-each ts (d .tail t ts q) m
+
+  mutual
+    pub flattening-each : (t : Term) (f : ℕ) → P t → List·Memᴰ u (flattening f t) → P u
+    flattening-each (var x) f p m = rw (List·Memᴰ·eq-of-singleton m) p
+    flattening-each (app g ts) f p m =
+        byTest (eqb f g) (λ e. flattenings-each ts f (d .inner g ts p) (rw e at m))
+        λ e. rw (List·Memᴰ·eq-of-singleton (rw e at m)) p
+
+    pub flattenings-each : (ts : Terms) (f : ℕ) → Q ts → List·Memᴰ u (flattenings f ts) → P u
+    flattenings-each nil f q m = absurd (List·Memᴰ·not-nil m)
+    flattenings-each (cons t ts) f q m =
+        ⊎-elim (λ k. flattening-each t f (d .head t ts q) k) (λ k. flattenings-each ts f (d .tail t ts q) k)
+        (List·Memᴰ·append-cases (flattening f t) m)
+
+pub small : (n : ℕ) → Hereditary (λ (t : Term). size t ≤ n) (λ (ts : Terms). sizes ts ≤ n)
+small n = record { inner = λ f ts h. omega arith; head = λ t ts h. omega arith; tail = λ t ts h. omega arith }
+
+pub formed : (σ : Signature) → Hereditary (WellFormed σ) (WellFormeds σ)
+formed σ = record { inner = λ f ts w. w .2; head = λ t ts w. w .0; tail = λ t ts w. w .1 }
+
+pub row-smaller : (ts : Terms) (u : Term) → List·Memᴰ u (row ts) → size u ≤ sizes ts
+row-smaller ts u = row-each (small (sizes ts)) u ts (omega arith)
+
+pub flattenings-smaller : (ts : Terms) (f : ℕ) (u : Term) → List·Memᴰ u (flattenings f ts) → size u ≤ sizes ts
+flattenings-smaller ts f u = flattenings-each (small (sizes ts)) u ts f (omega arith)
+
+pub flattenings-formed : (σ : Signature) (ts : Terms) (f : ℕ) → WellFormeds σ ts → (u : Term) →
+    List·Memᴰ u (flattenings f ts) → WellFormed σ u
+flattenings-formed σ ts f w u = flattenings-each (formed σ) u ts f w

@@ -5,8 +5,8 @@ use mathlib.Core.List.{List, _++_}
 use mathlib.Core.Bool.{Bool, cond}
 use Prim.Native.Nat.{ℕ}
 use lib.ListN.{length, drop}
-use Rattle.reader.specs.Reading.{Reading}
-use Rattle.reader.specs.Reading.Reading.{got, fault}
+use Rattle.format.specs.Reading.{Reading}
+use Rattle.format.specs.Reading.Reading.{got, fault}
 
 -- 01: a refusal's number, input and place.
 pub record Error : Type 0 where

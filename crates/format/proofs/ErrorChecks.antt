@@ -3,14 +3,14 @@ use mathlib.Core.Path.{_≡_, refl}
 use mathlib.Core.List.{List, [], _∷_, _++_, map}
 use Prim.Native.Nat.{ℕ}
 use lib.ListN.{take, replicate}
-use Rattle.reader.specs.Errors.{fieldMissing, wrongForm, noSymbols, variableWeightless, acNotBinary}
-use Rattle.reader.specs.Errors.{weightInadmissible, rankTaken, noSuchSymbol, tooManyNodes, badPadding}
-use Rattle.reader.specs.Errors.{wordTooWide, wordsLeftOver}
-use Rattle.reader.specs.Reading.{bitField, wordBelow}
-use Rattle.reader.specs.Reading.Reading.{fault}
-use Rattle.reader.specs.Format.{symbolReader, symbolsReader, forestReader, rulesReader, fileReader}
-use Rattle.reader.specs.Files.{paddingReader, endReader, readBytes, readWords}
-use Rattle.reader.specs.Listing.{listing}
+use Rattle.format.specs.Errors.{fieldMissing, wrongForm, noSymbols, variableWeightless, acNotBinary}
+use Rattle.format.specs.Errors.{weightInadmissible, rankTaken, noSuchSymbol, tooManyNodes, badPadding}
+use Rattle.format.specs.Errors.{wordTooWide, wordsLeftOver}
+use Rattle.format.specs.Reading.{bitField, wordBelow}
+use Rattle.format.specs.Reading.Reading.{fault}
+use Rattle.format.specs.Format.{symbolReader, symbolsReader, forestReader, rulesReader, fileReader}
+use Rattle.format.specs.Files.{paddingReader, endReader, readBytes, readWords}
+use Rattle.format.specs.Listing.{listing}
 
 record ErrorCase : Type 0 where
   input : List ℕ

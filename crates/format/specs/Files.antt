@@ -7,11 +7,11 @@ use Prim.Native.Nat.{ℕ, _-_, _*_}
 use lib.ListN.{length}
 use lib.Dec.{eqb, ltb, leb}
 use Rattle.terms.specs.Signature.{Signature}
-use Rattle.reader.specs.Errors.{fileTooLong, badPadding, wordsLeftOver}
-use Rattle.reader.specs.Layout.{maxBytes, maxNodes}
-use Rattle.reader.specs.Reading.{Reading, Reader, _>>=_, _>>_, give, require, spelt, bitAt, bitSource, wordSource}
-use Rattle.reader.specs.Reading.Reading.{fault}
-use Rattle.reader.specs.Format.{RuleFile, fileReader, forestReader}
+use Rattle.format.specs.Errors.{fileTooLong, badPadding, wordsLeftOver}
+use Rattle.format.specs.Layout.{maxBytes, maxNodes}
+use Rattle.format.specs.Reading.{Reading, Reader, _>>=_, _>>_, give, require, spelt, bitAt, bitSource, wordSource}
+use Rattle.format.specs.Reading.Reading.{fault}
+use Rattle.format.specs.Format.{RuleFile, fileReader, forestReader}
 
 -- Fewer than eight bits are left, and they are zeros.
 unfoldable pub paddingReader : List ℕ → Reader (Unit {0})

@@ -4,12 +4,12 @@ use mathlib.Core.Path.{_≡_, refl}
 use mathlib.Core.List.{map, flatMap}
 use Rattle.terms.specs.Words.{words, forestOf}
 use Rattle.terms.specs.Sample.{Case, sample, starred}
-use Rattle.reader.specs.Reading.{bitField, wordBelow}
-use Rattle.reader.specs.Reading.Reading.{got}
-use Rattle.reader.specs.Format.{symbolReader, symbolsReader, forestReader, rulesReader, fileReader}
-use Rattle.reader.specs.Format.{RuleFile, systemOf}
-use Rattle.reader.specs.Packing.{items, packed, unpacked}
-use Rattle.reader.specs.Files.{paddingReader, endReader, readBytes, readWords}
+use Rattle.format.specs.Reading.{bitField, wordBelow}
+use Rattle.format.specs.Reading.Reading.{got}
+use Rattle.format.specs.Format.{symbolReader, symbolsReader, forestReader, rulesReader, fileReader}
+use Rattle.format.specs.Format.{RuleFile, systemOf}
+use Rattle.format.specs.Packing.{items, packed, unpacked}
+use Rattle.format.specs.Files.{paddingReader, endReader, readBytes, readWords}
 
 abbrev sampleFile : RuleFile
 sampleFile = record {

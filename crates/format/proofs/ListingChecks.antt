@@ -8,15 +8,15 @@ use Rattle.multisets.specs.Multiset.{multisetEqual, multisetGreater, rowEqual, 
 use Rattle.terms.specs.Equivalence.{isEquivalentTo, isEquivalent}
 use Rattle.terms.specs.Order.{noneOftener, flattenedMark, rootMark, decreasingMark, isGreaterTo, isGreater, mark}
 use Rattle.terms.specs.Rewriting.{Rule}
-use Rattle.reader.specs.Errors.{fieldMissing, wordsTooShort, bytesTooShort}
-use Rattle.reader.specs.Reading.{bitField, wordBelow}
-use Rattle.reader.specs.Reading.Reading.{got, fault}
-use Rattle.reader.specs.Format.{symbolReader, symbolsReader, forestReader, rulesReader, fileReader, systemOf}
-use Rattle.reader.specs.Packing.{items, packed, unpacked}
-use Rattle.reader.specs.Files.{paddingReader, endReader, readBytes, readWords}
-use Rattle.reader.specs.Replies.Reply.{accepted, refused}
-use Rattle.reader.specs.Operations.{decoded, encoded}
-use Rattle.reader.specs.Listing.{listing, listingFile, listingWords}
+use Rattle.format.specs.Errors.{fieldMissing, wordsTooShort, bytesTooShort}
+use Rattle.format.specs.Reading.{bitField, wordBelow}
+use Rattle.format.specs.Reading.Reading.{got, fault}
+use Rattle.format.specs.Format.{symbolReader, symbolsReader, forestReader, rulesReader, fileReader, systemOf}
+use Rattle.format.specs.Packing.{items, packed, unpacked}
+use Rattle.format.specs.Files.{paddingReader, endReader, readBytes, readWords}
+use Rattle.format.specs.Replies.Reply.{accepted, refused}
+use Rattle.format.specs.Operations.{decoded, encoded}
+use Rattle.format.specs.Listing.{listing, listingFile, listingWords}
 
 listing-reads : readBytes listing ≡ got listingFile 130
 unfolding readBytes fileReader symbolsReader symbolReader rulesReader forestReader bitField paddingReader

@@ -1,70 +1,115 @@
--- Each error that reading words or bytes can give, on a shortest input, with its offset.
+-- Each error that decoding and encoding can give, on a short input, with its input and offset, and the output unchanged.
 use mathlib.Core.Path.{_≡_, refl}
-use mathlib.Core.List.{List, [], _∷_, _++_, map}
+use mathlib.Core.List.{List, [], _∷_, _++_, map, flatMap}
 use Prim.Native.Nat.{ℕ}
 use lib.ListN.{take, replicate}
-use Rattle.format.specs.Errors.{fieldMissing, wrongForm, noSymbols, variableWeightless, acNotBinary}
+use Rattle.format.specs.Errors.{fileTooLong, fieldMissing, wrongForm, noSymbols, variableWeightless, acNotBinary}
 use Rattle.format.specs.Errors.{weightInadmissible, rankTaken, noSuchSymbol, tooManyNodes, badPadding}
-use Rattle.format.specs.Errors.{wordTooWide, wordsLeftOver}
+use Rattle.format.specs.Errors.{wordsTooShort, wordTooWide, wordsLeftOver, bytesTooShort}
+use Rattle.format.specs.Layout.{formWidth, symbolCountWidth, weightWidth, ruleCountWidth, arityWidth, acWidth}
+use Rattle.format.specs.Layout.{rankWidth}
 use Rattle.format.specs.Reading.{bitField, wordBelow}
-use Rattle.format.specs.Reading.Reading.{fault}
 use Rattle.format.specs.Format.{symbolReader, symbolsReader, forestReader, rulesReader, fileReader}
 use Rattle.format.specs.Files.{paddingReader, endReader, readBytes, readWords}
-use Rattle.format.specs.Listing.{listing}
+use Rattle.format.specs.Packing.{Item, itemBits, itemWord, bytesOf, items, packed, unpacked}
+use Rattle.format.specs.Packing.Item.{field, node}
+use Rattle.format.specs.Replies.{Outcome}
+use Rattle.format.specs.Replies.Reply.{refused}
+use Rattle.format.specs.Operations.{decoded, encoded}
+use Rattle.format.specs.Listing.{listing, listingWords}
 
+-- What is read, what is lent for writing, and the error's code, input and offset.
 record ErrorCase : Type 0 where
-  input : List ℕ
+  read : List ℕ
+  lent : List ℕ
   code : ℕ
+  input : ℕ
   offset : ℕ
 
+-- Five elements are lent for writing.
 abbrev gives : List ℕ → ℕ → ℕ → ErrorCase
-gives input code offset = record { input = input; code = code; offset = offset }
+gives read code offset = record { read = read; lent = replicate 5 7; code = code; input = 0; offset = offset }
 
--- One symbol, a constant of weight 1, and one rule.
-abbrev start : List ℕ
-start = 1 ∷ 1 ∷ 1 ∷ 1 ∷ 0 ∷ 0 ∷ 1 ∷ 0 ∷ []
+abbrev tooShort : List ℕ → List ℕ → ℕ → ErrorCase
+tooShort read lent code = record { read = read; lent = lent; code = code; input = 1; offset = 0 }
 
--- One symbol of arity 1 and one rule.
-abbrev unary : List ℕ
-unary = 1 ∷ 1 ∷ 1 ∷ 1 ∷ 1 ∷ 0 ∷ 1 ∷ 0 ∷ []
+abbrev refusal : ErrorCase → Outcome ℕ
+refusal c = record {
+  reply = refused (record { code = c .code; input = c .input; offset = c .offset });
+  output = c .lent;
+}
 
-abbrev wordCases : List ErrorCase
-wordCases =
+-- The counts of symbols and rules, with the weight of a variable between them.
+abbrev header : ℕ → ℕ → ℕ → List Item
+header k w0 n =
+    field formWidth 1 ∷ field symbolCountWidth k ∷ field weightWidth w0 ∷ field ruleCountWidth n ∷ []
+
+abbrev symbol : ℕ → ℕ → ℕ → ℕ → List Item
+symbol arity ac weight rank =
+    field arityWidth arity ∷ field acWidth ac ∷ field weightWidth weight ∷ field rankWidth rank ∷ []
+
+abbrev bits : List Item → List ℕ
+bits is = bytesOf (flatMap itemBits is)
+
+abbrev sheet : List Item → List ℕ
+sheet is = map itemWord is
+
+-- A file of one symbol and one rule, up to its first side.
+abbrev constant : List Item
+constant = header 1 1 1 ++ symbol 0 0 1 0
+
+abbrev unary : List Item
+unary = header 1 1 1 ++ symbol 1 0 1 0
+
+-- The two before the last are the listing with a set bit after its last rule, and with a byte too many.
+abbrev decodeCases : List ErrorCase
+decodeCases =
+    gives (replicate 32769 0) fileTooLong 0 ∷
     gives [] fieldMissing 0 ∷
-    gives (2 ∷ []) wrongForm 0 ∷
-    gives (16 ∷ []) wordTooWide 0 ∷
-    gives (1 ∷ 0 ∷ []) noSymbols 1 ∷
-    gives (1 ∷ 256 ∷ []) wordTooWide 1 ∷
-    gives (1 ∷ 1 ∷ 0 ∷ []) variableWeightless 2 ∷
-    gives (1 ∷ 1 ∷ 1 ∷ 0 ∷ 3 ∷ 1 ∷ []) acNotBinary 4 ∷
-    gives (1 ∷ 1 ∷ 2 ∷ 0 ∷ 0 ∷ 0 ∷ 1 ∷ []) weightInadmissible 6 ∷
-    gives (1 ∷ 1 ∷ 1 ∷ 0 ∷ 1 ∷ 0 ∷ 0 ∷ []) weightInadmissible 6 ∷
-    gives (1 ∷ 2 ∷ 1 ∷ 0 ∷ 0 ∷ 0 ∷ 1 ∷ 5 ∷ 0 ∷ 0 ∷ 1 ∷ 5 ∷ []) rankTaken 11 ∷
-    gives (start ++ (1 ∷ [])) noSuchSymbol 8 ∷
-    gives (start ++ (272 ∷ [])) wordTooWide 8 ∷
-    gives (start ++ (0 ∷ [])) fieldMissing 9 ∷
-    gives (start ++ (0 ∷ 0 ∷ 0 ∷ [])) wordsLeftOver 10 ∷
-    gives (unary ++ replicate 127 0) fieldMissing 135 ∷
-    gives (unary ++ replicate 128 0) tooManyNodes 136 ∷
-    []
-
-word-errors : map (λ (c : ErrorCase). readWords (c .input)) wordCases ≡
-    map (λ (c : ErrorCase). fault (c .code) (c .offset)) wordCases
-unfolding readWords fileReader symbolsReader symbolReader rulesReader forestReader wordBelow endReader
-word-errors = refl
-
--- The last two are the listing with a set bit after its last rule, and with a byte too many.
-abbrev byteCases : List ErrorCase
-byteCases =
-    gives [] fieldMissing 0 ∷
-    gives (0x20 ∷ []) wrongForm 0 ∷
     gives (0x10 ∷ []) fieldMissing 4 ∷
-    gives (0x10 ∷ 0x20 ∷ []) fieldMissing 12 ∷
+    gives (take 16 listing) fieldMissing 122 ∷
+    gives (0x20 ∷ []) wrongForm 0 ∷
+    gives (bits (header 0 1 0)) noSymbols 4 ∷
+    gives (bits (header 1 0 0)) variableWeightless 12 ∷
+    gives (bits (header 1 1 0 ++ symbol 3 1 1 0)) acNotBinary 38 ∷
+    gives (bits (header 1 2 0 ++ symbol 0 0 1 0)) weightInadmissible 42 ∷
+    gives (bits (header 1 1 0 ++ symbol 1 0 0 0)) weightInadmissible 42 ∷
+    gives (bits (header 2 1 0 ++ symbol 0 0 1 5 ++ symbol 0 0 1 5)) rankTaken 86 ∷
+    gives (bits (constant ++ (node 1 ∷ []))) noSuchSymbol 67 ∷
+    gives (bits (unary ++ replicate 128 (node 0))) tooManyNodes 1218 ∷
     gives (take 16 listing ++ (1 ∷ [])) badPadding 130 ∷
     gives (listing ++ (0 ∷ [])) badPadding 130 ∷
+    tooShort listing (replicate 15 7) wordsTooShort ∷
     []
 
-byte-errors : map (λ (c : ErrorCase). readBytes (c .input)) byteCases ≡
-    map (λ (c : ErrorCase). fault (c .code) (c .offset)) byteCases
-unfolding readBytes fileReader symbolsReader symbolReader rulesReader forestReader bitField paddingReader
-byte-errors = refl
+decode-errors : map (λ (c : ErrorCase). decoded (c .read) (c .lent)) decodeCases ≡ map refusal decodeCases
+unfolding decoded readBytes fileReader symbolsReader symbolReader rulesReader forestReader bitField paddingReader
+    unpacked items flatMap
+decode-errors = refl
+
+abbrev encodeCases : List ErrorCase
+encodeCases =
+    gives [] fieldMissing 0 ∷
+    gives (sheet (constant ++ (node 0 ∷ []))) fieldMissing 9 ∷
+    gives (sheet (unary ++ replicate 127 (node 0))) fieldMissing 135 ∷
+    gives (2 ∷ []) wrongForm 0 ∷
+    gives (sheet (header 0 1 0)) noSymbols 1 ∷
+    gives (sheet (header 1 0 0)) variableWeightless 2 ∷
+    gives (sheet (header 1 1 0 ++ symbol 3 1 1 0)) acNotBinary 4 ∷
+    gives (sheet (header 1 2 0 ++ symbol 0 0 1 0)) weightInadmissible 6 ∷
+    gives (sheet (header 1 1 0 ++ symbol 1 0 0 0)) weightInadmissible 6 ∷
+    gives (sheet (header 2 1 0 ++ symbol 0 0 1 5 ++ symbol 0 0 1 5)) rankTaken 11 ∷
+    gives (sheet (constant ++ (node 1 ∷ []))) noSuchSymbol 8 ∷
+    gives (sheet (unary ++ replicate 128 (node 0))) tooManyNodes 136 ∷
+    gives (16 ∷ []) wordTooWide 0 ∷
+    gives (1 ∷ 256 ∷ []) wordTooWide 1 ∷
+    gives (sheet (header 1 1 0 ++ symbol 3 2 1 0)) wordTooWide 5 ∷
+    gives (sheet (constant ++ (node 272 ∷ []))) wordTooWide 8 ∷
+    gives (sheet (constant ++ (node 0 ∷ node 0 ∷ node 0 ∷ []))) wordsLeftOver 10 ∷
+    tooShort listingWords (replicate 16 7) bytesTooShort ∷
+    []
+
+encode-errors : map (λ (c : ErrorCase). encoded (c .read) (c .lent)) encodeCases ≡ map refusal encodeCases
+unfolding encoded readWords fileReader symbolsReader symbolReader rulesReader forestReader wordBelow endReader packed
+    items flatMap
+encode-errors = refl

@@ -7,4 +7,5 @@ pub mod EquivalenceSound
 pub mod WordsLaws
 pub mod RewritingLaws
 mod SampleStep
+mod TrapChecks
 pub mod Theorems

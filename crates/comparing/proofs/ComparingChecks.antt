@@ -1,0 +1,65 @@
+-- What comparing gives back under a file of two symbols, 0 of arity 1 and the constant 1: each relation with its
+-- margin, and each error of the left and of the right term.
+use mathlib.Core.Path.{_≡_, refl}
+use mathlib.Core.List.{List, [], _∷_, map}
+use Prim.Native.Nat.{ℕ}
+use lib.IntN.{ℤ, pos, negsuc}
+use lib.ListN.{replicate}
+use Rattle.multisets.specs.Multiset.{multisetEqual, multisetGreater, rowEqual, rowGreater}
+use Rattle.terms.specs.Words.{forestOf}
+use Rattle.terms.specs.Equivalence.{isEquivalentTo, isEquivalent}
+use Rattle.terms.specs.Order.{noneOftener, flattenedMark, rootMark, decreasingMark, isGreaterTo, isGreater}
+use Rattle.format.specs.Errors.{fieldMissing, noSuchSymbol, tooManyNodes, wordTooWide, wordsLeftOver}
+use Rattle.format.specs.Reading.{bitField, wordBelow}
+use Rattle.format.specs.Format.{symbolReader, symbolsReader, forestReader, rulesReader, fileReader}
+use Rattle.format.specs.Files.{paddingReader, endReader, readBytes, readTerm}
+use Rattle.format.specs.Replies.{Reply}
+use Rattle.format.specs.Replies.Reply.{accepted, refused}
+use Rattle.comparing.specs.Comparing.{Relation, Comparison, relation, compared}
+use Rattle.comparing.specs.Comparing.Relation.{greater, less, equivalent, unrelated}
+
+-- Form 1, two symbols, w0 1, no rules; the symbols weigh 1 and have the ranks 1 and 0.
+abbrev book : List ℕ
+book = 0x10 ∷ 0x20 ∷ 0x00 ∷ 0x10 ∷ 0x00 ∷ 0x80 ∷ 0x00 ∷ 0x40 ∷ 0x40 ∷ 0x00 ∷ 0x04 ∷ 0x00 ∷ []
+
+record Case : Type 0 where
+  left : List ℕ
+  right : List ℕ
+  reply : Reply Comparison
+
+abbrev relates : List ℕ → List ℕ → Relation → ℤ → Case
+relates s t r m = record { left = s; right = t; reply = accepted (record { relation = r; margin = m }) }
+
+abbrev gives : List ℕ → List ℕ → ℕ → ℕ → ℕ → Case
+gives s t code input offset =
+    record { left = s; right = t; reply = refused (record { code = code; input = input; offset = offset }) }
+
+-- The last has a fault in both terms.
+abbrev cases : List Case
+cases =
+    relates (0 ∷ 1 ∷ []) (1 ∷ []) greater (pos 1) ∷
+    relates (256 ∷ []) (0 ∷ 256 ∷ []) less (negsuc 0) ∷
+    relates (0 ∷ 256 ∷ []) (0 ∷ 256 ∷ []) equivalent (pos 0) ∷
+    relates (256 ∷ []) (1 ∷ []) unrelated (pos 0) ∷
+    gives (replicate 129 0) (1 ∷ []) tooManyNodes 1 128 ∷
+    gives [] (1 ∷ []) fieldMissing 1 0 ∷
+    gives (0 ∷ 272 ∷ []) (1 ∷ []) wordTooWide 1 1 ∷
+    gives (0 ∷ 2 ∷ []) (1 ∷ []) noSuchSymbol 1 1 ∷
+    gives (1 ∷ 1 ∷ []) (1 ∷ []) wordsLeftOver 1 1 ∷
+    gives (1 ∷ []) (replicate 129 0) tooManyNodes 2 128 ∷
+    gives (1 ∷ []) (0 ∷ []) fieldMissing 2 1 ∷
+    gives (1 ∷ []) (272 ∷ []) wordTooWide 2 0 ∷
+    gives (1 ∷ []) (255 ∷ []) noSuchSymbol 2 0 ∷
+    gives (1 ∷ []) (1 ∷ 1 ∷ []) wordsLeftOver 2 1 ∷
+    gives (1 ∷ 1 ∷ []) [] wordsLeftOver 1 1 ∷
+    []
+
+cases-hold : map (λ (c : Case). compared book (c .left) (c .right)) cases ≡ map (λ (c : Case). c .reply) cases
+unfolding compared relation readBytes readTerm fileReader symbolsReader symbolReader rulesReader forestReader bitField
+    wordBelow paddingReader endReader forestOf isGreater isGreaterTo decreasingMark rootMark flattenedMark noneOftener
+    isEquivalent isEquivalentTo rowEqual rowGreater multisetEqual multisetGreater
+cases-hold = refl
+
+faulty-book : compared (0x20 ∷ []) [] [] ≡ refused (record { code = 3; input = 0; offset = 0 })
+unfolding compared readBytes fileReader bitField
+faulty-book = refl

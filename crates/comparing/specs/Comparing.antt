@@ -1,0 +1,40 @@
+-- What comparing two terms under a rule file gives back, for every input.
+-- Renders: 01, "Replies and refusals": "Comparing (book, left, right). The book, then left, then right", and its reply.
+use mathlib.Core.List.{List}
+use mathlib.Core.Bool.{cond}
+use Prim.Native.Nat.{ℕ}
+use lib.IntN.{ℤ}
+use Rattle.terms.specs.Signature.{Signature}
+use Rattle.terms.specs.Term.{Term}
+use Rattle.terms.specs.Words.{termOf}
+use Rattle.terms.specs.Equivalence.{isEquivalent}
+use Rattle.terms.specs.Order.{isGreater, margin}
+use Rattle.format.specs.Files.{readBytes, readTerm}
+use Rattle.format.specs.Replies.{Reply, _>>=_, fromInput}
+use Rattle.format.specs.Replies.Reply.{accepted}
+
+pub data Relation : Type 0 where
+  greater : Relation
+  less : Relation
+  equivalent : Relation
+  unrelated : Relation
+
+pub record Comparison : Type 0 where
+  pub relation : Relation
+  pub margin : ℤ
+
+module _ (σ : Signature) where
+  -- Less: the right is greater than the left. Unrelated: none of the three.
+  unfoldable pub relation : Term → Term → Relation
+  relation s t =
+      cond (isGreater σ s t) greater (cond (isGreater σ t s) less (cond (isEquivalent σ s t) equivalent unrelated))
+
+  abbrev pub comparison : Term → Term → Comparison
+  comparison s t = record { relation = relation s t; margin = margin σ s t }
+
+unfoldable pub compared : List ℕ → List ℕ → List ℕ → Reply Comparison
+compared bytes left right = do
+  file ← fromInput 0 (readBytes bytes)
+  s ← fromInput 1 (readTerm (file .signature) left)
+  t ← fromInput 2 (readTerm (file .signature) right)
+  accepted (comparison (file .signature) (termOf (file .signature) s) (termOf (file .signature) t))

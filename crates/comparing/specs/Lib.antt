@@ -1,0 +1,2 @@
+-- What comparing two terms under a rule file gives back.
+pub mod Comparing

@@ -1,0 +1,1 @@
+// Comparing two terms under a rule file, as definitions. There is no code here.

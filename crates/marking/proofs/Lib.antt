@@ -1,0 +1,2 @@
+-- Checks of the definitions of specs/.
+mod ListingChecks

@@ -1,0 +1,48 @@
+-- What marking gives back for the listing, and what the program prints for it and for the empty input.
+use mathlib.Core.Path.{_≡_, refl}
+use mathlib.Core.List.{List, [], _∷_}
+use Prim.Native.Nat.{ℕ}
+use Rattle.multisets.specs.Multiset.{multisetEqual, multisetGreater, rowEqual, rowGreater}
+use Rattle.terms.specs.Words.{forestOf}
+use Rattle.terms.specs.Equivalence.{isEquivalentTo, isEquivalent}
+use Rattle.terms.specs.Order.{noneOftener, flattenedMark, rootMark, decreasingMark, isGreaterTo, isGreater, mark}
+use Rattle.format.specs.Errors.{fieldMissing, marksTooShort}
+use Rattle.format.specs.Reading.{bitField}
+use Rattle.format.specs.Format.{symbolReader, symbolsReader, forestReader, rulesReader, fileReader}
+use Rattle.format.specs.Files.{paddingReader, readBytes}
+use Rattle.format.specs.Replies.{Outcome}
+use Rattle.format.specs.Replies.Reply.{accepted, refused}
+use Rattle.format.specs.Listing.{listing}
+use Rattle.marking.specs.Marking.{Summary, marked}
+use Rattle.marking.specs.Ascii.{ascii}
+use Rattle.marking.specs.Report.{report}
+
+listing-marked : marked listing (7 ∷ 7 ∷ 7 ∷ []) ≡
+    record { reply = accepted (record { rules = 2; decreasing = 1; score = 50 }); output = 2 ∷ 10 ∷ 7 ∷ [] }
+unfolding marked readBytes fileReader symbolsReader symbolReader rulesReader forestReader bitField paddingReader forestOf
+    mark isGreater isGreaterTo decreasingMark rootMark flattenedMark noneOftener isEquivalent isEquivalentTo rowEqual
+    rowGreater multisetEqual multisetGreater
+listing-marked = refl
+
+abbrev refusal : ℕ → ℕ → ℕ → List ℕ → Outcome Summary
+refusal code input offset marks =
+    record { reply = refused (record { code = code; input = input; offset = offset }); output = marks }
+
+too-short-refused : marked listing (7 ∷ []) ≡ refusal marksTooShort 1 0 (7 ∷ [])
+unfolding marked readBytes fileReader symbolsReader symbolReader rulesReader forestReader bitField paddingReader
+too-short-refused = refl
+
+empty-refused : marked [] (7 ∷ []) ≡ refusal fieldMissing 0 0 (7 ∷ [])
+unfolding marked readBytes fileReader bitField
+empty-refused = refl
+
+-- 01's own text.
+listing-prints : report listing ≡ ascii "rules 2\n0 2 0\n1 10 0\nscore 50\nreturned\n"
+unfolding report readBytes fileReader symbolsReader symbolReader rulesReader forestReader bitField paddingReader forestOf
+    mark isGreater isGreaterTo decreasingMark rootMark flattenedMark noneOftener isEquivalent isEquivalentTo rowEqual
+    rowGreater multisetEqual multisetGreater
+listing-prints = refl
+
+empty-prints : report [] ≡ ascii "refusal 2 0\n"
+unfolding report readBytes fileReader bitField
+empty-prints = refl

@@ -1,0 +1,51 @@
+-- What marking the rules of a rule file gives back, the reply and the marks afterwards, for every input.
+-- Renders: 01, "Replies and refusals": "Marking (book, marks). The book, then 12", its reply, and "One mark byte a rule
+-- is written, the rest unchanged. Score: 100 times falling rules divided by N, rounded down; 100 if N is 0."
+use mathlib.Core.List.{List, map}
+use mathlib.Core.Bool.{Bool, cond, _&&_}
+use Prim.Native.Nat.{ℕ, _*_, _/_}
+use lib.ListN.{length}
+use lib.Dec.{eqb, leb}
+use Rattle.multisets.specs.Multiset.{choose}
+use Rattle.terms.specs.Order.{mark}
+use Rattle.terms.specs.Rewriting.{System, Rule}
+use Rattle.format.specs.Errors.{marksTooShort}
+use Rattle.format.specs.Format.{systemOf}
+use Rattle.format.specs.Files.{readBytes}
+use Rattle.format.specs.Replies.{Reply, Written, Outcome, _>>=_, _>>_, fromInput, demand, outcome}
+use Rattle.format.specs.Replies.Reply.{accepted}
+
+abbrev pub marksOf : System → List ℕ
+marksOf R = map (λ (r : Rule). mark (R .signature) (r .left) (r .right)) (R .rules)
+
+-- A mark of the order: 1 to 6.
+abbrev pub isDecreasing : ℕ → Bool
+isDecreasing m = leb 1 m && leb m 6
+
+-- 01: the count of marks 1 to 6, the falling rules.
+abbrev pub decreasingCount : List ℕ → ℕ
+decreasingCount marks = length (choose isDecreasing marks)
+
+-- The percentage of decreasing rules, rounded down; 100 where there is no rule.
+abbrev pub scoreOf : ℕ → ℕ → ℕ
+scoreOf decreasing rules = cond (eqb rules 0) 100 (100 * decreasing / rules)
+
+-- 01: N, the count of marks 1 to 6, the score.
+pub record Summary : Type 0 where
+  pub rules : ℕ
+  pub decreasing : ℕ
+  pub score : ℕ
+
+abbrev pub summaryOf : List ℕ → Summary
+summaryOf marks =
+    let decreasing = decreasingCount marks in
+    record { rules = length marks; decreasing = decreasing; score = scoreOf decreasing (length marks) }
+
+unfoldable pub marked : List ℕ → List ℕ → Outcome Summary
+marked bytes marks =
+    let reply : Reply (Written Summary) = do
+      file ← fromInput 0 (readBytes bytes)
+      demand (leb (length (file .rules)) (length marks)) marksTooShort 1
+      accepted (record { value = summaryOf (marksOf (systemOf file)); front = marksOf (systemOf file) })
+    in
+    outcome reply marks

@@ -1,0 +1,1 @@
+// Marking the rules of a rule file, as definitions. There is no code here.

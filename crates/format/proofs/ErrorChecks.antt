@@ -1,4 +1,4 @@
--- Each error that decoding and encoding can give, on a short input, with its input and offset, and the output unchanged.
+-- Each error that decoding and encoding can give, with its input and offset, and the output unchanged.
 use mathlib.Core.Path.{_≡_, refl}
 use mathlib.Core.List.{List, [], _∷_, _++_, map, flatMap}
 use Prim.Native.Nat.{ℕ}

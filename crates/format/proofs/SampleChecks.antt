@@ -23,7 +23,8 @@ unfolding readBytes fileReader symbolsReader symbolReader rulesReader forestRead
 sample-packs = refl
 
 sample-unpacks : readWords (unpacked sampleFile) ≡ got sampleFile 103
-unfolding readWords fileReader symbolsReader symbolReader rulesReader forestReader wordBelow endReader unpacked items flatMap
+unfolding readWords fileReader symbolsReader symbolReader rulesReader forestReader wordBelow endReader unpacked items
+    flatMap
 sample-unpacks = refl
 
 sample-means : systemOf sampleFile .rules ≡ map (λ (c : Case). record { left = c .left; right = c .right }) starred

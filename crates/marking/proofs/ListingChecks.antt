@@ -19,9 +19,9 @@ use Rattle.marking.specs.Report.{report}
 
 listing-marked : marked listing (7 ∷ 7 ∷ 7 ∷ []) ≡
     record { reply = accepted (record { rules = 2; decreasing = 1; score = 50 }); output = 2 ∷ 10 ∷ 7 ∷ [] }
-unfolding marked readBytes fileReader symbolsReader symbolReader rulesReader forestReader bitField paddingReader forestOf
-    mark isGreater isGreaterTo decreasingMark rootMark flattenedMark noneOftener isEquivalent isEquivalentTo rowEqual
-    rowGreater multisetEqual multisetGreater
+unfolding marked readBytes fileReader symbolsReader symbolReader rulesReader forestReader bitField paddingReader
+    forestOf mark isGreater isGreaterTo decreasingMark rootMark flattenedMark noneOftener isEquivalent isEquivalentTo
+    rowEqual rowGreater multisetEqual multisetGreater
 listing-marked = refl
 
 abbrev refusal : ℕ → ℕ → ℕ → List ℕ → Outcome Summary
@@ -38,9 +38,9 @@ empty-refused = refl
 
 -- 01's own text.
 listing-prints : report listing ≡ ascii "rules 2\n0 2 0\n1 10 0\nscore 50\nreturned\n"
-unfolding report readBytes fileReader symbolsReader symbolReader rulesReader forestReader bitField paddingReader forestOf
-    mark isGreater isGreaterTo decreasingMark rootMark flattenedMark noneOftener isEquivalent isEquivalentTo rowEqual
-    rowGreater multisetEqual multisetGreater
+unfolding report readBytes fileReader symbolsReader symbolReader rulesReader forestReader bitField paddingReader
+    forestOf mark isGreater isGreaterTo decreasingMark rootMark flattenedMark noneOftener isEquivalent isEquivalentTo
+    rowEqual rowGreater multisetEqual multisetGreater
 listing-prints = refl
 
 empty-prints : report [] ≡ ascii "refusal 2 0\n"

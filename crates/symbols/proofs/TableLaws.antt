@@ -34,9 +34,10 @@ past-end table f h =
 pub symbol-at : (table : List ℕ) (f : ℕ) → symbolOf (signatureOf table) f ≡ symbolAt table f
 unfolding signatureOf
 symbol-at table f =
-    byOrder f ((length table + 2) / 4) (λ h. symbols-at table 0 ((length table + 2) / 4) f h ∙ ap (symbolAt table) (add-zero f))
-    λ h. List·getD-eq-default (symbolsAt table 0 ((length table + 2) / 4)) none
-    (omega (arith, length-symbols table 0 ((length table + 2) / 4))) ∙ sym (past-end table f h)
+    let n = (length table + 2) / 4 in
+    byOrder f n (λ h. symbols-at table 0 n f h ∙ ap (symbolAt table) (add-zero f))
+    λ h. List·getD-eq-default (symbolsAt table 0 n) none (omega (arith, length-symbols table 0 n))
+    ∙ sym (past-end table f h)
 
 pub few-at : (table : List ℕ) → length table ≤ 1025 → length (signatureOf table .symbols) ≤ 256
 unfolding signatureOf

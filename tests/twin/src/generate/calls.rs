@@ -1,0 +1,130 @@
+//! Whole calls of the four operations, with outputs of every length.
+
+use super::{damaged_packed, damaged_term, damaged_words, Book, Random};
+use crate::table::MAX_NODES;
+use crate::{compare, decode, encode, mark, Comparison, Error, Marked};
+
+/// The rules of most generated rule files.
+const FEW_RULES: usize = 24;
+/// What outputs hold before a call.
+pub const UNTOUCHED: u8 = 0xa5;
+
+/// A call with its inputs; `room` is the length of the output.
+#[derive(Clone, Debug)]
+pub enum Call {
+    Decode { book: Vec<u8>, room: usize },
+    Encode { words: Vec<u16>, room: usize },
+    Compare { book: Vec<u8>, left: Vec<u16>, right: Vec<u16> },
+    Mark { book: Vec<u8>, room: usize },
+}
+
+/// The reply to a call, and the output after it; the output held `UNTOUCHED` in each place before.
+#[derive(Clone, Debug, PartialEq, Eq)]
+pub enum Reply {
+    Decode(Result<usize, Error>, Vec<u16>),
+    Encode(Result<usize, Error>, Vec<u8>),
+    Compare(Result<Comparison, Error>),
+    Mark(Result<Marked, Error>, Vec<u8>),
+}
+
+impl Call {
+    /// This crate's reply.
+    pub fn run(&self) -> Reply {
+        match self {
+            Call::Decode { book, room } => {
+                let mut words = vec![u16::from(UNTOUCHED); *room];
+                Reply::Decode(decode(book, &mut words), words)
+            }
+            Call::Encode { words, room } => {
+                let mut book = vec![UNTOUCHED; *room];
+                Reply::Encode(encode(words, &mut book), book)
+            }
+            Call::Compare { book, left, right } => Reply::Compare(compare(book, left, right)),
+            Call::Mark { book, room } => {
+                let mut marks = vec![UNTOUCHED; *room];
+                Reply::Mark(mark(book, &mut marks), marks)
+            }
+        }
+    }
+}
+
+impl Reply {
+    /// The error, if the call was refused.
+    pub fn error(&self) -> Option<Error> {
+        match self {
+            Reply::Decode(result, _) | Reply::Encode(result, _) => result.err(),
+            Reply::Compare(result) => result.err(),
+            Reply::Mark(result, _) => result.err(),
+        }
+    }
+}
+
+/// A call of any operation: half of them on valid inputs, half on damaged ones or with too short an output.
+pub fn call(random: &mut Random) -> Call {
+    let many_rules = random.one_in(2);
+    let book = if random.one_in(256) { Book::largest(random, many_rules) } else { Book::random(random, FEW_RULES) };
+    let intact = random.one_in(2);
+    match random.below(4) {
+        0 => {
+            let packed = if intact { book.packed() } else { damaged_packed(random, &book) };
+            Call::Decode { book: packed, room: room(random, book.words().len()) }
+        }
+        1 => encode_call(random, &book, intact),
+        2 => compare_call(random, &book, intact),
+        _ => {
+            let packed = if intact { book.packed() } else { damaged_packed(random, &book) };
+            Call::Mark { book: packed, room: room(random, book.rules.len()) }
+        }
+    }
+}
+
+/// A length of an output that needs `len` places: mostly just enough or a few more, at times too short.
+fn room(random: &mut Random, len: usize) -> usize {
+    match random.below(8) {
+        0 => random.below(len + 1),
+        1 => len.saturating_sub(1),
+        2..=4 => len + random.below(5),
+        _ => len,
+    }
+}
+
+fn encode_call(random: &mut Random, book: &Book, intact: bool) -> Call {
+    if random.one_in(64) {
+        return Call::Encode { words: overlong_words(random), room: room(random, 1 << 15) };
+    }
+    let words = if intact { book.words() } else { damaged_words(random, book) };
+    Call::Encode { words, room: room(random, book.packed().len()) }
+}
+
+/// The words of a rule file with more bytes than it may have.
+fn overlong_words(random: &mut Random) -> Vec<u16> {
+    let mut book = Book::largest(random, false);
+    let rule = book.rules[0].clone();
+    book.rules.push(rule);
+    book.words()
+}
+
+/// Terms aimed at a mark, or random ones, at times too long or otherwise at fault.
+fn compare_call(random: &mut Random, book: &Book, intact: bool) -> Call {
+    let mark = random.between(1, 11) as u8;
+    let size = if random.one_in(8) { MAX_NODES / 4 } else { 8 };
+    let (left, right) = book.signature.pair_in_context(random, mark, size);
+    let (mut left, mut right) = (left.words(), right.words());
+    if random.one_in(16) {
+        left = book.signature.sized_words(random, MAX_NODES);
+        right = book.signature.sized_words(random, MAX_NODES);
+    }
+    let mut packed = book.packed();
+    if !intact {
+        match random.below(4) {
+            0 => packed = damaged_packed(random, book),
+            1 => left = damaged_term(random, book, &left),
+            2 => right = damaged_term(random, book, &right),
+            _ => {
+                left = damaged_term(random, book, &left);
+                right = damaged_term(random, book, &right);
+            }
+        }
+    }
+    Call::Compare { book: packed, left, right }
+}

@@ -1,0 +1,21 @@
+//! A second implementation of the rule file format and of AC-KBO, written from the papers alone, to be compared with
+//! the first one. `format` reads and writes rule files, `order` compares terms, `marking` orients the rules of a
+//! file, and `generate` makes inputs of every kind: valid, damaged, largest and empty ones. Below, 01 is the scope
+//! paper, and 000, 001 and 004 are the articles that it cites.
+
+mod ackbo;
+mod bits;
+pub mod error;
+pub mod format;
+pub mod generate;
+pub mod marking;
+mod multiset;
+pub mod order;
+mod source;
+pub mod table;
+mod term;
+
+pub use error::Error;
+pub use format::{decode, encode};
+pub use marking::{mark, report, Marked};
+pub use order::{compare, Comparison, Relation};

@@ -1,0 +1,134 @@
+//! Signatures with names, and rules in readable text.
+
+use twin::generate::{Book, Signature, Tree};
+use twin::table::Symbol;
+use twin::{compare, mark, report, Relation};
+
+/// The names of the variables 0 to 5.
+const VARIABLES: [&str; 6] = ["u", "v", "w", "x", "y", "s"];
+
+/// The numbers of the decreasing marks.
+const DECREASING: std::ops::RangeInclusive<u8> = 1..=6;
+const EQUIVALENT: u8 = 9;
+
+/// A signature whose symbols have names. A name that is not a letter or a digit is an AC symbol, written infix.
+pub struct Theory {
+    names: Vec<&'static str>,
+    signature: Signature,
+}
+
+impl Theory {
+    /// A theory of symbols given by name, arity, weight and rank, in the order of their numbers.
+    pub fn new(w0: u16, symbols: &[(&'static str, u8, u16, u8)]) -> Self {
+        let names = symbols.iter().map(|&(name, ..)| name).collect();
+        let symbols =
+            symbols.iter().map(|&(name, arity, weight, rank)| Symbol { arity, ac: is_infix(name), weight, rank });
+        Theory { names, signature: Signature { w0, symbols: symbols.collect() } }
+    }
+
+    /// The node words of a term.
+    pub fn term(&self, text: &str) -> Vec<u16> {
+        let text: String = text.chars().filter(|letter| !letter.is_whitespace()).collect();
+        let mut parser = Parser { theory: self, rest: &text };
+        let tree = parser.sum();
+        assert!(parser.rest.is_empty(), "{text} is not one term");
+        tree.words()
+    }
+
+    /// The packed rule file of rules.
+    pub fn book(&self, rules: &[&str]) -> Vec<u8> {
+        let rules = rules.iter().map(|rule| {
+            let (left, right) = rule.split_once("->").expect("a rule has an arrow");
+            (self.term(left), self.term(right))
+        });
+        Book { signature: self.signature.clone(), rules: rules.collect() }.packed()
+    }
+
+    /// The mark and the margin of a rule, after a check that marking, the report and comparing agree.
+    pub fn mark(&self, rule: &str) -> (u8, i64) {
+        let book = self.book(&[rule]);
+        let mut marks = [0];
+        let marked = mark(&book, &mut marks).expect("the book is read");
+        let (left, right) = rule.split_once("->").expect("a rule has an arrow");
+        let comparison = compare(&book, &self.term(left), &self.term(right)).expect("the terms are read");
+        let [mark] = marks;
+        assert_eq!(comparison.relation == Relation::Greater, DECREASING.contains(&mark), "{rule}");
+        assert_eq!(comparison.relation == Relation::Equivalent, mark == EQUIVALENT, "{rule}");
+        assert_eq!(marked.falling, usize::from(DECREASING.contains(&mark)), "{rule}");
+        let (score, verdict) = if marked.falling == 1 { (100, "accepted") } else { (0, "returned") };
+        let text = format!("rules 1\n0 {mark} {}\nscore {score}\n{verdict}\n", comparison.margin);
+        assert_eq!(String::from_utf8(report(&book)).expect("a report is text"), text, "{rule}");
+        (mark, comparison.margin)
+    }
+
+    /// Checks the mark and the margin of each rule.
+    pub fn check(&self, cases: &[(&str, u8, i64)]) {
+        for &(rule, mark, margin) in cases {
+            assert_eq!(self.mark(rule), (mark, margin), "{rule}");
+        }
+    }
+}
+
+fn is_infix(name: &str) -> bool {
+    !name.chars().all(char::is_alphanumeric)
+}
+
+struct Parser<'a> {
+    theory: &'a Theory,
+    rest: &'a str,
+}
+
+impl<'a> Parser<'a> {
+    /// Operands joined by infix symbols, grouped to the left.
+    fn sum(&mut self) -> Tree {
+        let mut tree = self.operand();
+        while let Some(symbol) = self.infix() {
+            let right = self.operand();
+            tree = Tree::Application(symbol, vec![tree, right]);
+        }
+        tree
+    }
+
+    fn infix(&mut self) -> Option<u8> {
+        let names = self.theory.names.iter();
+        let symbol = names.clone().position(|name| is_infix(name) && self.rest.starts_with(name))?;
+        self.rest = &self.rest[self.theory.names[symbol].len()..];
+        Some(symbol as u8)
+    }
+
+    fn operand(&mut self) -> Tree {
+        if self.accept("(") {
+            let tree = self.sum();
+            assert!(self.accept(")"), "a parenthesis is open before {}", self.rest);
+            return tree;
+        }
+        let name = self.name();
+        let Some(symbol) = self.theory.names.iter().position(|&known| known == name) else {
+            let variable = VARIABLES.iter().position(|&known| known == name);
+            return Tree::Variable(variable.expect("a name is known") as u8);
+        };
+        let mut arguments = Vec::new();
+        if self.accept("(") {
+            arguments.push(self.sum());
+            while self.accept(",") {
+                arguments.push(self.sum());
+            }
+            assert!(self.accept(")"), "arguments are open before {}", self.rest);
+        }
+        Tree::Application(symbol as u8, arguments)
+    }
+
+    fn name(&mut self) -> &'a str {
+        let end = self.rest.find(|letter: char| !letter.is_alphanumeric()).unwrap_or(self.rest.len());
+        let (name, rest) = self.rest.split_at(end);
+        self.rest = rest;
+        name
+    }
+
+    fn accept(&mut self, text: &str) -> bool {
+        self.rest.strip_prefix(text).is_some_and(|rest| {
+            self.rest = rest;
+            true
+        })
+    }
+}

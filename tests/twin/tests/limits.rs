@@ -1,0 +1,94 @@
+//! 01's limits, and outputs that are too short, just long enough or longer.
+
+mod packing;
+
+use packing::{book, header, node, pack, symbol, variable, FILLER, SHEET};
+use twin::generate::{Book, Random, Signature};
+use twin::{compare, decode, encode, mark, Comparison, Error, Marked, Relation};
+
+#[test]
+fn an_encoded_book_has_at_most_32_768_bytes() {
+    let mut random = Random::new(1);
+    for many_rules in [false, true] {
+        let mut book = Book::largest(&mut random, many_rules);
+        let mut bytes = vec![FILLER; 32_769];
+        assert_eq!(encode(&book.words(), &mut bytes), Ok(32_768));
+        assert_eq!(bytes[32_768], FILLER);
+        assert_eq!(bytes[..32_768], book.packed());
+        assert!(mark(&bytes[..32_768], &mut vec![0; 1_023]).is_ok());
+        assert_eq!(encode(&book.words(), &mut bytes[..32_767]), Err(Error { code: 16, input: 1, offset: 0 }));
+        book.rules.pop();
+        let long = book.rules.iter().max_by_key(|(left, right)| left.len() + right.len()).unwrap().clone();
+        book.rules.push(long.clone());
+        while book.bits() <= 32_768 * 8 {
+            let shortest =
+                (0..book.rules.len()).min_by_key(|&i| book.rules[i].0.len() + book.rules[i].1.len()).unwrap();
+            book.rules[shortest] = long.clone();
+        }
+        let long_error = Error { code: 1, input: 0, offset: 0 };
+        assert_eq!(encode(&book.words(), &mut bytes), Err(long_error));
+        assert_eq!(encode(&book.words(), &mut []), Err(long_error), "1 goes before 16");
+        let left_over = Error { code: 15, input: 0, offset: book.words().len() };
+        assert_eq!(encode(&[book.words(), vec![0]].concat(), &mut bytes), Err(left_over), "15 goes before 1");
+    }
+}
+
+#[test]
+fn outputs_may_be_long_and_must_not_be_short() {
+    let packed = book(2, &[node(1), variable(0), node(0), node(0), variable(1)].concat());
+    let words = [SHEET[..3].to_vec(), vec![2], SHEET[4..].to_vec(), vec![1, 256, 0, 0, 257]].concat();
+    let mut output = [u16::from(FILLER); 20];
+    assert_eq!(decode(&packed, &mut output[..16]), Err(Error { code: 13, input: 1, offset: 0 }));
+    assert_eq!(output, [u16::from(FILLER); 20]);
+    assert_eq!(decode(&packed, &mut output[..17]), Ok(17));
+    assert_eq!(output[..17], words);
+    assert_eq!(decode(&packed, &mut output), Ok(17));
+    assert_eq!(output[17..], [u16::from(FILLER); 3]);
+
+    let len = packed.len();
+    let mut bytes = [FILLER; 40];
+    assert_eq!(encode(&words, &mut bytes[..len - 1]), Err(Error { code: 16, input: 1, offset: 0 }));
+    assert_eq!(bytes, [FILLER; 40]);
+    assert_eq!(encode(&words, &mut bytes), Ok(len));
+    assert_eq!(bytes[..len], packed);
+    assert_eq!(bytes[len..], [FILLER; 40][len..]);
+
+    let mut marks = [FILLER; 3];
+    assert_eq!(mark(&packed, &mut marks[..1]), Err(Error { code: 12, input: 1, offset: 0 }));
+    assert_eq!(marks, [FILLER; 3]);
+    assert_eq!(mark(&packed, &mut marks), Ok(Marked { rules: 2, falling: 1, score: 50 }));
+    assert_eq!(marks, [1, 7, FILLER]);
+}
+
+#[test]
+fn symbol_255_is_unknown_to_every_book() {
+    let mut signature = Signature { w0: 1, symbols: Vec::new() };
+    let constant = |rank| twin::table::Symbol { arity: 0, ac: false, weight: 1, rank };
+    signature.symbols = (0..255).map(constant).collect();
+    let packed = Book::empty(signature).packed();
+    assert!(compare(&packed, &[254], &[0]).is_ok());
+    assert_eq!(compare(&packed, &[255], &[0]), Err(Error { code: 9, input: 1, offset: 0 }));
+    assert_eq!(compare(&packed, &[0], &[271]).map(|reply| reply.margin), Ok(0));
+    assert_eq!(compare(&packed, &[0], &[272]), Err(Error { code: 14, input: 2, offset: 0 }));
+}
+
+#[test]
+fn marks_for_1_023_rules() {
+    let packed = book(1_023, &[node(1), node(0), node(0)].concat().repeat(1_023));
+    let mut marks = [FILLER; 1_024];
+    assert_eq!(mark(&packed, &mut marks[..1_022]), Err(Error { code: 12, input: 1, offset: 0 }));
+    assert_eq!(marks, [FILLER; 1_024]);
+    let marked = Marked { rules: 1_023, falling: 1_023, score: 100 };
+    assert_eq!(mark(&packed, &mut marks[..1_023]), Ok(marked));
+    assert_eq!(mark(&packed, &mut marks), Ok(marked));
+    assert_eq!(marks[..1_023], [1; 1_023]);
+    assert_eq!(marks[1_023], FILLER);
+}
+
+#[test]
+fn a_side_may_weigh_128_times_the_greatest_weight() {
+    let packed = pack(&[header(2, 65_535, 0), symbol(0, 0, 65_535, 0), symbol(1, 0, 65_535, 1)].concat());
+    let full = [[1; 127].as_slice(), &[0]].concat();
+    let reply = compare(&packed, &[0], &full).unwrap();
+    assert_eq!(reply, Comparison { relation: Relation::Less, margin: -127 * 65_535 });
+}

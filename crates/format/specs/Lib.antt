@@ -8,3 +8,4 @@ pub mod Packing
 pub mod Replies
 pub mod Operations
 pub mod Listing
+pub mod Statements

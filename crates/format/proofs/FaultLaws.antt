@@ -1,0 +1,195 @@
+-- A fault lies within the input, or at its end.
+--     Within                       the next offset, or the fault's, is no further than the limit
+--     Bounded, file-within         what is asked of a source, and what then holds of reading a file
+--     words-bounded, bits-bounded  the two sources
+--     bytes-fault, words-fault, term-fault
+use mathlib.Core.Path.{_≡_}
+use mathlib.Core.List.{List, [], _∷_, _++_}
+use mathlib.Core.Bool.{Bool, true, false, cond, _||_, _&&_, not}
+use Prim.Native.Nat.{ℕ, suc, zero, _+_, _-_, _*_, _^_, _≤_}
+use native.Mathlib.Omega.{arith}
+use lib.ListN.{length, getD}
+use lib.Dec.{eqb, ltb, leb}
+use borrow.Author.Tests.{leb-true, ltb-true}
+use Rattle.multisets.proofs.Relations.{byTest}
+use Rattle.terms.specs.Term.{variableCount}
+use Rattle.terms.specs.Words.{firstVariable}
+use Rattle.terms.specs.Signature.{Symbol, Signature, leastWeight}
+use Rattle.format.specs.Layout.{formWidth, formNumber, symbolCountWidth, weightWidth, ruleCountWidth, arityWidth}
+use Rattle.format.specs.Layout.{acWidth, rankWidth, tagWidth, symbolWidth, variableWidth, maxNodes, maxBytes}
+use Rattle.format.specs.Reading.{Reading, Reader, andThen, require, Node, Source, spelt}
+use Rattle.format.specs.Reading.{bitAt, bitField, bitSource, wordBelow, wordSource}
+use Rattle.format.specs.Reading.Reading.{got, fault}
+use Rattle.format.specs.Format.{heldBy, symbolReader, symbolsReader, forestReader, rulesReader, fileReader}
+use Rattle.format.specs.Files.{paddingReader, endReader, readBytes, readWords, readTerm}
+use Rattle.format.proofs.ForestLaws.{known, argumentCount}
+
+module _ (limit : ℕ) where
+  unfoldable pub Within : {A : Type 0} → Reading A → Type 0
+  Within (got a at) = at ≤ limit
+  Within (fault code offset) = offset ≤ limit
+
+  pub within-fault : {A : Type 0} (r : Reading A) (code offset : ℕ) → Within r → r ≡ fault code offset → offset ≤ limit
+  unfolding Within
+  within-fault r code offset h e = rw e at h
+
+  within-then : {A B : Type 0} (r : Reading A) (k : A → Reader B) → Within r →
+      ((a : A) (next : ℕ) → next ≤ limit → Within (k a next)) → Within (andThen r k)
+  unfolding Within
+  within-then (got a at) k h f = f a at h
+  within-then (fault code offset) k h f = h
+
+  within-require : {B : Type 0} (ok : Bool) (code offset at : ℕ) (k : Unit {0} → Reader B) → offset ≤ limit →
+      Within (k tt at) → Within (andThen (require ok code offset at) k)
+  unfolding Within
+  within-require true code offset at k h f = f
+  within-require false code offset at k h f = h
+
+  -- A node's next offset and its number's.
+  unfoldable pub NodeWithin : Reading Node → Type 0
+  NodeWithin (got v at) = (v .offset ≤ limit) × (at ≤ limit)
+  NodeWithin (fault code offset) = offset ≤ limit
+
+  node-then : {B : Type 0} (r : Reading Node) (k : Node → Reader B) → NodeWithin r →
+      ((v : Node) (next : ℕ) → v .offset ≤ limit → next ≤ limit → Within (k v next)) → Within (andThen r k)
+  unfolding Within NodeWithin
+  node-then (got v at) k h f = f v at (h .0) (h .1)
+  node-then (fault code offset) k h f = h
+
+  node-after : {A : Type 0} (r : Reading A) (k : A → Reader Node) → Within r →
+      ((a : A) (next : ℕ) → next ≤ limit → NodeWithin (k a next)) → NodeWithin (andThen r k)
+  unfolding Within NodeWithin
+  node-after (got a at) k h f = f a at h
+  node-after (fault code offset) k h f = h
+
+  pub record Bounded (source : Source) : Type 0 where
+    pub field : (width at : ℕ) → at ≤ limit → Within (source .field width at)
+    pub node : (at : ℕ) → at ≤ limit → NodeWithin (source .node at)
+
+  module _ (source : Source) (b : Bounded source) where
+    forest-within : (σ : Signature) (a n at : ℕ) → at ≤ limit → Within (forestReader source σ a n at)
+    unfolding forestReader Within
+    forest-within σ zero zero at h = h
+    forest-within σ zero (suc n) at h = h
+    forest-within σ (suc a) zero at h = h
+    forest-within σ (suc a) (suc n) at h =
+        node-then (source .node at) _ (b .node at h) λ v next o l.
+        within-require (known σ (v .word)) _ (v .offset) next _ o
+        (within-then (forestReader source σ a (argumentCount σ (v .word) + n) next) _
+        (forest-within σ a (argumentCount σ (v .word) + n) next l) λ ws end e. e)
+
+    rules-within : (σ : Signature) (n at : ℕ) → at ≤ limit → Within (rulesReader source σ n at)
+    unfolding rulesReader Within
+    rules-within σ zero at h = h
+    rules-within σ (suc n) at h =
+        within-then (forestReader source σ maxNodes 1 at) _ (forest-within σ maxNodes 1 at h) λ ls at₁ h₁.
+        within-then (forestReader source σ maxNodes 1 at₁) _ (forest-within σ maxNodes 1 at₁ h₁) λ rs at₂ h₂.
+        within-then (rulesReader source σ n at₂) _ (rules-within σ n at₂ h₂) λ rest end e. e
+
+    symbol-within : (w0 : ℕ) (earlier : List Symbol) (at : ℕ) → at ≤ limit → Within (symbolReader source w0 earlier at)
+    unfolding symbolReader Within
+    symbol-within w0 earlier at h =
+        within-then (source .field arityWidth at) _ (b .field arityWidth at h) λ arity at₁ h₁.
+        within-then (source .field acWidth at₁) _ (b .field acWidth at₁ h₁) λ ac at₂ h₂.
+        within-require (eqb ac 0 || eqb arity 2) _ at at₂ _ h
+        (within-then (source .field weightWidth at₂) _ (b .field weightWidth at₂ h₂) λ weight at₃ h₃.
+        within-require (leb (leastWeight w0 arity) weight) _ at₂ at₃ _ h₂
+        (within-then (source .field rankWidth at₃) _ (b .field rankWidth at₃ h₃) λ rank end h₄.
+        within-require (not (heldBy earlier rank)) _ at₃ end _ h₃ h₄))
+
+    symbols-within : (w0 n : ℕ) (earlier : List Symbol) (at : ℕ) → at ≤ limit →
+        Within (symbolsReader source w0 n earlier at)
+    unfolding symbolsReader Within
+    symbols-within w0 zero earlier at h = h
+    symbols-within w0 (suc n) earlier at h =
+        within-then (symbolReader source w0 earlier at) _ (symbol-within w0 earlier at h) λ s mid l.
+        symbols-within w0 n (earlier ++ (s ∷ [])) mid l
+
+    pub file-within : (at : ℕ) → at ≤ limit → Within (fileReader source at)
+    unfolding fileReader Within
+    file-within at h =
+        within-then (source .field formWidth at) _ (b .field formWidth at h) λ form at₁ h₁.
+        within-require (eqb form formNumber) _ at at₁ _ h
+        (within-then (source .field symbolCountWidth at₁) _ (b .field symbolCountWidth at₁ h₁) λ k at₂ h₂.
+        within-require (ltb 0 k) _ at₁ at₂ _ h₁
+        (within-then (source .field weightWidth at₂) _ (b .field weightWidth at₂ h₂) λ w0 at₃ h₃.
+        within-require (ltb 0 w0) _ at₂ at₃ _ h₂
+        (within-then (source .field ruleCountWidth at₃) _ (b .field ruleCountWidth at₃ h₃) λ n at₄ h₄.
+        within-then (symbolsReader source w0 k [] at₄) _ (symbols-within w0 k [] at₄ h₄) λ ss at₅ h₅.
+        within-then (rulesReader source (record { w0 = w0; symbols = ss }) n at₅) _
+        (rules-within (record { w0 = w0; symbols = ss }) n at₅ h₅) λ rs end e. e)))
+
+-- ---- the two sources
+
+module _ (words : List ℕ) where
+  below-within : (bound at : ℕ) → at ≤ length words → Within (length words) (wordBelow words bound at)
+  unfolding Within wordBelow
+  below-within bound at h =
+      byTest (ltb at (length words))
+      (λ e.
+      let l = ltb-true at (length words) e in
+      byTest (ltb (getD words at 0) bound) (λ f. rw (e, f) (omega arith)) λ f. rw (e, f) h)
+      λ e. rw e h
+
+  words-node : (at : ℕ) → at ≤ length words → NodeWithin (length words) (wordSource words .node at)
+  unfolding NodeWithin
+  words-node at h =
+      let bound = firstVariable + variableCount in
+      node-after (length words) (wordBelow words bound at) _ (below-within bound at h) λ w next l. (h, l)
+
+  words-bounded : Bounded (length words) (wordSource words)
+  words-bounded = record { field = λ width. below-within (2 ^ width); node = words-node }
+
+  words-within : Within (length words) (readWords words)
+  unfolding readWords endReader Within
+  words-within =
+      within-then (length words) (fileReader (wordSource words) 0) _
+      (file-within (length words) (wordSource words) words-bounded 0 (omega arith)) λ f end h.
+      within-require (length words) (eqb end (length words)) _ end end _ h h
+
+  pub words-fault : (code offset : ℕ) → readWords words ≡ fault code offset → offset ≤ length words
+  words-fault code offset = within-fault (length words) (readWords words) code offset words-within
+
+  term-within : (σ : Signature) → Within (length words) (readTerm σ words)
+  unfolding readTerm endReader Within
+  term-within σ =
+      within-then (length words) (forestReader (wordSource words) σ maxNodes 1 0) _
+      (forest-within (length words) (wordSource words) words-bounded σ maxNodes 1 0 (omega arith)) λ ws end h.
+      within-require (length words) (eqb end (length words)) _ end end _ h h
+
+  pub term-fault : (σ : Signature) (code offset : ℕ) → readTerm σ words ≡ fault code offset → offset ≤ length words
+  term-fault σ code offset = within-fault (length words) (readTerm σ words) code offset (term-within σ)
+
+module _ (bytes : List ℕ) where
+  abbrev bitCount : ℕ
+  bitCount = 8 * length bytes
+
+  bits-within : (width at : ℕ) → at ≤ bitCount → Within bitCount (bitField bytes width at)
+  unfolding Within bitField
+  bits-within width at h =
+      byTest (leb (at + width) bitCount) (λ e. rw e (leb-true (at + width) bitCount e)) λ e. rw e h
+
+  bits-node : (at : ℕ) → at ≤ bitCount → NodeWithin bitCount (bitSource bytes .node at)
+  unfolding NodeWithin
+  bits-node at h =
+      node-after bitCount (bitField bytes tagWidth at) _ (bits-within tagWidth at h) λ tag at₁ h₁.
+      let width = cond (eqb tag 0) symbolWidth variableWidth in
+      node-after bitCount (bitField bytes width at₁) _ (bits-within width at₁ h₁) λ number next l. (h₁, l)
+
+  bits-bounded : Bounded bitCount (bitSource bytes)
+  bits-bounded = record { field = bits-within; node = bits-node }
+
+  bytes-within : Within bitCount (readBytes bytes)
+  unfolding readBytes paddingReader Within
+  bytes-within =
+      byTest (leb (length bytes) maxBytes)
+      (λ e.
+      rw e
+      (within-then bitCount (fileReader (bitSource bytes) 0) _
+      (file-within bitCount (bitSource bytes) bits-bounded 0 (omega arith)) λ f end h.
+      let left = bitCount - end in
+      within-require bitCount (ltb left 8 && eqb (spelt (bitAt bytes) end left) 0) _ end end _ h h))
+      λ e. rw e (omega arith)
+
+  pub bytes-fault : (code offset : ℕ) → readBytes bytes ≡ fault code offset → offset ≤ 8 * length bytes
+  bytes-fault code offset = within-fault bitCount (readBytes bytes) code offset bytes-within

@@ -1,0 +1,209 @@
+-- Reading a rule file from any source: what is read has the parts of a valid file and the source spells its items; and
+-- a source that spells the items of a valid file reads as that file.
+--     SymbolOk, SymbolsOk        what reading tests of the symbols
+--     Forest                     what reading tests of the nodes of some terms
+--     FileOk                     what reading tests of a file
+--     file-read, file-reads      the two directions
+use mathlib.Core.Path.{_≡_, refl, sym, ap, _∙_}
+use mathlib.Core.List.{List, [], _∷_, _++_, map, flatMap, append-nil, append-assoc}
+use mathlib.Core.Bool.{Bool, true, false, cond, _||_, not}
+use Prim.Native.Nat.{ℕ, suc, zero, _+_, _<_, _^_}
+use native.Mathlib.Omega.{arith}
+use lib.ListN.{length}
+use lib.Dec.{eqb, ltb, leb}
+use borrow.Author.Tests.{eqb-true}
+use Rattle.terms.specs.Signature.{Symbol, Signature, leastWeight}
+use Rattle.format.specs.Layout.{formWidth, formNumber, symbolCountWidth, weightWidth, ruleCountWidth, arityWidth}
+use Rattle.format.specs.Layout.{acWidth, rankWidth, maxNodes}
+use Rattle.format.specs.Reading.{Source}
+use Rattle.format.specs.Reading.Reading.{got}
+use Rattle.format.specs.Format.{Sides, RuleFile, heldBy}
+use Rattle.format.specs.Format.{symbolReader, symbolsReader, forestReader, rulesReader, fileReader}
+use Rattle.format.specs.Packing.{symbolItems, ruleItems, items}
+use Rattle.format.specs.Packing.Item.{field, node}
+use Rattle.format.proofs.ReadingLaws.{Holds, holds-got, holds-map, holds-then, holds-require}
+use Rattle.format.proofs.ForestLaws.{known, argumentCount, nothing-owed}
+use Rattle.format.proofs.SpellingLaws.{Spells, spells-append, spells-split}
+use Rattle.format.proofs.SpellingLaws.Spells.{none, more}
+
+-- ---- what reading tests
+
+pub record SymbolOk (w0 : ℕ) (earlier : List Symbol) (s : Symbol) : Type 0 where
+  pub acBinary : (eqb (cond (s .ac) 1 0) 0 || eqb (s .arity) 2) ≡ true
+  pub weighs : leb (leastWeight w0 (s .arity)) (s .weight) ≡ true
+  pub fresh : not (heldBy earlier (s .precedence)) ≡ true
+
+-- Each symbol after those before it.
+pub data SymbolsOk (w0 : ℕ) : List Symbol → List Symbol → Type 0 where
+  noSymbol : {earlier : List Symbol} → SymbolsOk w0 earlier []
+  symbol : {earlier : List Symbol} {s : Symbol} {ss : List Symbol} → SymbolOk w0 earlier s →
+      SymbolsOk w0 (earlier ++ (s ∷ [])) ss → SymbolsOk w0 earlier (s ∷ ss)
+
+-- As many terms as are owed, with an allowance of nodes.
+pub data Forest (σ : Signature) : ℕ → ℕ → List ℕ → Type 0 where
+  noTerm : {a : ℕ} → Forest σ a zero []
+  termNode : {a n w : ℕ} {ws : List ℕ} → known σ w ≡ true → Forest σ a (argumentCount σ w + n) ws →
+      Forest σ (suc a) (suc n) (w ∷ ws)
+
+abbrev pub RulesOk : Signature → List Sides → Type 0
+RulesOk σ [] = Unit {0}
+RulesOk σ (r ∷ rs) = Forest σ maxNodes 1 (r .left) × Forest σ maxNodes 1 (r .right) × RulesOk σ rs
+
+pub record FileOk (f : RuleFile) : Type 0 where
+  pub someSymbol : ltb 0 (length (f .signature .symbols)) ≡ true
+  pub variableWeighs : ltb 0 (f .signature .w0) ≡ true
+  pub symbolsOk : SymbolsOk (f .signature .w0) [] (f .signature .symbols)
+  pub rulesOk : RulesOk (f .signature) (f .rules)
+
+ac-back : (ac : ℕ) → ac < 2 ^ acWidth → cond (eqb ac 1) 1 0 ≡ ac
+ac-back zero h = refl
+ac-back (suc zero) h = refl
+ac-back (suc (suc n)) h = absurd (omega arith)
+
+ac-same : (b : Bool) → eqb (cond b 1 0) 1 ≡ b
+ac-same true = refl
+ac-same false = refl
+
+module _ (source : Source) where
+  -- ---- nodes
+
+  abbrev pub ForestRead : Signature → ℕ → ℕ → ℕ → List ℕ → ℕ → Type 0
+  ForestRead σ a n at ws end = Forest σ a n ws × Spells source (map node ws) at end
+
+  pub forest-read : (σ : Signature) (a n at : ℕ) → Holds (ForestRead σ a n at) (forestReader source σ a n at)
+  unfolding forestReader Holds
+  forest-read σ zero zero at = (noTerm, none)
+  forest-read σ zero (suc n) at = tt
+  forest-read σ (suc a) zero at = (noTerm, none)
+  forest-read σ (suc a) (suc n) at =
+      holds-then _ (source .node at) _ λ v next e.
+      holds-require _ (known σ (v .word)) _ (v .offset) next _ λ k.
+      holds-then _ (forestReader source σ a (argumentCount σ (v .word) + n) next) _ λ ws end r.
+      let h = holds-got _ _ ws end (forest-read σ a (argumentCount σ (v .word) + n) next) r in
+      (termNode k (h .0), more (v .offset, e) (h .1))
+
+  pub forest-reads : (σ : Signature) {a n : ℕ} {ws : List ℕ} → Forest σ a n ws → {at end : ℕ} →
+      Spells source (map node ws) at end → forestReader source σ a n at ≡ got ws end
+  unfolding forestReader
+  forest-reads σ (noTerm {a}) {at} none = nothing-owed source σ a at
+  forest-reads σ (termNode k f) (more e p) = rw (e .1, k, forest-reads σ f p)
+
+  -- ---- rules
+
+  abbrev RulesRead : Signature → ℕ → ℕ → List Sides → ℕ → Type 0
+  RulesRead σ n at rs end = (length rs ≡ n) × RulesOk σ rs × Spells source (flatMap ruleItems rs) at end
+
+  rules-read : (σ : Signature) (n at : ℕ) → Holds (RulesRead σ n at) (rulesReader source σ n at)
+  unfolding rulesReader Holds flatMap
+  rules-read σ zero at = (refl, tt, none)
+  rules-read σ (suc n) at =
+      holds-then _ (forestReader source σ maxNodes 1 at) _ λ ls at₁ e₁.
+      holds-then _ (forestReader source σ maxNodes 1 at₁) _ λ rs at₂ e₂.
+      holds-then _ (rulesReader source σ n at₂) _ λ rest end e₃.
+      let l = holds-got _ _ ls at₁ (forest-read σ maxNodes 1 at) e₁ in
+      let r = holds-got _ _ rs at₂ (forest-read σ maxNodes 1 at₁) e₂ in
+      let (k, ok, p) = holds-got _ _ rest end (rules-read σ n at₂) e₃ in
+      (ap suc k, (l .0, r .0, ok), spells-append source (spells-append source (l .1) (r .1)) p)
+
+  rules-reads : (σ : Signature) (rs : List Sides) (at end : ℕ) → RulesOk σ rs →
+      Spells source (flatMap ruleItems rs) at end → rulesReader source σ (length rs) at ≡ got rs end
+  unfolding rulesReader flatMap
+  rules-reads σ [] at end h none = refl
+  rules-reads σ (r ∷ rs) at end h p =
+      let (at₂, q, p₃) = spells-split source (ruleItems r) p in
+      let (at₁, p₁, p₂) = spells-split source (map node (r .left)) q in
+      rw (forest-reads σ (h .0) p₁, forest-reads σ (h .1) p₂, rules-reads σ rs at₂ end (h .2) p₃)
+
+  -- ---- symbols
+
+  symbol-reads : {w0 : ℕ} {earlier : List Symbol} {s : Symbol} {at end : ℕ} → SymbolOk w0 earlier s →
+      Spells source (symbolItems s) at end → symbolReader source w0 earlier at ≡ got s end
+  unfolding symbolReader
+  symbol-reads {s = s} ok (more e₁ (more e₂ (more e₃ (more e₄ none)))) =
+      rw (e₁, e₂, ok .acBinary, e₃, ok .weighs, e₄, ok .fresh, ac-same (s .ac))
+
+  symbols-reads : {w0 : ℕ} {earlier ss : List Symbol} → SymbolsOk w0 earlier ss → (at end : ℕ) →
+      Spells source (flatMap symbolItems ss) at end →
+      symbolsReader source w0 (length ss) earlier at ≡ got (earlier ++ ss) end
+  unfolding symbolsReader flatMap
+  symbols-reads (noSymbol {earlier}) at end none = rw append-nil
+  symbols-reads (symbol {earlier} {s} {ss} ok oks) at end p =
+      let (mid, q, r) = spells-split source (symbolItems s) p in
+      rw (symbol-reads ok q, symbols-reads oks mid end r, append-assoc earlier (s ∷ []) ss)
+
+  abbrev SymbolRead : ℕ → List Symbol → ℕ → Symbol → ℕ → Type 0
+  SymbolRead w0 earlier at s end = SymbolOk w0 earlier s × Spells source (symbolItems s) at end
+
+  -- So many symbols after the earlier ones.
+  abbrev SymbolsRead : ℕ → ℕ → List Symbol → ℕ → List Symbol → ℕ → Type 0
+  SymbolsRead w0 n earlier at all end =
+      (ss : List Symbol) × (all ≡ earlier ++ ss) × (length ss ≡ n) × SymbolsOk w0 earlier ss ×
+      Spells source (flatMap symbolItems ss) at end
+
+  abbrev pub FileRead : ℕ → RuleFile → ℕ → Type 0
+  FileRead at f end = FileOk f × Spells source (items f) at end
+
+  module _ (fits : (width at v next : ℕ) → source .field width at ≡ got v next → v < 2 ^ width) where
+    symbol-read : (w0 : ℕ) (earlier : List Symbol) (at : ℕ) →
+        Holds (SymbolRead w0 earlier at) (symbolReader source w0 earlier at)
+    unfolding symbolReader Holds
+    symbol-read w0 earlier at =
+        holds-then _ (source .field arityWidth at) _ λ arity at₁ e₁.
+        holds-then _ (source .field acWidth at₁) _ λ ac at₂ e₂.
+        holds-require _ (eqb ac 0 || eqb arity 2) _ at at₂ _ λ binary.
+        holds-then _ (source .field weightWidth at₂) _ λ weight at₃ e₃.
+        holds-require _ (leb (leastWeight w0 arity) weight) _ at₂ at₃ _ λ weighs.
+        holds-then _ (source .field rankWidth at₃) _ λ rank end e₄.
+        holds-require _ (not (heldBy earlier rank)) _ at₃ end _ λ fresh.
+        let same = ac-back ac (fits acWidth at₁ ac at₂ e₂) in
+        let ok : SymbolOk w0 earlier (record { arity = arity; ac = eqb ac 1; weight = weight; precedence = rank }) =
+        record { acBinary = rw same binary; weighs = weighs; fresh = fresh } in
+        (ok, rw same (more e₁ (more e₂ (more e₃ (more e₄ none)))))
+
+    symbols-read : (w0 n : ℕ) (earlier : List Symbol) (at : ℕ) →
+        Holds (SymbolsRead w0 n earlier at) (symbolsReader source w0 n earlier at)
+    unfolding symbolsReader Holds flatMap
+    symbols-read w0 zero earlier at = ([], sym (append-nil earlier), refl, noSymbol, none)
+    symbols-read w0 (suc n) earlier at =
+        holds-then _ (symbolReader source w0 earlier at) _ λ s mid e.
+        let (ok, p) = holds-got _ _ s mid (symbol-read w0 earlier at) e in
+        let upTo = earlier ++ (s ∷ []) in
+        holds-map _ _ (symbolsReader source w0 n upTo mid) (symbols-read w0 n upTo mid) λ all end (ss, a, k, oks, q).
+        (s ∷ ss, a ∙ append-assoc earlier (s ∷ []) ss, ap suc k, symbol ok oks, spells-append source p q)
+
+    pub file-read : (at : ℕ) → Holds (FileRead at) (fileReader source at)
+    unfolding fileReader items Holds
+    file-read at =
+        holds-then _ (source .field formWidth at) _ λ form at₁ e₁.
+        holds-require _ (eqb form formNumber) _ at at₁ _ λ isForm.
+        holds-then _ (source .field symbolCountWidth at₁) _ λ k at₂ e₂.
+        holds-require _ (ltb 0 k) _ at₁ at₂ _ λ some.
+        holds-then _ (source .field weightWidth at₂) _ λ w0 at₃ e₃.
+        holds-require _ (ltb 0 w0) _ at₂ at₃ _ λ weighs.
+        holds-then _ (source .field ruleCountWidth at₃) _ λ n at₄ e₄.
+        holds-then _ (symbolsReader source w0 k [] at₄) _ λ ss at₅ e₅.
+        holds-then _ (rulesReader source (record { w0 = w0; symbols = ss }) n at₅) _ λ rs end e₆.
+        let (new, a, length-new, oks, p) = holds-got _ _ ss at₅ (symbols-read w0 k [] at₄) e₅ in
+        let σ : Signature = record { w0 = w0; symbols = ss } in
+        let (length-rs, rulesOk, q) = holds-got _ _ rs end (rules-read σ n at₅) e₆ in
+        let length-ss : length ss ≡ k = ap length a ∙ length-new in
+        let symbolsOk : SymbolsOk w0 [] ss = rw (← a) at oks in
+        let r₁ : source .field formWidth at ≡ got formNumber at₁ = rw (eqb-true form formNumber isForm) at e₁ in
+        let r₂ : source .field symbolCountWidth at₁ ≡ got (length ss) at₂ = rw (← length-ss) at e₂ in
+        let r₄ : source .field ruleCountWidth at₃ ≡ got (length rs) at₄ = rw (← length-rs) at e₄ in
+        let ok : FileOk (record { signature = σ; rules = rs }) = record {
+          someSymbol = rw length-ss some;
+          variableWeighs = weighs;
+          symbolsOk = symbolsOk;
+          rulesOk = rulesOk;
+        } in
+        (ok, more r₁ (more r₂ (more e₃ (more r₄ (spells-append source (rw (← a) at p) q)))))
+
+  pub file-reads : (f : RuleFile) (at end : ℕ) → FileOk f → Spells source (items f) at end →
+      fileReader source at ≡ got f end
+  unfolding fileReader items
+  file-reads f at end ok (more e₁ (more e₂ (more e₃ (more e₄ p)))) =
+      let (mid, q, r) = spells-split source (flatMap symbolItems (f .signature .symbols)) p in
+      let symbols = symbols-reads (ok .symbolsOk) _ mid q in
+      let rules = rules-reads (f .signature) (f .rules) mid end (ok .rulesOk) r in
+      rw (e₁, e₂, ok .someSymbol, e₃, ok .variableWeighs, e₄, symbols, rules)

@@ -1,0 +1,115 @@
+-- What the layers above rely on: of a readable file, and of a term that is read from words.
+--     readable-signature         its signature is admissible and within the widths
+--     readable-sides             its sides are the words of well-formed terms
+--     readable-system            and so its rules are well formed
+--     first-term, whole-term     a term that is read from words
+use mathlib.Core.Path.{_≡_, sym, ap, _∙_}
+use mathlib.Core.List.{List, [], _∷_, map, flatMap, List·Memᴰ, List·Memᴰ·head, List·Memᴰ·tail}
+use mathlib.Core.List.{List·Memᴰ·not-nil, Memᴰ·of-map}
+use Prim.Native.Nat.{ℕ, _<_}
+use native.Mathlib.Nat.{zero-add}
+use native.Mathlib.Omega.{arith}
+use lib.ListN.{length, getD, take}
+use lib.Seq.{ext-getD, getD-take, length-take-le, take-all}
+use lib.Dec.{eqb}
+use borrow.Author.Tests.{ltb-true, eqb-true}
+use Rattle.terms.specs.Signature.{Signature, Admissible}
+use Rattle.terms.specs.Rewriting.{WellFormedRules}
+use Rattle.format.specs.Layout.{maxNodes}
+use Rattle.format.specs.Reading.{wordSource}
+use Rattle.format.specs.Reading.Reading.{got}
+use Rattle.format.specs.Format.{Sides, RuleFile, systemOf, forestReader}
+use Rattle.format.specs.Files.{endReader, readFirstTerm, readTerm}
+use Rattle.format.specs.Packing.{items, symbolItems, ruleItems}
+use Rattle.format.specs.Packing.Item.{node}
+use Rattle.format.specs.Statements.{WithinWidths, IsTerm}
+use Rattle.format.proofs.ReadingLaws.{Holds, holds-got, holds-then, holds-require}
+use Rattle.format.proofs.SpellingLaws.{AllFit, all-fit-split, Agrees, agrees-at, spells→coded}
+use Rattle.format.proofs.FormatLaws.{Forest, RulesOk, forest-read}
+use Rattle.format.proofs.CodingLaws.{wordAt, word-coding}
+use Rattle.format.proofs.FileLaws.{Readable, nodes-each}
+use Rattle.format.proofs.SideLaws.{side-formed, forest-le}
+use Rattle.format.proofs.SymbolLaws.{admissible-of-symbols, fits-at}
+
+forest-term : (σ : Signature) (ws : List ℕ) → Forest σ maxNodes 1 ws → AllFit (map node ws) → IsTerm σ ws
+forest-term σ ws f fits =
+    let (e, w) = side-formed σ f fits in
+    record { spelled = sym e; wellFormed = w; short = forest-le σ f }
+
+-- ---- a file
+
+rules-at : (σ : Signature) (rs : List Sides) → RulesOk σ rs → AllFit (flatMap ruleItems rs) → (r : Sides) →
+    List·Memᴰ r rs → IsTerm σ (r .left) × IsTerm σ (r .right)
+unfolding flatMap
+rules-at σ [] ok fits r m = absurd (List·Memᴰ·not-nil m)
+rules-at σ (q ∷ rs) ok fits r (List·Memᴰ·head e) =
+    let (here, later) = all-fit-split (ruleItems q) (flatMap ruleItems rs) fits in
+    let (a, b) = all-fit-split (map node (q .left)) (map node (q .right)) here in
+    rw e (forest-term σ (q .left) (ok .0) a, forest-term σ (q .right) (ok .1) b)
+rules-at σ (q ∷ rs) ok fits r (List·Memᴰ·tail m) =
+    rules-at σ rs (ok .2) (all-fit-split (ruleItems q) (flatMap ruleItems rs) fits .1) r m
+
+module _ (f : RuleFile) (r : Readable f) where
+  pub readable-signature : Admissible (f .signature) × (0 < length (f .signature .symbols)) × WithinWidths f
+  unfolding items
+  readable-signature =
+      let σ = f .signature in
+      let (count, (w0, (rules, rest))) = r .fits .1 in
+      let symbols = all-fit-split (flatMap symbolItems (σ .symbols)) (flatMap ruleItems (f .rules)) rest .0 in
+      let each = fits-at (σ .symbols) symbols in (
+        admissible-of-symbols σ (r .ok .symbolsOk) (ltb-true 0 (σ .w0) (r .ok .variableWeighs)),
+        ltb-true 0 (length (σ .symbols)) (r .ok .someSymbol),
+        record {
+          symbolCount = count;
+          w0 = w0;
+          ruleCount = rules;
+          arity = λ g. each g .0;
+          weight = λ g. each g .1 .1 .0;
+          precedence = λ g. each g .1 .1 .1 .0;
+        },
+      )
+
+  pub readable-sides : (s : Sides) → List·Memᴰ s (f .rules) →
+      IsTerm (f .signature) (s .left) × IsTerm (f .signature) (s .right)
+  unfolding items
+  readable-sides s m =
+      let symbols = flatMap symbolItems (f .signature .symbols) in
+      let fits = all-fit-split symbols (flatMap ruleItems (f .rules)) (r .fits .1 .1 .1 .1) .1 in
+      rules-at (f .signature) (f .rules) (r .ok .rulesOk) fits s m
+
+  pub readable-system : WellFormedRules (systemOf f)
+  readable-system rule m =
+      let (s, n, e) = Memᴰ·of-map _ (f .rules) m in
+      let (a, b) = readable-sides s n in
+      rw (← e) (a .wellFormed, b .wellFormed)
+
+-- ---- a term
+
+module _ (σ : Signature) (input nodes : List ℕ) (end : ℕ) where
+  pub first-term : readFirstTerm σ input ≡ got nodes end →
+      (nodes ≡ take end input) × (end ≡ length nodes) × IsTerm σ nodes
+  unfolding readFirstTerm
+  first-term e =
+      let (f, p) = holds-got _ _ nodes end (forest-read (wordSource input) σ maxNodes 1 0) e in
+      let (fits, ends, l, a) = spells→coded (word-coding input) p (omega arith) in
+      let same = nodes-each nodes in
+      let cells : Agrees (wordAt input) 0 nodes = rw same at a in
+      let count : end ≡ length nodes = ends ∙ zero-add _ ∙ ap length same in
+      let len = length-take-le end input l in
+      let each : (i : ℕ) → i < length nodes → getD nodes i 0 ≡ getD (take end input) i 0 =
+      λ i h. sym (agrees-at (wordAt input) 0 nodes cells i h) ∙ ap (wordAt input) (zero-add i)
+      ∙ sym (getD-take end input i 0 (omega arith)) in
+      (ext-getD 0 nodes (take end input) (omega arith) each, count, forest-term σ nodes f fits)
+
+  term-read : Holds (λ ws at. (readFirstTerm σ input ≡ got ws at) × (at ≡ length input)) (readTerm σ input)
+  unfolding readFirstTerm readTerm endReader Holds
+  term-read =
+      holds-then _ (forestReader (wordSource input) σ maxNodes 1 0) _ λ ws at e.
+      holds-require _ (eqb at (length input)) _ at at _ λ t.
+      (e, eqb-true at (length input) t)
+
+  pub whole-term : readTerm σ input ≡ got nodes end → (nodes ≡ input) × (end ≡ length nodes) × IsTerm σ nodes
+  whole-term e =
+      let (r, whole) = holds-got _ _ nodes end term-read e in
+      let (front, count, term) = first-term r in
+      (front ∙ take-all end input (omega arith), count, term)

@@ -1,0 +1,119 @@
+-- Decoding and then encoding gives back the bytes, encoding and then decoding the words.
+--     write-reply, write-accepts       what an accepted call has written, and when it is accepted
+--     decoded-accepts, decoded-reply   decoding by the file that is read; the same for encoding
+--     decode-encode, encode-decode     the round trips
+use mathlib.Core.Path.{_≡_, refl, ap, _∙_}
+use mathlib.Core.List.{List}
+use mathlib.Core.Bool.{false≢true}
+use Prim.Native.Nat.{ℕ, _≤_, _<_}
+use lib.ListN.{length, getD, take, drop}
+use lib.Seq.{take-append-seam}
+use lib.Dec.{leb}
+use borrow.Author.Tests.{leb-true, le-leb}
+use Rattle.multisets.proofs.Relations.{byTest}
+use Rattle.format.specs.Errors.{wordsTooShort, bytesTooShort}
+use Rattle.format.specs.Layout.{maxBytes}
+use Rattle.format.specs.Reading.{Reading}
+use Rattle.format.specs.Reading.Reading.{got, fault}
+use Rattle.format.specs.Format.{RuleFile}
+use Rattle.format.specs.Files.{readBytes, readWords}
+use Rattle.format.specs.Packing.{packed, unpacked}
+use Rattle.format.specs.Replies.{Reply, Written, Outcome, _>>=_, fromInput, outcome}
+use Rattle.format.specs.Replies.Reply.{accepted}
+use Rattle.format.specs.Operations.{write, decoded, encoded}
+use Rattle.format.proofs.FileLaws.{bytes-readable, bytes-short, bytes-packed, words-readable, words-unpacked}
+use Rattle.format.proofs.FileLaws.{packed-reads, unpacked-reads, fileBits}
+
+-- ---- an output
+
+-- The call is accepted, and the output starts with what it wrote.
+pub record Wrote (o : Outcome ℕ) (front : List ℕ) : Type 0 where
+  pub reply : o .reply ≡ accepted (length front)
+  pub output : take (length front) (o .output) ≡ front
+
+module _ (tooShort : ℕ) (front output : List ℕ) where
+  write-accepts : length front ≤ length output → Wrote (outcome (write tooShort front output) output) front
+  write-accepts h = rw (le-leb (length front) (length output) h)
+      (record { reply = refl; output = take-append-seam front (drop (length front) output) })
+
+  write-reply : (n : ℕ) → outcome (write tooShort front output) output .reply ≡ accepted n →
+      (n ≡ length front) × (length front ≤ length output)
+  write-reply n e =
+      byTest (leb (length front) (length output))
+      (λ t.
+      let same : accepted (length front) ≡ accepted n = rw t at e in
+      (cc, leb-true (length front) (length output) t))
+      λ t. let other = rw t at e in absurd (false≢true (cc))
+
+-- An accepted call has read a file, and is accepted with what follows.
+from-reply : (r : Reading RuleFile) (k : RuleFile → Reply (Written ℕ)) (output : List ℕ) (n : ℕ) →
+    outcome (_>>=_ (fromInput 0 r) k) output .reply ≡ accepted n →
+    (file : RuleFile) × (end : ℕ) × (r ≡ got file end) × (outcome (k file) output .reply ≡ accepted n)
+from-reply (got file end) k output n e = (file, end, refl, e)
+from-reply (fault code offset) k output n e = absurd (false≢true (cc))
+
+-- ---- decoding
+
+decoded-accepts : (bytes output : List ℕ) (file : RuleFile) (end : ℕ) → readBytes bytes ≡ got file end →
+    length (unpacked file) ≤ length output → Wrote (decoded bytes output) (unpacked file)
+unfolding decoded
+decoded-accepts bytes output file end e h = rw e (write-accepts wordsTooShort (unpacked file) output h)
+
+decoded-reply : (bytes output : List ℕ) (n : ℕ) → decoded bytes output .reply ≡ accepted n →
+    (file : RuleFile) × (end : ℕ) × (readBytes bytes ≡ got file end) × (n ≡ length (unpacked file)) ×
+    (length (unpacked file) ≤ length output)
+unfolding decoded
+decoded-reply bytes output n e =
+    let (file, end, r, a) = from-reply (readBytes bytes) _ output n e in
+    let (count, room) = write-reply wordsTooShort (unpacked file) output n a in
+    (file, end, r, count, room)
+
+-- ---- encoding
+
+encoded-accepts : (words output : List ℕ) (file : RuleFile) (end : ℕ) → readWords words ≡ got file end →
+    length (packed file) ≤ maxBytes → length (packed file) ≤ length output → Wrote (encoded words output) (packed file)
+unfolding encoded
+encoded-accepts words output file end e short h =
+    rw (e, le-leb (length (packed file)) maxBytes short) (write-accepts bytesTooShort (packed file) output h)
+
+encoded-reply : (words output : List ℕ) (n : ℕ) → encoded words output .reply ≡ accepted n →
+    (file : RuleFile) × (end : ℕ) × (readWords words ≡ got file end) × (length (packed file) ≤ maxBytes) ×
+    (n ≡ length (packed file)) × (length (packed file) ≤ length output)
+unfolding encoded
+encoded-reply words output n e =
+    let (file, end, r, a) = from-reply (readWords words) _ output n e in
+    byTest (leb (length (packed file)) maxBytes)
+    (λ short.
+    let (count, room) = write-reply bytesTooShort (packed file) output n (rw short at a) in
+    (file, end, r, leb-true (length (packed file)) maxBytes short, count, room))
+    λ long. let b = rw long at a in absurd (false≢true (cc))
+
+-- ---- the round trips
+
+pub decode-encode : (bytes output : List ℕ) (n : ℕ) → ((i : ℕ) → getD bytes i 0 < 256) →
+    decoded bytes output .reply ≡ accepted n → (buffer : List ℕ) → length bytes ≤ length buffer →
+    Wrote (encoded (take n (decoded bytes output .output)) buffer) bytes
+decode-encode bytes output n small e buffer room =
+    let (file, end, r, count, fits) = decoded-reply bytes output n e in
+    let same = bytes-packed bytes file end r small in
+    let wrote = decoded-accepts bytes output file end r fits in
+    let decodedWords : take n (decoded bytes output .output) ≡ unpacked file =
+    ap (λ (k : ℕ). take k (decoded bytes output .output)) count ∙ wrote .output in
+    let reads = unpacked-reads file (bytes-readable bytes file end r) in
+    let short = bytes-short bytes file end r in
+    rw decodedWords
+    (rw same at
+    (encoded-accepts (unpacked file) buffer file (length (unpacked file)) reads (rw same short) (rw same room)))
+
+pub encode-decode : (words output : List ℕ) (n : ℕ) →
+    encoded words output .reply ≡ accepted n → (buffer : List ℕ) → length words ≤ length buffer →
+    Wrote (decoded (take n (encoded words output .output)) buffer) words
+encode-decode words output n e buffer room =
+    let (file, end, r, short, count, fits) = encoded-reply words output n e in
+    let same = words-unpacked words file end r in
+    let wrote = encoded-accepts words output file end r short fits in
+    let encodedBytes : take n (encoded words output .output) ≡ packed file =
+    ap (λ (k : ℕ). take k (encoded words output .output)) count ∙ wrote .output in
+    let reads = packed-reads file (words-readable words file end r) short in
+    rw encodedBytes
+    (rw same at (decoded-accepts (packed file) buffer file (length (fileBits file)) reads (rw same room)))

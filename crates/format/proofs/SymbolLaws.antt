@@ -1,0 +1,72 @@
+-- The signature of a readable file is admissible, and its values are within their widths.
+--     symbols-at               each symbol passes the tests after those before it
+--     admissible-of-symbols    a signature whose symbols pass is admissible
+--     fits-at                  a symbol's values are within their widths
+use mathlib.Core.Path.{_≡_, sym, ap, _∙_}
+use mathlib.Core.List.{List, [], _∷_, _++_, flatMap, append-nil, append-assoc}
+use mathlib.Core.Bool.{true, false, false≢true}
+use Prim.Native.Nat.{ℕ, suc, zero, _<_}
+use native.Mathlib.Omega.{arith}
+use lib.ListN.{length, getD, take, List·getD-eq-default}
+use lib.Seq.{getD-take, length-take-le}
+use lib.Dec.{eqb, lit<}
+use borrow.Author.Tests.{eqb-true, leb-true, not-true}
+use Rattle.multisets.proofs.Relations.{byOrder, byTest, eqb-self}
+use Rattle.terms.specs.Signature.{Symbol, Signature, symbolOf, Admissible}
+use Rattle.format.specs.Format.{heldBy}
+use Rattle.format.specs.Packing.{symbolItems}
+use Rattle.format.proofs.SpellingLaws.{AllFit, all-fit-split}
+use Rattle.format.proofs.FormatLaws.{SymbolOk, SymbolsOk}
+use Rattle.format.proofs.FormatLaws.SymbolsOk.{noSymbol, symbol}
+
+-- What a signature says of a number that is no symbol's.
+abbrev absent : Symbol
+absent = record { arity = 0; ac = false; weight = 0; precedence = 0 }
+
+pub symbols-at : {w0 : ℕ} {earlier ss : List Symbol} → SymbolsOk w0 earlier ss → (f : ℕ) → f < length ss →
+    SymbolOk w0 (earlier ++ take f ss) (getD ss f absent)
+symbols-at noSymbol f h = absurd (omega arith)
+symbols-at (symbol {earlier} ok oks) zero h = rw (append-nil earlier) ok
+symbols-at (symbol {earlier} {s} {ss} ok oks) (suc f) h =
+    rw (append-assoc earlier (s ∷ []) (take f ss)) at (symbols-at oks f (omega arith))
+
+held-at : (ss : List Symbol) (g : ℕ) → g < length ss → heldBy ss (getD ss g absent .precedence) ≡ true
+held-at [] g h = absurd (omega arith)
+held-at (s ∷ ss) zero h = rw eqb-self
+held-at (s ∷ ss) (suc g) h =
+    byTest (eqb (getD ss g absent .precedence) (s .precedence)) (λ e. rw e)
+    λ e. rw e (held-at ss g (omega arith))
+
+module _ (σ : Signature) (oks : SymbolsOk (σ .w0) [] (σ .symbols)) where
+  later-differs : (f g : ℕ) → g < f → f < length (σ .symbols) →
+      symbolOf σ f .precedence ≡ symbolOf σ g .precedence → ⊥
+  later-differs f g h l e =
+      let earlier = take f (σ .symbols) in
+      let fresh = not-true (heldBy earlier (symbolOf σ f .precedence)) (symbols-at oks f l .fresh) in
+      let same : getD earlier g absent ≡ symbolOf σ g = getD-take f (σ .symbols) g absent h in
+      let held : heldBy earlier (getD earlier g absent .precedence) ≡ true =
+      held-at earlier g (omega (arith, length-take-le f (σ .symbols) (omega arith))) in
+      false≢true (sym fresh ∙ ap (heldBy earlier) (e ∙ ap (λ (s : Symbol). s .precedence) (sym same)) ∙ held)
+
+  binary-at : (f : ℕ) → symbolOf σ f .ac ≡ true → symbolOf σ f .arity ≡ 2
+  binary-at f e =
+      byOrder f (length (σ .symbols))
+      (λ h. eqb-true (symbolOf σ f .arity) 2 (rw e at (symbols-at oks f h .acBinary)))
+      λ h. absurd (false≢true (rw (List·getD-eq-default (σ .symbols) absent h) at e))
+
+  pub admissible-of-symbols : 0 < σ .w0 → Admissible σ
+  admissible-of-symbols positive =
+      record {
+        variableWeighs = positive;
+        acBinary = binary-at;
+        weighsEnough = λ f h. leb-true _ _ (symbols-at oks f h .weighs);
+        precedencesDiffer = λ f g hf hg e.
+            byOrder f g (λ h. absurd (later-differs g f h hg (sym e)))
+            λ h. byOrder g f (λ k. absurd (later-differs f g k hf e)) λ k. omega arith;
+      }
+
+pub fits-at : (ss : List Symbol) → AllFit (flatMap symbolItems ss) → (f : ℕ) → AllFit (symbolItems (getD ss f absent))
+unfolding flatMap
+fits-at [] h f = (lit< tt, (lit< tt, (lit< tt, (lit< tt, tt))))
+fits-at (s ∷ ss) h zero = all-fit-split (symbolItems s) (flatMap symbolItems ss) h .0
+fits-at (s ∷ ss) h (suc f) = fits-at ss (all-fit-split (symbolItems s) (flatMap symbolItems ss) h .1) f

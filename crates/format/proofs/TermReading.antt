@@ -1,0 +1,133 @@
+-- The words of a well-formed term, read as a term.
+--     forest-words       they have the form that reading tests
+--     forest-cut         a forest of more nodes than are allowed stops after those
+--     term-reads         they read as they are
+--     term-refused       unless they are more than are allowed
+use mathlib.Core.Path.{_≡_, refl, ap, _∙_}
+use mathlib.Core.List.{List, [], _∷_, _++_, map, append-nil, append-assoc}
+use mathlib.Core.Bool.{true}
+use Prim.Native.Nat.{ℕ, suc, zero, _+_, _-_, _≤_, _<_}
+use native.Mathlib.Nat.{zero-add}
+use native.Mathlib.Omega.{arith}
+use lib.ListN.{length, take, drop, length-append, take-append-drop, List·getD-append}
+use lib.Seq.{length-take-le}
+use borrow.Author.Tests.{lt-ltb, lt-leb, le-leb}
+use Rattle.multisets.proofs.Relations.{eqb-self}
+use Rattle.terms.specs.Signature.{Signature}
+use Rattle.terms.specs.Term.{Term, Terms, size, sizes, row, WellFormed, WellFormeds}
+use Rattle.terms.specs.Term.Term.{var, app}
+use Rattle.terms.specs.Term.Terms.{nil, cons}
+use Rattle.terms.specs.Words.{firstVariable, words, wordsOf}
+use Rattle.terms.proofs.WordsLaws.{length-words}
+use Rattle.format.specs.Errors.{tooManyNodes}
+use Rattle.format.specs.Layout.{maxNodes}
+use Rattle.format.specs.Reading.{Source, wordSource}
+use Rattle.format.specs.Reading.Reading.{got, fault}
+use Rattle.format.specs.Format.{forestReader}
+use Rattle.format.specs.Files.{endReader, readTerm}
+use Rattle.format.specs.Packing.Item.{node}
+use Rattle.format.proofs.ForestLaws.{known, argumentCount}
+use Rattle.format.proofs.SpellingLaws.{AllFit, Spells, agrees-of, coded→spells}
+use Rattle.format.proofs.SpellingLaws.Spells.{none, more}
+use Rattle.format.proofs.FormatLaws.{Forest, forest-reads}
+use Rattle.format.proofs.FormatLaws.Forest.{noTerm, termNode}
+use Rattle.format.proofs.CodingLaws.{wordAt, word-coding}
+use Rattle.format.proofs.FileLaws.{nodes-each}
+
+fit-append : (ws vs : List ℕ) → AllFit (map node ws) → AllFit (map node vs) → AllFit (map node (ws ++ vs))
+fit-append [] vs h k = k
+fit-append (w ∷ ws) vs h k = (h .0, fit-append ws vs (h .1) k)
+
+fit-take : (a : ℕ) (ws : List ℕ) → AllFit (map node ws) → AllFit (map node (take a ws))
+fit-take zero ws h = tt
+fit-take (suc a) [] h = tt
+fit-take (suc a) (w ∷ ws) h = (h .0, fit-take a ws (h .1))
+
+module _ (σ : Signature) (few : length (σ .symbols) ≤ firstVariable) where
+  mutual
+    pub forest-words : (t : Term) → WellFormed σ t → (a n : ℕ) (ws : List ℕ) → Forest σ a n ws →
+        Forest σ (size t + a) (suc n) (words t ++ ws)
+    forest-words (var x) h a n ws f =
+        let e : 1 + a ≡ suc a = omega arith in
+        let w = firstVariable + x in
+        let v = le-leb firstVariable w (omega arith) in
+        let k : known σ w ≡ true = rw v in
+        let g : Forest σ a (argumentCount σ w + n) ws = rw (v, zero-add n) f in
+        rw e (termNode k g)
+    forest-words (app g ts) h a n ws f =
+        let e : 1 + sizes ts + a ≡ suc (sizes ts + a) = omega arith in
+        let v = lt-leb firstVariable g (omega (arith, h .0)) in
+        let k : known σ g ≡ true = rw (v, lt-ltb g (length (σ .symbols)) (h .0)) in
+        let r : Forest σ (sizes ts + a) (argumentCount σ g + n) (wordsOf ts ++ ws) =
+        rw (v, ← h .1) (forest-wordsOf ts (h .2) a n ws f) in
+        rw e (termNode k r)
+
+    forest-wordsOf : (ts : Terms) → WellFormeds σ ts → (a n : ℕ) (ws : List ℕ) → Forest σ a n ws →
+        Forest σ (sizes ts + a) (length (row ts) + n) (wordsOf ts ++ ws)
+    forest-wordsOf nil h a n ws f = rw (zero-add a, zero-add n) f
+    forest-wordsOf (cons t ts) h a n ws f =
+        let e : size t + sizes ts + a ≡ size t + (sizes ts + a) = omega arith in
+        let c : suc (length (row ts)) + n ≡ suc (length (row ts) + n) = omega arith in
+        rw (e, c, append-assoc (words t) (wordsOf ts) ws)
+        (forest-words t (h .0) (sizes ts + a) (length (row ts) + n) (wordsOf ts ++ ws)
+        (forest-wordsOf ts (h .1) a n ws f))
+
+  mutual
+    words-fit : (t : Term) → WellFormed σ t → AllFit (map node (words t))
+    words-fit (var x) h = (omega arith, tt)
+    words-fit (app g ts) h = (omega (arith, h .0), wordsOf-fit ts (h .2))
+
+    wordsOf-fit : (ts : Terms) → WellFormeds σ ts → AllFit (map node (wordsOf ts))
+    wordsOf-fit nil h = tt
+    wordsOf-fit (cons t ts) h = fit-append (words t) (wordsOf ts) (words-fit t (h .0)) (wordsOf-fit ts (h .1))
+
+-- ---- too many nodes
+
+-- As many nodes as are allowed, with terms still owed.
+data Cut (σ : Signature) : ℕ → ℕ → List ℕ → Type 0 where
+  spent : {n : ℕ} → Cut σ zero (suc n) []
+  cutNode : {a n w : ℕ} {ws : List ℕ} → known σ w ≡ true → Cut σ a (argumentCount σ w + n) ws →
+      Cut σ (suc a) (suc n) (w ∷ ws)
+
+forest-cut : {σ : Signature} {b n : ℕ} {ws : List ℕ} → Forest σ b n ws → (a : ℕ) → a < length ws → Cut σ a n (take a ws)
+forest-cut noTerm a h = absurd (omega arith)
+forest-cut (termNode k f) zero h = spent
+forest-cut (termNode k f) (suc a) h = cutNode k (forest-cut f a (omega arith))
+
+cut-reads : (source : Source) {σ : Signature} {a n : ℕ} {ws : List ℕ} → Cut σ a n ws → {at end : ℕ} →
+    Spells source (map node ws) at end → forestReader source σ a n at ≡ fault tooManyNodes end
+unfolding forestReader
+cut-reads source spent none = refl
+cut-reads source (cutNode k c) (more e p) = rw (e .1, k, cut-reads source c p)
+
+-- ---- reading
+
+front-spells : (ws vs : List ℕ) → AllFit (map node ws) → Spells (wordSource (ws ++ vs)) (map node ws) 0 (length ws)
+front-spells ws vs fits =
+    let input = ws ++ vs in
+    let same = nodes-each ws in
+    let a = agrees-of (wordAt input) 0 ws (λ i h. ap (wordAt input) (zero-add i) ∙ List·getD-append ws vs 0 i h) in
+    rw (same, zero-add (length ws)) at
+    (coded→spells (word-coding input) (map node ws) 0 fits (rw same (omega (arith, length-append ws vs))) (rw same a))
+
+module _ (σ : Signature) (few : length (σ .symbols) ≤ firstVariable) (t : Term) (h : WellFormed σ t) where
+  nodes-form : (a : ℕ) → Forest σ (size t + a) 1 (words t)
+  nodes-form a = rw (append-nil (words t)) at (forest-words σ few t h a 0 [] noTerm)
+
+  pub term-reads : size t ≤ maxNodes → readTerm σ (words t) ≡ got (words t) (size t)
+  unfolding readTerm endReader
+  term-reads l =
+      let ws = words t in
+      let all : size t + (maxNodes - size t) ≡ maxNodes = omega arith in
+      let p = rw (append-nil ws) at (front-spells ws [] (words-fit σ few t h)) in
+      let f = rw all at (nodes-form (maxNodes - size t)) in
+      rw (forest-reads (wordSource ws) σ f p, eqb-self (length ws), length-words t)
+
+  pub term-refused : maxNodes < size t → readTerm σ (words t) ≡ fault tooManyNodes maxNodes
+  unfolding readTerm endReader
+  term-refused l =
+      let ws = words t in
+      let n = length-take-le maxNodes ws (omega (arith, length-words t)) in
+      let fits = fit-take maxNodes ws (words-fit σ few t h) in
+      let p = rw (take-append-drop maxNodes ws, n) at (front-spells (take maxNodes ws) (drop maxNodes ws) fits) in
+      rw (cut-reads (wordSource ws) (forest-cut (nodes-form 0) maxNodes (omega (arith, length-words t))) p)

@@ -1,0 +1,88 @@
+-- The theorems of this crate, as types. Their proofs stand in proofs/Theorems.antt.
+-- Renders: 01, "The order": "it stands above the reader and relies on its promise only"; "Book layout": the widths,
+-- "All ranks differ", "Admissible", "A side has at most 128 nodes"; and that opening and then closing, or closing and
+-- then opening, gives back what was lent.
+-- Reading is total and has one outcome: `readBytes`, `readWords` and `readTerm` are functions into `Reading`.
+use mathlib.Core.List.{List, List·Memᴰ}
+use mathlib.Core.Path.{_≡_}
+use Prim.Native.Nat.{ℕ, _*_, _^_, _≤_, _<_}
+use lib.ListN.{length, getD, take}
+use Rattle.terms.specs.Signature.{Signature, symbolOf, Admissible}
+use Rattle.terms.specs.Term.{Term, size, WellFormed}
+use Rattle.terms.specs.Words.{firstVariable, words, termOf}
+use Rattle.terms.specs.Rewriting.{WellFormedRules}
+use Rattle.format.specs.Errors.{tooManyNodes}
+use Rattle.format.specs.Layout.{symbolCountWidth, weightWidth, ruleCountWidth, arityWidth, rankWidth, maxNodes}
+use Rattle.format.specs.Reading.Reading.{got, fault}
+use Rattle.format.specs.Format.{Sides, RuleFile, systemOf}
+use Rattle.format.specs.Files.{readBytes, readWords, readFirstTerm, readTerm}
+use Rattle.format.specs.Replies.Reply.{accepted}
+use Rattle.format.specs.Operations.{decoded, encoded}
+
+-- ---- the promise
+
+-- A file that is read from some bytes or from some words.
+pub data IsRead (file : RuleFile) : Type 0 where
+  fromBytes : (bytes : List ℕ) (end : ℕ) → readBytes bytes ≡ got file end → IsRead file
+  fromWords : (input : List ℕ) (end : ℕ) → readWords input ≡ got file end → IsRead file
+
+-- Every value is within the width of its field.
+pub record WithinWidths (file : RuleFile) : Type 0 where
+  pub symbolCount : length (file .signature .symbols) < 2 ^ symbolCountWidth
+  pub w0 : file .signature .w0 < 2 ^ weightWidth
+  pub ruleCount : length (file .rules) < 2 ^ ruleCountWidth
+  pub arity : (f : ℕ) → symbolOf (file .signature) f .arity < 2 ^ arityWidth
+  pub weight : (f : ℕ) → symbolOf (file .signature) f .weight < 2 ^ weightWidth
+  pub precedence : (f : ℕ) → symbolOf (file .signature) f .precedence < 2 ^ rankWidth
+
+-- The signature of a file that is read is admissible, and has from 1 to 255 symbols.
+abbrev pub ReadableAdmissible : Type 0
+ReadableAdmissible = (file : RuleFile) → IsRead file →
+    Admissible (file .signature) × (0 < length (file .signature .symbols)) × WithinWidths file
+
+-- The words of a well-formed term of at most 128 nodes.
+pub record IsTerm (σ : Signature) (ws : List ℕ) : Type 0 where
+  pub spelled : ws ≡ words (termOf σ ws)
+  pub wellFormed : WellFormed σ (termOf σ ws)
+  pub short : length ws ≤ maxNodes
+
+-- Each side of a file that is read is the words of a well-formed term; so its rules are well formed.
+abbrev pub ReadableWellFormed : Type 0
+ReadableWellFormed = (file : RuleFile) → IsRead file →
+    ((r : Sides) → List·Memᴰ r (file .rules) → IsTerm (file .signature) (r .left) × IsTerm (file .signature) (r .right))
+    × WellFormedRules (systemOf file)
+
+-- A term that is read from the front of words is the words up to where it ends; with nothing after it, all of them.
+abbrev pub ReadTermWellFormed : Type 0
+ReadTermWellFormed = (σ : Signature) (input nodes : List ℕ) (end : ℕ) →
+    (readFirstTerm σ input ≡ got nodes end → (nodes ≡ take end input) × (end ≡ length nodes) × IsTerm σ nodes)
+    × (readTerm σ input ≡ got nodes end → (nodes ≡ input) × (end ≡ length nodes) × IsTerm σ nodes)
+
+-- The words of a well-formed term read as they are, unless a 129th node is called for.
+abbrev pub WellFormedReads : Type 0
+WellFormedReads = (σ : Signature) → length (σ .symbols) ≤ firstVariable → (t : Term) → WellFormed σ t →
+    (size t ≤ maxNodes → readTerm σ (words t) ≡ got (words t) (size t))
+    × (maxNodes < size t → readTerm σ (words t) ≡ fault tooManyNodes maxNodes)
+
+-- A fault lies within the input, or at its end.
+abbrev pub FaultsWithin : Type 0
+FaultsWithin = (input : List ℕ) (code offset : ℕ) →
+    (readBytes input ≡ fault code offset → offset ≤ 8 * length input)
+    × (readWords input ≡ fault code offset → offset ≤ length input)
+    × ((σ : Signature) → readTerm σ input ≡ fault code offset → offset ≤ length input)
+
+-- ---- the round trips
+
+-- Every accepted file, decoded to words and encoded into an output with room, gives back its bytes.
+abbrev pub DecodeThenEncode : Type 0
+DecodeThenEncode = (bytes output : List ℕ) (n : ℕ) → ((i : ℕ) → getD bytes i 0 < 256) →
+    decoded bytes output .reply ≡ accepted n → (buffer : List ℕ) → length bytes ≤ length buffer →
+    let back = encoded (take n (decoded bytes output .output)) buffer in
+    (back .reply ≡ accepted (length bytes)) × (take (length bytes) (back .output) ≡ bytes)
+
+-- Every accepted list of words, encoded to bytes and decoded into an output with room, gives back its words.
+abbrev pub EncodeThenDecode : Type 0
+EncodeThenDecode = (input output : List ℕ) (n : ℕ) →
+    encoded input output .reply ≡ accepted n → (buffer : List ℕ) → length input ≤ length buffer →
+    let back = decoded (take n (encoded input output .output)) buffer in
+    (back .reply ≡ accepted (length input)) × (take (length input) (back .output) ≡ input)

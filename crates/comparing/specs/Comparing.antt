@@ -32,9 +32,15 @@ module _ (σ : Signature) where
   abbrev pub comparison : Term → Term → Comparison
   comparison s t = record { relation = relation s t; margin = margin σ s t }
 
+-- The left term, then the right one, under a signature.
+unfoldable pub comparedTerms : Signature → List ℕ → List ℕ → Reply Comparison
+comparedTerms σ left right = do
+  s ← fromInput 1 (readTerm σ left)
+  t ← fromInput 2 (readTerm σ right)
+  accepted (comparison σ (termOf σ s) (termOf σ t))
+
+-- 01: comparing: the book, then left, then right.
 unfoldable pub compared : List ℕ → List ℕ → List ℕ → Reply Comparison
 compared bytes left right = do
   file ← fromInput 0 (readBytes bytes)
-  s ← fromInput 1 (readTerm (file .signature) left)
-  t ← fromInput 2 (readTerm (file .signature) right)
-  accepted (comparison (file .signature) (termOf (file .signature) s) (termOf (file .signature) t))
+  comparedTerms (file .signature) left right

@@ -5,4 +5,7 @@ pub mod MultisetLaws
 pub mod MultisetOrder
 pub mod Totality
 pub mod MultisetMaps
+pub mod SumLaws
+pub mod MultisetImages
 pub mod Agreement
+pub mod Restriction

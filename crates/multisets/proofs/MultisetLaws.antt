@@ -14,7 +14,8 @@ use Prim.Native.Nat.{ℕ, _+_, _-_, _<_}
 use native.Mathlib.Omega.{arith}
 use lib.ListN.{length}
 use Rattle.multisets.proofs.Relations.{byTest, IsEquivalence, like-resp-left, like-resp-right}
-use Rattle.multisets.specs.Multiset.{Removal, Rest, keep, remove, some, every, isEmpty, spend, cancel, multisetEqual}
+use Rattle.multisets.specs.Multiset.{Removal, Rest, keep, remove, some, every, isEmpty, spend, cancel}
+use Rattle.multisets.specs.Multiset.{multisetEqual}
 use Rattle.multisets.specs.Multiset.Removal.{without, absent}
 
 -- ---- sums and counts
@@ -138,28 +139,35 @@ module _ {A : Type 0} (like : A → A → Bool) where
       go absent h f = absurd (false≢true (f .0))
 
   module _ (E : IsEquivalence like) where
+    -- A pair more, and an element more that has no partner.
+    difference-pair : {s b : A} {ss ts us : List A} {r : Rest A} → like s b ≡ true → Takes b ts us →
+        Difference ss us r → Difference (s ∷ ss) ts r
+    difference-pair {s} {b} h x d = record {
+      counts = λ a. omega (
+        arith,
+        takes-sum (λ c. bit (like a c)) x,
+        ap bit (like-resp-right like E h a),
+        d .counts a,
+      );
+      sums = λ w k. omega (arith, takes-sum w x, k s b h, d .sums w k);
+    }
+
+    difference-left : {ss ts : List A} {r : Rest A} (s : A) → count like s ts ≡ 0 → Difference ss ts r →
+        Difference (s ∷ ss) ts (record { left = s ∷ r .left; right = r .right })
+    difference-left {ts} s h d = record {
+      counts = λ a. byTest (like a s) (λ e. omega (arith, count-resp like E e ts, d .counts a))
+          λ e. omega (arith, ap bit e, d .counts a);
+      sums = λ w k. omega (arith, d .sums w k);
+    }
+
     pub cancel-difference : (ss ts : List A) → Difference ss ts (cancel like ss ts)
     cancel-difference [] ts = record { counts = λ a. omega arith; sums = λ w k. omega arith }
     cancel-difference (s ∷ ss) ts = go (remove (like s) ts) (remove-found (like s) ts) (cancel-difference ss)
       where
         go : (r : Removal A) → Found (like s) ts r → ((us : List A) → Difference ss us (cancel like ss us)) →
             Difference (s ∷ ss) ts (spend s (cancel like ss) ts r)
-        go (without us) (b, h, x) ih = record {
-          counts =
-              λ a. omega (
-                arith,
-                takes-sum (λ c. bit (like a c)) x,
-                ap bit (like-resp-right like E h a),
-                ih us .counts a,
-              );
-          sums = λ w k. omega (arith, takes-sum w x, k s b h, ih us .sums w k);
-        }
-        go absent h ih = record {
-          counts =
-              λ a. byTest (like a s) (λ e. omega (arith, count-resp like E e ts, ih ts .counts a))
-              λ e. omega (arith, ap bit e, ih ts .counts a);
-          sums = λ w k. omega (arith, ih ts .sums w k);
-        }
+        go (without us) (b, h, x) ih = difference-pair h x (ih us)
+        go absent h ih = difference-left s h (ih ts)
 
     pub isEmpty-counts : (l : List A) → ((a : A) → count like a l ≡ 0) → isEmpty l ≡ true
     isEmpty-counts [] h = refl

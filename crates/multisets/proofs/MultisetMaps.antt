@@ -1,17 +1,54 @@
 -- Multisets under choosing, mapping and flattening.
+--     choose-append, -member, -none, -same            what is chosen of a list; some-member, an element that passes
 --     choose-in, choose-out, multisetEqual-choose     choosing by a test that respects likeness
 --     multisetEqual-map, -flatMap                     maps that keep likeness keep equality
 --     multisetGreater-map                             and, where they keep the order, the extension
-use mathlib.Core.List.{List, [], _∷_, _++_, map, flatMap}
-use mathlib.Core.Path.{_≡_, refl, sym, ap, _∙_}
-use mathlib.Core.Bool.{Bool, true, false, true≢false, false≢true}
+use mathlib.Core.List.{List, [], _∷_, _++_, map, flatMap, List·Memᴰ, List·Memᴰ·head, List·Memᴰ·tail}
+use mathlib.Core.List.{List·Memᴰ·not-nil, append-assoc}
+use mathlib.Core.Path.{_≡_, refl, sym, ap, ap₂, _∙_}
+use mathlib.Core.Bool.{Bool, true, false, cond, true≢false, false≢true}
 use Prim.Native.Nat.{ℕ, _+_, _<_}
 use native.Mathlib.Omega.{arith}
 use Rattle.multisets.proofs.Relations.{byTest, IsEquivalence, IsStrictOrder, like-resp-right}
-use Rattle.multisets.specs.Multiset.{choose, multisetEqual, multisetGreater}
+use Rattle.multisets.specs.Multiset.{choose, some, multisetEqual, multisetGreater}
 use Rattle.multisets.proofs.MultisetLaws.{bit, sum, sum-append, count, Respects, count-append}
 use Rattle.multisets.proofs.MultisetLaws.{count-here, multisetEqual-sum, multisetEqual-counts}
 use Rattle.multisets.proofs.MultisetOrder.{CoversList, multisetGreater-exchange}
+
+-- ---- choosing
+
+module _ {A : Type 0} (p : A → Bool) where
+  pub choose-append : (l m : List A) → choose p (l ++ m) ≡ choose p l ++ choose p m
+  choose-append [] m = refl
+  choose-append (a ∷ l) m =
+      byTest (p a) (λ e. rw e (ap (_∷_ a) (choose-append l m))) λ e. rw e (choose-append l m)
+
+  pub choose-member : (l : List A) {a : A} → List·Memᴰ a (choose p l) → List·Memᴰ a l × (p a ≡ true)
+  choose-member [] m = absurd (List·Memᴰ·not-nil m)
+  choose-member (b ∷ l) {a} m =
+      byTest (p b) (λ e. go e (λ k. choose-member l k) (rw e at m))
+      λ e. let (k, h) = choose-member l (rw e at m) in (List·Memᴰ·tail k, h)
+    where
+      go : p b ≡ true → (List·Memᴰ a (choose p l) → List·Memᴰ a l × (p a ≡ true)) → List·Memᴰ a (b ∷ choose p l) →
+          List·Memᴰ a (b ∷ l) × (p a ≡ true)
+      go e ih (List·Memᴰ·head q) = (List·Memᴰ·head q, rw q e)
+      go e ih (List·Memᴰ·tail k) = let (i, h) = ih k in (List·Memᴰ·tail i, h)
+
+  pub choose-none : (l : List A) → ((a : A) → List·Memᴰ a l → p a ≡ false) → choose p l ≡ []
+  choose-none [] h = refl
+  choose-none (a ∷ l) h = rw (h a (List·Memᴰ·head refl)) (choose-none l λ b m. h b (List·Memᴰ·tail m))
+
+  pub choose-same : (q : A → Bool) (l : List A) → ((a : A) → List·Memᴰ a l → p a ≡ q a) → choose p l ≡ choose q l
+  choose-same q [] h = refl
+  choose-same q (a ∷ l) h =
+      ap₂ (λ (b : Bool) (m : List A). cond b (a ∷ m) m) (h a (List·Memᴰ·head refl))
+      (choose-same q l λ b m. h b (List·Memᴰ·tail m))
+
+  pub some-member : (l : List A) → some p l ≡ true → (a : A) × List·Memᴰ a l × (p a ≡ true)
+  some-member [] e = absurd (false≢true e)
+  some-member (a ∷ l) e =
+      byTest (p a) (λ h. (a, List·Memᴰ·head refl, h))
+      λ h. let (b, m, k) = some-member l (rw h at e) in (b, List·Memᴰ·tail m, k)
 
 module _ {A : Type 0} (like : A → A → Bool) (E : IsEquivalence like) (p : A → Bool) (k : Respects like p) where
   told-apart : (a b : A) → (p a ≡ p b → ⊥) → like a b ≡ false
@@ -45,10 +82,17 @@ module _ {A : Type 0} (like : A → A → Bool) (E : IsEquivalence like) (p : A 
       ))
       λ f. omega (arith, choose-out a ss f, choose-out a ts f)
 
+-- ---- mapping and flattening
+
 module _ {A B : Type 0} where
   pub sum-map : (w : B → ℕ) (f : A → B) (l : List A) → sum w (map f l) ≡ sum (λ (a : A). w (f a)) l
   sum-map w f [] = refl
   sum-map w f (a ∷ l) = omega (arith, sum-map w f l)
+
+  pub flatMap-append : (f : A → List B) (l m : List A) → flatMap f (l ++ m) ≡ flatMap f l ++ flatMap f m
+  unfolding flatMap
+  flatMap-append f [] m = refl
+  flatMap-append f (a ∷ l) m = rw (flatMap-append f l m, append-assoc)
 
   pub sum-flatMap : (w : B → ℕ) (f : A → List B) (l : List A) → sum w (flatMap f l) ≡ sum (λ (a : A). sum w (f a)) l
   unfolding flatMap

@@ -6,19 +6,21 @@
 --     multisetGreater-mono, -same, -append       lists added to both sides and taken away
 --     multisetGreater-part, multiset-part        proper parts
 --     multisetGreater-exchange, -lists           the existential form of the articles
+--     multisetGreater-one                        one element above all of a list
 -- That it is total where the order is stands in Totality.
-use mathlib.Core.List.{List, [], _∷_, _++_}
+use mathlib.Core.List.{List, [], _∷_, _++_, List·Memᴰ}
 use mathlib.Core.Path.{_≡_, sym, ap, _∙_}
 use mathlib.Core.Logic.{_↔_, _⊎_, inl, inr}
 use mathlib.Core.Bool.{Bool, true, false, not, false≢true, and-eq-true-iff as both}
-use Prim.Native.Nat.{_+_, _-_, _≤_, _<_}
+use Prim.Native.Nat.{_+_, _≤_, _<_}
 use native.Mathlib.Omega.{arith}
 use borrow.Author.Tests.{not-false}
 use Rattle.multisets.specs.Multiset.{some, every, isEmpty, covers, cancel, multisetEqual, multisetGreater}
-use Rattle.multisets.proofs.Relations.{byTest, byOrder, sameTest, IsEquivalence, IsStrictOrder, greater-resp-left}
+use Rattle.multisets.proofs.Relations.{byTest, byOrder, sameTest, IsEquivalence, IsStrictOrder}
+use Rattle.multisets.proofs.Relations.{greater-resp-left}
 use Rattle.multisets.proofs.MultisetLaws.{bit, count, count-append, count-resp, isEmpty-sum, cancel-difference}
 use Rattle.multisets.proofs.MultisetLaws.{multisetEqual-counts, multisetEqual-equivalence, nonempty-counts}
-use Rattle.multisets.proofs.MultisetLaws.{some-counts, every-counts}
+use Rattle.multisets.proofs.MultisetLaws.{count-here, count→member, some-counts, every-counts}
 
 module _ {A : Type 0} (greater : A → A → Bool) where
   -- Something is on the left, and above each thing on the right stands something on the left.
@@ -240,30 +242,30 @@ module _ {A : Type 0} (like : A → A → Bool) where
           (λ h. (p, omega (arith, x .fromLeft p, x .fromRight p), m .reach))
           λ h. let (w, j, f) = x .covers .over p (omega arith) in absurd (m .highest w j j f)
 
+      -- What is cancelled is common, and what is left is exchanged.
+      cancel-parts : (ss ts : List A) (a : A) → let r = cancel like ss ts in
+          let common = cancel like ss (r .left) .left in
+          (count like a ss ≡ count like a common + count like a (r .left)) ×
+          (count like a ts ≡ count like a common + count like a (r .right))
+      cancel-parts ss ts a =
+          let r = cancel like ss ts in
+          omega (arith, cancel-difference like E ss ts .counts a, cancel-difference like E ss (r .left) .counts a)
+
+      exchange-of-cancel : (ss ts : List A) → multisetGreater like greater ss ts ≡ true → Exchange greater ss ts
+      unfolding multisetGreater
+      exchange-of-cancel ss ts e = let r = cancel like ss ts in record {
+        common = cancel like ss (r .left) .left;
+        left = r .left;
+        right = r .right;
+        fromLeft = λ a. cancel-parts ss ts a .0;
+        fromRight = λ a. cancel-parts ss ts a .1;
+        covers = covers-counts (r .left) (r .right) .0 e;
+      }
+
       pub multisetGreater-exchange : (ss ts : List A) →
           multisetGreater like greater ss ts ≡ true ↔ Exchange greater ss ts
-      unfolding multisetGreater
       multisetGreater-exchange ss ts = (
-        λ e. let r = cancel like ss ts in record {
-          common = cancel like ss (r .left) .left;
-          left = r .left;
-          right = r .right;
-          fromLeft =
-              λ a. omega (
-                arith,
-                cancel-difference like E ss ts .counts a,
-                cancel-difference like E ss
-                    (r .left) .counts a,
-              );
-          fromRight =
-              λ a. omega (
-                arith,
-                cancel-difference like E ss ts .counts a,
-                cancel-difference like E ss
-                    (r .left) .counts a,
-              );
-          covers = covers-counts (r .left) (r .right) .0 e;
-        },
+        exchange-of-cancel ss ts,
         λ x. multisetGreater-counts ss ts .1 (covering-rise greater (exchange-rise ss ts x)
             (λ t k. omega (arith, x .fromLeft t, x .fromRight t)) (x .covers)),
       )
@@ -279,3 +281,12 @@ module _ {A : Type 0} (like : A → A → Bool) where
         fromLeft = λ a. count-append like a zs xs;
         fromRight = λ a. omega (arith, multisetEqual-counts like E zs zs' .0 e a, count-append like a zs' ys);
       })
+
+      pub multisetGreater-one : (s : A) (l : List A) → ((t : A) → List·Memᴰ t l → greater s t ≡ true) →
+          multisetGreater like greater (s ∷ []) l ≡ true
+      multisetGreater-one s l h =
+          multisetGreater-lists [] [] (s ∷ []) l (multisetEqual-equivalence like E .reflexive []) (record {
+            top = (s, count-here like E s []);
+            over = λ t n. let (u, m, e) = count→member like E t l n in
+                (s, count-here like E s [], O .respects (E .reflexive s) (E .symmetric e) (h u m));
+          })

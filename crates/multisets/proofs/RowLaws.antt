@@ -1,8 +1,9 @@
 -- The laws of rows: likeness element by element, and the lexicographic extension of an order.
 --     rowEqual-length, rowEqual-equivalence     equal lengths; an equivalence
 --     rowGreater-order                          a strict order; no equal lengths are asked
+--     rowGreater-among                          one element greater, the others the same
 -- That it is total where the order is stands in Totality.
-use mathlib.Core.List.{List, [], _∷_}
+use mathlib.Core.List.{List, [], _∷_, _++_}
 use mathlib.Core.Path.{_≡_, refl, ap}
 use mathlib.Core.Bool.{Bool, true, false≢true, and-eq-true-iff as both}
 use Prim.Native.Nat.{suc}
@@ -113,3 +114,10 @@ module _ {A : Type 0} (like : A → A → Bool) where
         irreflexive = λ {a} {b}. rowGreater-irrefl a b;
         respects = λ {a} {a'} {b} {b'}. rowGreater-resp a a' b b';
       }
+
+      -- One element greater, the others the same.
+      pub rowGreater-among : (ss ts : List A) {s t : A} → greater s t ≡ true →
+          rowGreater like greater (ss ++ (s ∷ ts)) (ss ++ (t ∷ ts)) ≡ true
+      rowGreater-among [] ts g = first-row ts ts (ahead g)
+      rowGreater-among (r ∷ ss) ts {s} {t} g =
+          first-row (ss ++ (s ∷ ts)) (ss ++ (t ∷ ts)) (level (E .reflexive r) (rowGreater-among ss ts g))

@@ -12,7 +12,7 @@ use Rattle.multisets.proofs.Relations.{Compared, above, alike, below, c
 use Rattle.multisets.proofs.RowLaws.{ahead, level, first-row}
 use Rattle.multisets.proofs.MultisetLaws.{bit, count, count-append, count-resp, count→member, isEmpty-sum}
 use Rattle.multisets.proofs.MultisetLaws.{cancel-difference, multisetEqual-counts, nonempty-counts}
-use Rattle.multisets.proofs.MultisetOrder.{Dominates, climb, multisetGreater-counts}
+use Rattle.multisets.proofs.MultisetOrder.{Dominates, Peak, climb, multisetGreater-counts}
 
 module _ {A : Type 0} (like : A → A → Bool) (E : IsEquivalence like)
     (greater : A → A → Bool) (O : IsStrictOrder like greater) where
@@ -31,40 +31,46 @@ module _ {A : Type 0} (like : A → A → Bool) (E : IsEquivalence like)
       go t n (alike e) = absurd (omega (arith, count-resp like E e ss, count-resp like E e ts))
       go t n (below g) = absurd (h t n g)
 
-  pub multisetCompared : (ss ts : List A) → Total ss ts →
-      Compared (multisetEqual like) (multisetGreater like greater) ss ts
-  multisetCompared ss ts total =
-      let r = cancel like ss ts in
-      let l = r .left ++ r .right in
-      byTest (not (isEmpty l))
-      (λ e. let w = nonempty-counts like E l .0 e in
-      let m = climb like E greater O l [] l (w .0) (w .1) in
-      let p = m .element in
-      byOrder (count like p ts) (count like p ss)
-      (λ h. above (multisetGreater-counts like E greater O ss ts .1 (summit ss ts near p h
-      λ z k. m .highest z (omega (arith, rests z)) (omega (arith, rests z)))))
-      λ h. below (multisetGreater-counts like E greater O ts ss .1
-      (summit ts ss (λ a b i j. compared-sym like E greater O (near b a j i)) p (omega (arith, rests p))
-      λ z k. m .highest z (omega (arith, rests z)) (omega (arith, rests z)))))
-      λ e. alike (multisetEqual-counts like E ss ts .1
-      λ a. omega (arith, isEmpty-sum (λ b. bit (like a b)) l (not-false (isEmpty l) e), rests a))
-    where
+  module _ (ss ts : List A) where
+    -- What is in surplus on either side.
+    abbrev rest : List A
+    rest = cancel like ss ts .left ++ cancel like ss ts .right
+
+    rest-counts : (a : A) →
+        count like a rest ≡ (count like a ss - count like a ts) + (count like a ts - count like a ss)
+    rest-counts a =
+        omega (
+          arith,
+          count-append like a (cancel like ss ts .left) (cancel like ss ts .right),
+          cancel-difference like E ss ts .counts a,
+        )
+
+    module _ (total : Total ss ts) where
       near : (a b : A) → 0 < count like a ss → 0 < count like b ts → Compared like greater a b
       near a b i j =
-          let u = count→member like E a ss i in
-          let v = count→member like E b ts j in
-          compared-resp-like like E greater O (E .symmetric (u .2)) (E .symmetric (v .2))
-          (total (u .0) (v .0) (u .1) (v .1))
+          let (c, m, e) = count→member like E a ss i in
+          let (d, n, f) = count→member like E b ts j in
+          compared-resp-like like E greater O (E .symmetric e) (E .symmetric f) (total c d m n)
 
-      rests : (a : A) →
-          count like a (cancel like ss ts .left ++ cancel like ss ts .right) ≡
-          (count like a ss - count like a ts) + (count like a ts - count like a ss)
-      rests a =
-          omega (
-            arith,
-            count-append like a (cancel like ss ts .left) (cancel like ss ts .right),
-            cancel-difference like E ss ts .counts a,
-          )
+      -- A highest element of what is in surplus decides.
+      by-peak : (x : A) → Peak like E greater O rest [] rest x →
+          Compared (multisetEqual like) (multisetGreater like greater) ss ts
+      by-peak x m =
+          let p = m .element in
+          byOrder (count like p ts) (count like p ss)
+          (λ h. above (multisetGreater-counts like E greater O ss ts .1 (summit ss ts near p h
+          λ z k. m .highest z (omega (arith, rest-counts z)) (omega (arith, rest-counts z)))))
+          λ h. below (multisetGreater-counts like E greater O ts ss .1 (summit ts ss
+          (λ a b i j. compared-sym like E greater O (near b a j i)) p (omega (arith, rest-counts p, m .surplus))
+          λ z k. m .highest z (omega (arith, rest-counts z)) (omega (arith, rest-counts z))))
+
+      pub multisetCompared : Compared (multisetEqual like) (multisetGreater like greater) ss ts
+      multisetCompared =
+          byTest (not (isEmpty rest))
+          (λ e. let (x, h) = nonempty-counts like E rest .0 e in
+          by-peak x (climb like E greater O rest [] rest x h))
+          λ e. alike (multisetEqual-counts like E ss ts .1
+          λ a. omega (arith, isEmpty-sum (λ b. bit (like a b)) rest (not-false (isEmpty rest) e), rest-counts a))
 
   pub rowCompared : (l m : List A) → length l ≡ length m → Total l m →
       Compared (rowEqual like) (rowGreater like greater) l m

@@ -1,27 +1,28 @@
 -- The test of AC-equivalence is an equivalence at every depth, and from the size of its first term on the depth
 -- does not matter.
 --     isEquivalent-equivalence                           the test is an equivalence
---     isEquivalent-app                                   what it says of two applications
+--     isEquivalent-app, isEquivalent-app-var             what it says of two applications; of one and a variable
 --     symbol-of-isEquivalent, arguments-of-isEquivalent  the same, taken apart
 --     isEquivalent-of-arguments                          and put together
+--     argumentsAlike-agree                               tests that agree on the parts
 --     isEquivalentTo-depth                               it is the test at every depth from the size on
 -- That it decides Equivalent is in EquivalenceComplete and EquivalenceSound.
 use mathlib.Core.Path.{_≡_, refl, sym, ap, ap₂}
-use mathlib.Core.Bool.{Bool, true, cond, _&&_, false≢true, and-eq-true-iff as both}
-use Prim.Native.Nat.{ℕ, suc, zero, _+_, _≤_}
+use mathlib.Core.Bool.{Bool, true, false, cond, _&&_, and-eq-true-iff as both, false≢true}
+use Prim.Native.Nat.{ℕ, suc, zero, _+_, _≤_, _<_}
 use native.Mathlib.Omega.{arith}
 use lib.Dec.{eqb}
 use borrow.Author.Tests.{eqb-true}
-use Rattle.terms.specs.Signature.{Signature, symbolOf}
-use Rattle.terms.specs.Term.{Term, Terms, size, sizes, row, flattenings}
-use Rattle.terms.specs.Term.Term.{var, app}
 use Rattle.multisets.specs.Multiset.{multisetEqual, rowEqual}
+use Rattle.terms.specs.Signature.{Signature, symbolOf}
+use Rattle.terms.specs.Term.{Term, Terms, row, size, sizes, flattenings}
+use Rattle.terms.specs.Term.Term.{var, app}
 use Rattle.terms.specs.Equivalence.{argumentsAlike, isEquivalentTo, isEquivalent}
-use Rattle.multisets.proofs.Relations.{IsEquivalence, equivalence-cond, equivalence-along, eqb-self}
-use Rattle.multisets.proofs.MultisetLaws.{multisetEqual-equivalence}
+use Rattle.multisets.proofs.Relations.{eqb-self, IsEquivalence, equivalence-cond, equivalence-along}
 use Rattle.multisets.proofs.RowLaws.{rowEqual-equivalence}
+use Rattle.multisets.proofs.MultisetLaws.{multisetEqual-equivalence}
 use Rattle.multisets.proofs.Agreement.{multisetEqual-agree, rowEqual-agree}
-use Rattle.terms.proofs.TermLaws.{size-pos, row-smaller, flattenings-smaller}
+use Rattle.terms.proofs.TermLaws.{size-pos, Parts, smaller-parts, any-parts, AgreeOn, each-agree}
 
 module _ (σ : Signature) where
   argumentsAlike-equivalence : (like : Term → Term → Bool) → IsEquivalence like → (f : ℕ) →
@@ -74,14 +75,21 @@ module _ (σ : Signature) where
         transitive = λ {a} {b} {c}. deeper-trans n E a b c;
       }
 
-  argumentsAlike-agree : (like like' : Term → Term → Bool) (f : ℕ) (ss ts : Terms) →
+  pub argumentsAlike-agree : (P Q : Term → Type 0) (like like' : Term → Term → Bool) → AgreeOn P Q like like' →
+      (f : ℕ) (ss ts : Terms) → Parts P (app f ss) → Parts Q (app f ts) →
+      argumentsAlike σ like f ss ts ≡ argumentsAlike σ like' f ss ts
+  argumentsAlike-agree P Q like like' h f ss ts p q =
+      ap₂ (cond (symbolOf σ f .ac))
+      (multisetEqual-agree like like' (flattenings f ss) (flattenings f ts) (each-agree h (p .1 f) (q .1 f)))
+      (rowEqual-agree like like' (row ss) (row ts) (each-agree h (p .0) (q .0)))
+
+  -- Tests that agree on smaller terms on the left.
+  smaller-agree : (like like' : Term → Term → Bool) (f : ℕ) (ss ts : Terms) →
       ((s t : Term) → size s ≤ sizes ss → like s t ≡ like' s t) →
       argumentsAlike σ like f ss ts ≡ argumentsAlike σ like' f ss ts
-  argumentsAlike-agree like like' f ss ts h =
-      ap₂ (cond (symbolOf σ f .ac))
-      (multisetEqual-agree like like' (flattenings f ss) (flattenings f ts)
-      λ s t m k. h s t (flattenings-smaller ss f s m))
-      (rowEqual-agree like like' (row ss) (row ts) λ s t m k. h s t (row-smaller ss s m))
+  smaller-agree like like' f ss ts h =
+      argumentsAlike-agree (λ s. size s < size (app f ss)) (λ t. Unit {0}) like like' (λ s t l u. h s t (omega arith)) f
+      ss ts (smaller-parts (app f ss)) (any-parts (app f ts))
 
   depth : (n m : ℕ) (s t : Term) → size s ≤ n → size s ≤ m → isEquivalentTo σ n s t ≡ isEquivalentTo σ m s t
   unfolding isEquivalentTo
@@ -91,7 +99,7 @@ module _ (σ : Signature) where
   depth (suc n) (suc m) (var x) (app g ts) h k = refl
   depth (suc n) (suc m) (app f ss) (var y) h k = refl
   depth (suc n) (suc m) (app f ss) (app g ts) h k =
-      ap (_&&_ (eqb f g)) (argumentsAlike-agree (isEquivalentTo σ n) (isEquivalentTo σ m) f ss ts
+      ap (_&&_ (eqb f g)) (smaller-agree (isEquivalentTo σ n) (isEquivalentTo σ m) f ss ts
       λ s t l. depth n m s t (omega arith) (omega arith))
 
   pub isEquivalentTo-depth : (n : ℕ) (s t : Term) → size s ≤ n → isEquivalent σ s t ≡ isEquivalentTo σ n s t
@@ -103,8 +111,12 @@ module _ (σ : Signature) where
   unfolding isEquivalentTo
   isEquivalent-app f g ss ts =
       rw (isEquivalentTo-depth (suc (sizes ss)) (app f ss) (app g ts) (omega arith))
-      (ap (_&&_ (eqb f g)) (argumentsAlike-agree (isEquivalentTo σ (sizes ss)) (isEquivalent σ) f ss ts
+      (ap (_&&_ (eqb f g)) (smaller-agree (isEquivalentTo σ (sizes ss)) (isEquivalent σ) f ss ts
       λ s t l. sym (isEquivalentTo-depth (sizes ss) s t l)))
+
+  pub isEquivalent-app-var : (f y : ℕ) (ss : Terms) → isEquivalent σ (app f ss) (var y) ≡ false
+  unfolding isEquivalentTo
+  isEquivalent-app-var f y ss = isEquivalentTo-depth (suc (sizes ss)) (app f ss) (var y) (omega arith)
 
   pub isEquivalent-equivalence : IsEquivalence (isEquivalent σ)
   isEquivalent-equivalence = record {

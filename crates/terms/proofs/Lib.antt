@@ -1,11 +1,16 @@
--- The laws of the definitions of specs/, from multisets over any relation up to the theorems of specs/Statements.antt.
+-- The laws of the definitions of specs/, up to the theorems of specs/Statements.antt.
 pub mod TermLaws
+pub mod FlatteningLaws
+pub mod FormedTest
 pub mod EquivalenceLaws
 pub mod EquivalenceComplete
 pub mod EquivalenceMeasures
 pub mod EquivalenceSound
+pub mod OrderLaws
 pub mod WordsLaws
 pub mod RewritingLaws
-mod SampleStep
-mod TrapChecks
+pub mod VariableLaws
+pub mod WeightLaws
+pub mod SubstitutionLaws
 pub mod Theorems
+mod TrapChecks

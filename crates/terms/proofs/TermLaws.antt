@@ -1,21 +1,26 @@
 -- The parts of a term, its arguments and the elements of its flattenings: they are smaller than it, and well formed
 -- where it is.
---     row-arguments, arguments-row                          a symbol's arguments as a list and back
+--     row-arguments, arguments-row, among-member            a symbol's arguments as a list and back
 --     Hereditary, row-each, flattening-each                 a property that goes down to the parts holds of them
 --     row-smaller, flattenings-smaller, flattenings-formed  two such properties
-use mathlib.Core.List.{List, [], _∷_, List·Memᴰ, List·Memᴰ·append-cases, List·Memᴰ·head, List·Memᴰ·tail}
-use mathlib.Core.List.{List·Memᴰ·not-nil, List·Memᴰ·eq-of-singleton}
+--     Each, Parts, AgreeOn, each-agree                      what holds of a list, of all parts; tests that agree
+use mathlib.Core.List.{List, [], _∷_, _++_, List·Memᴰ, List·Memᴰ·head, List·Memᴰ·tail, List·Memᴰ·append-cases}
+use mathlib.Core.List.{List·Memᴰ·eq-of-singleton, List·Memᴰ·not-nil, Memᴰ·append-right}
 use mathlib.Core.Logic.{⊎-elim}
 use mathlib.Core.Path.{_≡_, refl, ap}
+use mathlib.Core.Bool.{Bool}
 use Prim.Native.Nat.{ℕ, _≤_, _<_}
 use native.Mathlib.Omega.{arith}
 use lib.Dec.{eqb}
+use Rattle.multisets.specs.Multiset.{choose}
 use Rattle.terms.specs.Signature.{Signature}
-use Rattle.terms.specs.Term.{Term, Terms, size, sizes, row, arguments, flattening, flattenings, WellFormed}
+use Rattle.terms.specs.Term.{Term, Terms, row, arguments, size, sizes, flattening, flattenings, WellFormed}
 use Rattle.terms.specs.Term.{WellFormeds}
 use Rattle.terms.specs.Term.Term.{var, app}
 use Rattle.terms.specs.Term.Terms.{nil, cons}
 use Rattle.multisets.proofs.Relations.{byTest}
+use Rattle.multisets.proofs.MultisetMaps.{choose-member}
+use Rattle.multisets.proofs.Agreement.{Agree}
 
 pub row-arguments : (l : List Term) → row (arguments l) ≡ l
 row-arguments [] = refl
@@ -24,6 +29,10 @@ row-arguments (t ∷ l) = ap (_∷_ t) (row-arguments l)
 pub arguments-row : (ts : Terms) → arguments (row ts) ≡ ts
 arguments-row nil = refl
 arguments-row (cons t ts) = ap (cons t) (arguments-row ts)
+
+-- An argument among others.
+pub among-member : (ss ts : List Term) (t : Term) → List·Memᴰ t (row (arguments (ss ++ (t ∷ ts))))
+among-member ss ts t = rw row-arguments (Memᴰ·append-right ss (List·Memᴰ·head refl))
 
 pub size-pos : (t : Term) → 0 < size t
 size-pos (var x) = omega arith
@@ -69,3 +78,39 @@ flattenings-smaller ts f u = flattenings-each (small (sizes ts)) u ts f (omega a
 pub flattenings-formed : (σ : Signature) (ts : Terms) (f : ℕ) → WellFormeds σ ts → (u : Term) →
     List·Memᴰ u (flattenings f ts) → WellFormed σ u
 flattenings-formed σ ts f w u = flattenings-each (formed σ) u ts f w
+
+-- ---- tests of parts
+
+abbrev pub Each : (Term → Type 0) → List Term → Type 0
+Each P l = (a : Term) → List·Memᴰ a l → P a
+
+pub each-choose : {P : Term → Type 0} (p : Term → Bool) (l : List Term) → Each P l → Each P (choose p l)
+each-choose p l h a m = h a (choose-member p l m .0)
+
+-- The arguments of a term, and the elements of their flattenings.
+abbrev pub Parts : (Term → Type 0) → Term → Type 0
+Parts P (var x) = Unit {0}
+Parts P (app g ts) = Each P (row ts) × ((f : ℕ) → Each P (flattenings f ts))
+
+pub smaller-parts : (s : Term) → Parts (λ (a : Term). size a < size s) s
+smaller-parts (var x) = tt
+smaller-parts (app f ts) = (
+  λ a m. omega (arith, row-smaller ts a m),
+  λ g a m. omega (arith, flattenings-smaller ts g a m),
+)
+
+pub any-parts : (t : Term) → Parts (λ (b : Term). Unit {0}) t
+any-parts (var x) = tt
+any-parts (app f ts) = (λ a m. tt, λ g a m. tt)
+
+pub formed-parts : (σ : Signature) (t : Term) → WellFormed σ t → Parts (WellFormed σ) t
+formed-parts σ (var x) w = tt
+formed-parts σ (app f ts) w = (λ a. row-each (formed σ) a ts (w .2), λ g. flattenings-formed σ ts g (w .2))
+
+-- Two tests that agree where P holds on the left and Q on the right.
+abbrev pub AgreeOn : (Term → Type 0) → (Term → Type 0) → (Term → Term → Bool) → (Term → Term → Bool) → Type 0
+AgreeOn P Q test test' = (a b : Term) → P a → Q b → test a b ≡ test' a b
+
+pub each-agree : {P Q : Term → Type 0} {test test' : Term → Term → Bool} → AgreeOn P Q test test' →
+    {l m : List Term} → Each P l → Each Q m → Agree l m test test'
+each-agree k p q a b i j = k a b (p a i) (q b j)

@@ -1,0 +1,109 @@
+-- The claims of specs/Guarantees.antt.
+use mathlib.Core.List.{List}
+use mathlib.Core.Path.{_≡_, refl, sym, _∙_}
+use Prim.Native.Nat.{ℕ, _≤_}
+use native.Mathlib.Omega.{arith}
+use lib.ListN.{length, getD}
+use Rattle.terms.specs.Signature.{Admissible}
+use Rattle.terms.specs.Term.Term.{var}
+use Rattle.terms.specs.Words.{firstVariable}
+use Rattle.terms.specs.Rewriting.{Rule, WellFormedRules, AllDecreasing}
+use Rattle.theory.proofs.Theorems.{greater-irreflexive, greater-transitive, closed-under-contexts, derivations-descend}
+use Rattle.theory.proofs.Theorems.{step-ceiling}
+use Rattle.theory.proofs.Theorems.{exactly-one-mark, decreasing-marks, test-decides-article}
+use Rattle.format.specs.Reading.{Reading}
+use Rattle.format.specs.Reading.Reading.{got, fault}
+use Rattle.format.specs.Format.{RuleFile, systemOf}
+use Rattle.format.specs.Files.{readBytes, readTerm}
+use Rattle.format.specs.Replies.{_>>=_, fromInput}
+use Rattle.format.specs.Statements.{IsRead}
+use Rattle.format.specs.Statements.IsRead.{fromBytes}
+use Rattle.format.proofs.Theorems.{readable-admissible, readable-well-formed}
+use Rattle.comparing.specs.Comparing.{comparedTerms, compared}
+use Rattle.guarantees.specs.Guarantees.{Holds, AllFall, ReadableOrder, DerivationsDescend, DerivationsBounded}
+use Rattle.guarantees.specs.Guarantees.{Like, LikeComparisonsAgree, MarksExact, FallingCounted}
+use Rattle.guarantees.proofs.MarkedLaws.{marks-of-test, all-decreasing, mark-written, falling-counted}
+use Rattle.guarantees.proofs.MarkedLaws.{length-rules, getD-member}
+use Rattle.guarantees.proofs.LikeLaws.{compares, like-reads, compared-like}
+
+-- ---- what a readable file promises
+
+module _ (bytes : List ℕ) (file : RuleFile) (h : Holds bytes file) where
+  read : IsRead file
+  read = fromBytes bytes (h .0) (h .1)
+
+  admissible : Admissible (file .signature)
+  admissible = readable-admissible file read .0
+
+  few : length (file .signature .symbols) ≤ firstVariable
+  few = omega (arith, readable-admissible file read .2 .symbolCount)
+
+  rules-formed : WellFormedRules (systemOf file)
+  rules-formed = readable-well-formed file read .1
+
+  rules-decrease : AllFall bytes → AllDecreasing (systemOf file)
+  rules-decrease a r m =
+      let (v, w) = rules-formed r m in
+      let e = all-decreasing bytes (a .marks) file (h .0) (h .1) (a .summary) (a .reply) (a .all) r m in
+      decreasing-marks (file .signature) admissible (r .left) (r .right) v w .1 (marks-of-test _ e)
+
+pub readable-order : ReadableOrder
+readable-order bytes file h = let A = admissible bytes file h in record {
+  irreflexive = λ s t x y. greater-irreflexive (file .signature) A s t (x .0) (y .0);
+  transitive = λ s t u x y z. greater-transitive (file .signature) A s t (x .0) (y .0) u (z .0);
+  closed = closed-under-contexts (file .signature) A;
+}
+
+pub derivations-descend-read : DerivationsDescend
+derivations-descend-read bytes file h a s t d x =
+    derivations-descend (systemOf file) (admissible bytes file h) (rules-formed bytes file h)
+    (rules-decrease bytes file h a) s t d
+
+pub derivations-bounded : DerivationsBounded
+derivations-bounded bytes file h a =
+    step-ceiling (systemOf file) (admissible bytes file h) (rules-formed bytes file h) (rules-decrease bytes file h a)
+
+-- ---- like comparisons
+
+-- What comparing gives, by what its bytes read as.
+compared-reads : (bytes left right : List ℕ) (r : Reading RuleFile) → readBytes bytes ≡ r → compared bytes left right ≡
+    (_>>=_ (fromInput 0 r) λ f. compares (f .signature) (readTerm (f .signature) left) (readTerm (f .signature) right))
+unfolding compared comparedTerms
+compared-reads bytes left right r e = rw e
+
+module _ (bytes left left' right right' : List ℕ)
+    (h : (file : RuleFile) → Holds bytes file → Like (file .signature) left left' × Like (file .signature) right right')
+  where
+    like-reading : (r : Reading RuleFile) → readBytes bytes ≡ r →
+        compared bytes left right ≡ compared bytes left' right'
+    like-reading (fault code offset) e =
+        compared-reads bytes left right _ e ∙ sym (compared-reads bytes left' right' _ e)
+    like-reading (got file at) e =
+        let A = admissible bytes file (at, e) in
+        let f = few bytes file (at, e) in
+        let (p, q) = h file (at, e) in
+        compared-reads bytes left right _ e
+        ∙ compared-like (file .signature) A (like-reads (file .signature) A f p) (like-reads (file .signature) A f q)
+        ∙ sym (compared-reads bytes left' right' _ e)
+
+pub like-comparisons-agree : LikeComparisonsAgree
+like-comparisons-agree bytes left left' right right' h =
+    like-reading bytes left left' right right' h (readBytes bytes) refl
+
+-- ---- marks
+
+pub marks-exact : MarksExact
+marks-exact bytes marks file summary h e i l =
+    let A = admissible bytes file h in
+    let r : Rule = getD (systemOf file .rules) i (record { left = var 0; right = var 0 }) in
+    let m = getD-member (systemOf file .rules) _ i (omega (arith, length-rules file)) in
+    let (v, w) = rules-formed bytes file h r m in
+    let (to, from) = decreasing-marks (file .signature) A (r .left) (r .right) v w in
+    let (down, up) = test-decides-article (file .signature) A (r .left) (r .right) v w in
+    rw (mark-written bytes marks file (h .0) (h .1) summary e i l (record { left = var 0; right = var 0 })) record {
+      holds = exactly-one-mark (file .signature) A (r .left) (r .right) v w;
+      decreasing = (λ m. down (from m), λ g. to (up g));
+    }
+
+pub falling-counted-read : FallingCounted
+falling-counted-read bytes marks file summary h e = falling-counted bytes marks file (h .0) (h .1) summary e

@@ -1,0 +1,2 @@
+-- The claims of demands 2 and 3, over what the operations give back.
+pub mod Guarantees

@@ -1,0 +1,98 @@
+-- The theorems of specs/Statements.antt and specs/StepStatements.antt.
+use mathlib.Core.Path.{refl}
+use native.Mathlib.Omega.{arith}
+use Rattle.terms.specs.Signature.{Signature}
+use Rattle.terms.specs.Equivalence.{isEquivalentTo, isEquivalent}
+use Rattle.terms.specs.Order.{isGreater}
+use Rattle.terms.specs.Rewriting.{System}
+use Rattle.theory.specs.Statements.{Irreflexive, Transitive, OrderInvariant, MarkInvariant, ExactlyOneMark}
+use Rattle.theory.specs.Statements.{DecreasingMarks, MarkNine, EquivalenceUnfolds, OrderUnfolds}
+use Rattle.theory.specs.Statements.{TestDecidesArticle, TotalOnExpressions, GreaterThanParts}
+use Rattle.theory.specs.Statements.{ClosedUnderContexts, ClosedUnderSubstitutions}
+use Rattle.theory.specs.StepStatements.{NodesBounded, StepsDecrease, DerivationsDescend, StepCeiling}
+use Rattle.theory.specs.StepStatements.{SampleAdmissible}
+use Rattle.multisets.proofs.Relations.{refuted}
+use Rattle.terms.proofs.EquivalenceLaws.{isEquivalent-app, isEquivalent-app-var}
+use Rattle.terms.proofs.EquivalenceComplete.{Equivalent→isEquivalent}
+use Rattle.terms.proofs.EquivalenceMeasures.{formed-resp-equivalent}
+use Rattle.terms.proofs.OrderLaws.{isGreater-unfolds}
+use Rattle.terms.proofs.WeightLaws.{nodes-le-weight}
+use Rattle.theory.proofs.StrictOrder.{isGreater-order, greater-resp-like, greater-not-equivalent}
+use Rattle.theory.proofs.MarkLaws.{mark-exact, mark-holds, mark-greater, mark-equivalent, mark-resp-like}
+use Rattle.theory.proofs.TotalOrder.{exactly-one}
+use Rattle.theory.proofs.ArticleComplete.{isGreater→Greater}
+use Rattle.theory.proofs.ArticleSound.{Greater→isGreater}
+use Rattle.theory.proofs.Contexts.{greater-part, greater-fill}
+use Rattle.theory.proofs.Substitutions.{greater-substitute}
+use Rattle.theory.proofs.Steps.{step-decreases, along-descends}
+use Rattle.theory.proofs.Ceiling.{stepCount-ceiling}
+use Rattle.theory.proofs.Examples.{admissible}
+
+module _ (σ : Signature) where
+  pub greater-irreflexive : Irreflexive σ
+  greater-irreflexive A s t v w d = refuted (isGreater σ s t) λ g. greater-not-equivalent σ A s t v w g d
+
+  pub greater-transitive : Transitive σ
+  greater-transitive A s t v w u x = isGreater-order σ A .transitive v w x
+
+  pub mark-invariant : MarkInvariant σ
+  mark-invariant A s t v w s' t' d e =
+      mark-resp-like σ A s s' t t' v (formed-resp-equivalent σ d .0 v) w (formed-resp-equivalent σ e .0 w)
+      (Equivalent→isEquivalent σ d) (Equivalent→isEquivalent σ e)
+
+  pub order-invariant : OrderInvariant σ
+  order-invariant A s t v w s' t' d e =
+      greater-resp-like σ A s s' t t' v (formed-resp-equivalent σ d .0 v) w (formed-resp-equivalent σ e .0 w)
+      (Equivalent→isEquivalent σ d) (Equivalent→isEquivalent σ e)
+
+  pub exactly-one-mark : ExactlyOneMark σ
+  exactly-one-mark A s t v w k = (λ m. mark-exact σ A v w m, λ e. rw e at (mark-holds σ A s t v w))
+
+  pub decreasing-marks : DecreasingMarks σ
+  decreasing-marks = mark-greater σ
+
+  pub mark-nine : MarkNine σ
+  mark-nine = mark-equivalent σ
+
+  pub equivalence-unfolds : EquivalenceUnfolds σ
+  unfolding isEquivalent isEquivalentTo
+  equivalence-unfolds = record {
+    bothVariables = λ x y. refl;
+    variableLeft = λ x g ts. refl;
+    variableRight = isEquivalent-app-var σ;
+    applications = isEquivalent-app σ;
+  }
+
+  pub order-unfolds : OrderUnfolds σ
+  order-unfolds = isGreater-unfolds σ
+
+  pub test-decides-article : TestDecidesArticle σ
+  test-decides-article A s t v w = (isGreater→Greater σ A s t v w, λ d. Greater→isGreater σ A d v w)
+
+  pub total-on-expressions : TotalOnExpressions σ
+  total-on-expressions A s t v w g h = exactly-one σ A s t (v, g) (w, h)
+
+  pub greater-than-parts : GreaterThanParts σ
+  greater-than-parts = greater-part σ
+
+  pub closed-under-contexts : ClosedUnderContexts σ
+  closed-under-contexts = greater-fill σ
+
+  pub closed-under-substitutions : ClosedUnderSubstitutions σ
+  closed-under-substitutions A s t v w τ images = greater-substitute σ A τ images s t v w
+
+  pub nodes-bounded : NodesBounded σ
+  nodes-bounded A t w = omega (arith, nodes-le-weight σ A t w)
+
+module _ (R : System) where
+  pub steps-decrease : StepsDecrease R
+  steps-decrease A W s t p = step-decreases R A W p
+
+  pub derivations-descend : DerivationsDescend R
+  derivations-descend A W D s t d = along-descends R A W D d
+
+  pub step-ceiling : StepCeiling R
+  step-ceiling A W D s t d e = stepCount-ceiling R A W D d e
+
+pub sample-admissible : SampleAdmissible
+sample-admissible = admissible

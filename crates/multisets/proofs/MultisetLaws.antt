@@ -75,12 +75,6 @@ module _ {A : Type 0} (like : A → A → Bool) where
         byTest (like a b) (λ e. (b, List·Memᴰ·head refl, e))
         λ e. let r = count→member a l (omega (arith, ap bit e)) in (r .0, List·Memᴰ·tail (r .1), r .2)
 
-    -- An element in surplus is like one that stands in the list.
-    pub surplus→member : (ss ts : List A) (s : A) → count s ts < count s ss →
-        (a : A) × List·Memᴰ a ss × (like s a ≡ true) × (count a ts < count a ss)
-    surplus→member ss ts s k =
-        let (a, m, e) = count→member s ss (omega arith) in (a, m, e, omega (arith, count-resp e ss, count-resp e ts))
-
 -- ---- removing
 
 module _ {A : Type 0} where

@@ -3,7 +3,7 @@
 --     multisetGreater-counts                     the test says it by surpluses
 --     climb                                      a highest element in surplus, at or above a given one
 --     multisetGreater-order                      transitive, irreflexive, compatible
---     multisetGreater-mono, -same, -append       lists added to both sides and taken away
+--     multisetGreater-mono                       lists added to both sides and taken away
 --     multisetGreater-part, multiset-part        proper parts
 --     multisetGreater-exchange, -lists           the existential form of the articles
 --     multisetGreater-one                        one element above all of a list
@@ -11,7 +11,7 @@
 use mathlib.Core.List.{List, [], _∷_, _++_, List·Memᴰ}
 use mathlib.Core.Path.{_≡_, sym, ap, _∙_}
 use mathlib.Core.Logic.{_↔_, _⊎_, inl, inr}
-use mathlib.Core.Bool.{Bool, true, false, not, false≢true, and-eq-true-iff as both}
+use mathlib.Core.Bool.{Bool, true, not, false≢true, and-eq-true-iff as both}
 use Prim.Native.Nat.{_+_, _≤_, _<_}
 use native.Mathlib.Omega.{arith}
 use borrow.Author.Tests.{not-false}
@@ -188,31 +188,6 @@ module _ {A : Type 0} (like : A → A → Bool) where
             multisetGreater-mono l m l' m'
             λ a. omega (arith, multisetEqual-counts like E l l' .0 e a, multisetEqual-counts like E m m' .0 f a);
       }
-
-      pub multisetGreater-irrefl : (l : List A) → multisetGreater like greater l l ≡ false
-      multisetGreater-irrefl l =
-          byTest (multisetGreater like greater l l)
-          (λ e. absurd (multisetGreater-order .irreflexive e (multisetEqual-equivalence like E .reflexive l))) λ e. e
-
-      pub multisetGreater-same : (ss ts ss' ts' : List A) →
-          ((a : A) → count like a ss + count like a ts' ≡ count like a ss' + count like a ts) →
-          multisetGreater like greater ss ts ≡ multisetGreater like greater ss' ts'
-      multisetGreater-same ss ts ss' ts' h =
-          sameTest (multisetGreater like greater ss ts) (multisetGreater like greater ss' ts')
-          (multisetGreater-mono ss ts ss' ts' λ a. omega (arith, h a))
-          (multisetGreater-mono ss' ts' ss ts λ a. omega (arith, h a))
-
-      pub multisetGreater-append : (us ss ts : List A) →
-          multisetGreater like greater (us ++ ss) (us ++ ts) ≡ multisetGreater like greater ss ts
-      multisetGreater-append us ss ts =
-          multisetGreater-same (us ++ ss) (us ++ ts) ss ts
-          λ a. omega (arith, count-append like a us ss, count-append like a us ts)
-
-      pub multisetGreater-append-right : (us ss ts : List A) →
-          multisetGreater like greater (ss ++ us) (ts ++ us) ≡ multisetGreater like greater ss ts
-      multisetGreater-append-right us ss ts =
-          multisetGreater-same (ss ++ us) (ts ++ us) ss ts
-          λ a. omega (arith, count-append like a ss us, count-append like a ts us)
 
       -- A list is above each proper part of it.
       pub multisetGreater-part : (ss ts : List A) → ((a : A) → count like a ts ≤ count like a ss) → (s : A) →

@@ -15,7 +15,7 @@ use Rattle.format.specs.Format.{symbolReader, symbolsReader, forestReader, rule
 use Rattle.format.specs.Files.{paddingReader, endReader, readBytes, readTerm}
 use Rattle.format.specs.Replies.{Reply}
 use Rattle.format.specs.Replies.Reply.{accepted, refused}
-use Rattle.comparing.specs.Comparing.{Relation, Comparison, relation, comparedTerms, compared}
+use Rattle.comparing.specs.Comparing.{Relation, Comparison, relation, comparedRight, comparedTerms, compared}
 use Rattle.comparing.specs.Comparing.Relation.{greater, less, equivalent, unrelated}
 
 -- Form 1, two symbols, w0 1, no rules; the symbols weigh 1 and have the ranks 1 and 0.
@@ -55,7 +55,7 @@ cases =
     []
 
 cases-hold : map (λ (c : Case). compared book (c .left) (c .right)) cases ≡ map (λ (c : Case). c .reply) cases
-unfolding compared comparedTerms relation readBytes readTerm fileReader symbolsReader symbolReader rulesReader forestReader bitField
+unfolding compared comparedTerms comparedRight relation readBytes readTerm fileReader symbolsReader symbolReader rulesReader forestReader bitField
     wordBelow paddingReader endReader forestOf isGreater isGreaterTo decreasingMark rootMark flattenedMark noneOftener
     isEquivalent isEquivalentTo rowEqual rowGreater multisetEqual multisetGreater
 cases-hold = refl

@@ -1,2 +1,3 @@
--- Checks of the definitions of specs/.
+-- What the code of comparing cites, and checks of the definitions of specs/.
+pub mod CompareLaws
 mod ComparingChecks

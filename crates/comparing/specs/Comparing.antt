@@ -32,12 +32,17 @@ module _ (σ : Signature) where
   abbrev pub comparison : Term → Term → Comparison
   comparison s t = record { relation = relation s t; margin = margin σ s t }
 
+-- The right term, after a left one.
+unfoldable pub comparedRight : Signature → Term → List ℕ → Reply Comparison
+comparedRight σ s right = do
+  t ← fromInput 2 (readTerm σ right)
+  accepted (comparison σ s (termOf σ t))
+
 -- The left term, then the right one, under a signature.
 unfoldable pub comparedTerms : Signature → List ℕ → List ℕ → Reply Comparison
 comparedTerms σ left right = do
   s ← fromInput 1 (readTerm σ left)
-  t ← fromInput 2 (readTerm σ right)
-  accepted (comparison σ (termOf σ s) (termOf σ t))
+  comparedRight σ (termOf σ s) right
 
 -- 01: comparing: the book, then left, then right.
 unfoldable pub compared : List ℕ → List ℕ → List ℕ → Reply Comparison

@@ -1,1 +1,125 @@
-// Comparing two terms under a rule file, as definitions. There is no code here.
+// Comparing two terms under a rule file.
+ghost use mathlib.Core.Path.{_≡_};
+ghost use Prim.Native.Nat.{_≤_};
+ghost use lib.ListN.{length};
+ghost use Rattle.terms.specs.Signature.{Admissible};
+ghost use Rattle.terms.specs.Words.{termOf};
+ghost use Rattle.format.specs.Statements.{IsTerm};
+ghost use Rattle.symbols.specs.Table.{signatureOf};
+ghost use Rattle.comparing.specs.Comparing.{comparison, comparedRight, comparedTerms, compared};
+ghost use Rattle.comparing.specs.Reply.{relationNumbered, replyOf, comparisonOf};
+use order::mark::margin;
+use order::mark::relation;
+use reader::decode::Error;
+use reader::file::File;
+use reader::file::TABLE_WORDS;
+use reader::file::read_file;
+use words::term::TermReading;
+use words::term::whole_term;
+
+// How the left term is related to the right one.
+pub enum Relation {
+    Greater,
+    Less,
+    Equivalent,
+    Unrelated,
+}
+
+// The relation, and the weight of the left term less that of the right one.
+pub struct Comparison {
+    pub relation: Relation,
+    pub margin: i64,
+}
+
+// How two terms compare, or why they were not compared.
+pub enum CompareReply {
+    Accepted(Comparison),
+    Refused(Error),
+}
+
+// The relation of a number from 1 to 4.
+fn numbered(number: u8) -> Relation
+    ensures { λ r. ⌜ r ≡ relationNumbered number ⌝ }
+{
+    if number == 1 {
+        return Relation::Greater;
+    }
+    if number == 2 {
+        return Relation::Less;
+    }
+    if number == 3 {
+        return Relation::Equivalent;
+    }
+    Relation::Unrelated
+}
+
+// Compares two terms that were read.
+fn compare_read(table: &[u16], left: &[u16], right: &[u16]) -> Comparison
+    requires { ⌜ (length (now table) ≤ 1021) × Admissible (signatureOf (now table)) ⌝ }
+    requires { ⌜ IsTerm (signatureOf (now table)) (now left) × IsTerm (signatureOf (now table)) (now right) ⌝ }
+    ensures { λ r. ⌜
+        comparisonOf r
+        ≡ comparison (signatureOf (now (table .entry))) (termOf (signatureOf (now (table .entry))) (now (left .entry)))
+        (termOf (signatureOf (now (table .entry))) (now (right .entry)))
+        ⌝ }
+{
+    Comparison {
+        relation: numbered(relation(table, left, right)),
+        margin: margin(table, left, right),
+    }
+}
+
+// Compares a left term that was read with the right one.
+fn compare_right(table: &[u16], left: &[u16], right: &[u16]) -> CompareReply
+    requires { ⌜ (length (now table) ≤ 1021) × Admissible (signatureOf (now table)) ⌝ }
+    requires { ⌜ IsTerm (signatureOf (now table)) (now left) ⌝ }
+    ensures { λ r. ⌜
+        replyOf r
+        ≡ comparedRight (signatureOf (now (table .entry)))
+        (termOf (signatureOf (now (table .entry))) (now (left .entry))) (now (right .entry))
+        ⌝ }
+{
+    match whole_term(table, right) {
+        TermReading::Fault(code, offset) => CompareReply::Refused(Error {
+            code,
+            input: 2,
+            offset,
+        }),
+        TermReading::Got(count) => CompareReply::Accepted(compare_read(table, left, right)),
+    }
+}
+
+// Compares two terms under a symbol table.
+fn compare_terms(table: &[u16], left: &[u16], right: &[u16]) -> CompareReply
+    requires { ⌜ (length (now table) ≤ 1021) × Admissible (signatureOf (now table)) ⌝ }
+    ensures { λ r. ⌜
+        replyOf r ≡ comparedTerms (signatureOf (now (table .entry))) (now (left .entry)) (now (right .entry))
+        ⌝ }
+{
+    match whole_term(table, left) {
+        TermReading::Fault(code, offset) => CompareReply::Refused(Error {
+            code,
+            input: 1,
+            offset,
+        }),
+        TermReading::Got(count) => compare_right(table, left, right),
+    }
+}
+
+// Compares two terms, each as its node words, under a packed rule file.
+pub fn compare(book: &[u8], left: &[u16], right: &[u16]) -> CompareReply
+    ensures { λ r. ⌜ replyOf r ≡ compared (now (book .entry)) (now (left .entry)) (now (right .entry)) ⌝ }
+{
+    let mut table = [0u16; TABLE_WORDS];
+    match read_file(book, &mut table) {
+        File::Fault(code, offset) => CompareReply::Refused(Error {
+            code,
+            input: 0,
+            offset,
+        }),
+        File::Read(symbol_count, _, _, _) => {
+            let front = 1 + 4 * symbol_count;
+            compare_terms(&table[..front], left, right)
+        }
+    }
+}

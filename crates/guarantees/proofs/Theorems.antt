@@ -19,7 +19,7 @@ use Rattle.format.specs.Replies.{_>>=_, fromInput}
 use Rattle.format.specs.Statements.{IsRead}
 use Rattle.format.specs.Statements.IsRead.{fromBytes}
 use Rattle.format.proofs.Theorems.{readable-admissible, readable-well-formed}
-use Rattle.comparing.specs.Comparing.{comparedTerms, compared}
+use Rattle.comparing.specs.Comparing.{comparedRight, comparedTerms, compared}
 use Rattle.guarantees.specs.Guarantees.{Holds, AllFall, ReadableOrder, DerivationsDescend, DerivationsBounded}
 use Rattle.guarantees.specs.Guarantees.{Like, LikeComparisonsAgree, MarksExact, FallingCounted}
 use Rattle.guarantees.proofs.MarkedLaws.{marks-of-test, all-decreasing, mark-written, falling-counted}
@@ -68,7 +68,7 @@ derivations-bounded bytes file h a =
 -- What comparing gives, by what its bytes read as.
 compared-reads : (bytes left right : List ℕ) (r : Reading RuleFile) → readBytes bytes ≡ r → compared bytes left right ≡
     (_>>=_ (fromInput 0 r) λ f. compares (f .signature) (readTerm (f .signature) left) (readTerm (f .signature) right))
-unfolding compared comparedTerms
+unfolding compared comparedTerms comparedRight
 compared-reads bytes left right r e = rw e
 
 module _ (bytes left left' right right' : List ℕ)

@@ -6,6 +6,7 @@ use Rattle.multisets.specs.Multiset.{multisetEqual, multisetGreater, rowEqual, 
 use Rattle.terms.specs.Words.{forestOf}
 use Rattle.terms.specs.Equivalence.{isEquivalentTo, isEquivalent}
 use Rattle.terms.specs.Order.{noneOftener, flattenedMark, rootMark, decreasingMark, isGreaterTo, isGreater, mark}
+use Rattle.text.specs.Text.{ascii, digits}
 use Rattle.format.specs.Errors.{fieldMissing, marksTooShort}
 use Rattle.format.specs.Reading.{bitField}
 use Rattle.format.specs.Format.{symbolReader, symbolsReader, forestReader, rulesReader, fileReader}
@@ -14,7 +15,6 @@ use Rattle.format.specs.Replies.{Outcome}
 use Rattle.format.specs.Replies.Reply.{accepted, refused}
 use Rattle.format.specs.Listing.{listing}
 use Rattle.marking.specs.Marking.{Summary, marked}
-use Rattle.marking.specs.Ascii.{ascii}
 use Rattle.marking.specs.Report.{report}
 
 listing-marked : marked listing (7 ∷ 7 ∷ 7 ∷ []) ≡
@@ -38,11 +38,11 @@ empty-refused = refl
 
 -- 01's own text.
 listing-prints : report listing ≡ ascii "rules 2\n0 2 0\n1 10 0\nscore 50\nreturned\n"
-unfolding report readBytes fileReader symbolsReader symbolReader rulesReader forestReader bitField paddingReader
+unfolding report digits readBytes fileReader symbolsReader symbolReader rulesReader forestReader bitField paddingReader
     forestOf mark isGreater isGreaterTo decreasingMark rootMark flattenedMark noneOftener isEquivalent isEquivalentTo
     rowEqual rowGreater multisetEqual multisetGreater
 listing-prints = refl
 
 empty-prints : report [] ≡ ascii "refusal 2 0\n"
-unfolding report readBytes fileReader bitField
+unfolding report digits readBytes fileReader bitField
 empty-prints = refl

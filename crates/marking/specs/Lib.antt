@@ -1,4 +1,5 @@
 -- What marking the rules of a rule file gives back, and the text that the program prints.
 pub mod Marking
-pub mod Ascii
 pub mod Report
+pub mod Rule
+pub mod Reply

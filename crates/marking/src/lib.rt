@@ -1,1 +1,5 @@
-// Marking the rules of a rule file, as definitions. There is no code here.
+// Marking the rules of a rule file, and the text that `marker` prints.
+pub mod lines;
+pub mod mark;
+pub mod report;
+pub mod rule;

@@ -1,0 +1,96 @@
+-- The ends of comparing, by what its inputs read as.
+--     read-whole                 a term that was read is all of its words
+--     left-fault, left-read, right-fault, right-read, book-fault, book-read     the replies
+--     numbered-relation, terms-read     the relation of a number is that of the terms
+use mathlib.Core.List.{List}
+use mathlib.Core.Path.{_≡_, refl, sym, ap, _∙_}
+use mathlib.Core.Bool.{true, false}
+use Prim.Native.Nat.{ℕ, _+_, _*_, _≤_}
+use native.Mathlib.Omega.{arith}
+use lib.IntN.{ℤ}
+use lib.ListN.{length, take}
+use lib.Seq.{length-take-le}
+use Rattle.multisets.proofs.Relations.{byTest}
+use Rattle.terms.specs.Signature.{Signature, Admissible}
+use Rattle.terms.specs.Term.{Term}
+use Rattle.terms.specs.Words.{termOf}
+use Rattle.terms.specs.Equivalence.{isEquivalent}
+use Rattle.terms.specs.Order.{isGreater, margin}
+use Rattle.format.specs.Reading.Reading.{got, fault}
+use Rattle.format.specs.Format.{RuleFile}
+use Rattle.format.specs.Files.{readBytes, readTerm}
+use Rattle.format.specs.Replies.{Reply}
+use Rattle.format.specs.Replies.Reply.{accepted, refused}
+use Rattle.format.specs.Statements.{IsTerm}
+use Rattle.format.specs.Statements.IsRead.{fromBytes}
+use Rattle.format.proofs.Theorems.{readable-admissible, read-term-well-formed}
+use Rattle.symbols.specs.Table.{signatureOf}
+use Rattle.reader.specs.File.{FileParts}
+use Rattle.equivalence.specs.Parts as parts
+use Rattle.order.specs.Compared as order
+use Rattle.comparing.specs.declared.Relation.{Relation}
+use Rattle.comparing.specs.Comparing.{Comparison, relation, comparison, comparedRight, comparedTerms, compared}
+use Rattle.comparing.specs.Reply.{relationNumbered, relationOf}
+
+-- As the order's functions ask it.
+pub whole-term : (σ : Signature) (ws : List ℕ) → IsTerm σ ws → parts.IsTerm σ ws
+whole-term σ ws t = (termOf σ ws, t .wellFormed, t .spelled)
+
+pub read-whole : (σ : Signature) (ws front : List ℕ) (n : ℕ) → got front n ≡ readTerm σ ws →
+    (front ≡ ws) × IsTerm σ ws
+read-whole σ ws front n e =
+    let (a, b, t) = read-term-well-formed σ ws front n .1 (sym e) in (a, rw a at t)
+
+module _ (σ : Signature) (left right : List ℕ) where
+  pub left-fault : (code offset : ℕ) → fault code offset ≡ readTerm σ left →
+      refused (record { code = code; input = 1; offset = offset }) ≡ comparedTerms σ left right
+  unfolding comparedTerms
+  left-fault code offset e = rw (sym e)
+
+  pub left-read : (front : List ℕ) (n : ℕ) → got front n ≡ readTerm σ left → (r : Reply Comparison) →
+      r ≡ comparedRight σ (termOf σ left) right → r ≡ comparedTerms σ left right
+  unfolding comparedTerms
+  left-read front n e r h = h ∙ rw (sym e, read-whole σ left front n e .0)
+
+module _ (σ : Signature) (s : Term) (right : List ℕ) where
+  pub right-fault : (code offset : ℕ) → fault code offset ≡ readTerm σ right →
+      refused (record { code = code; input = 2; offset = offset }) ≡ comparedRight σ s right
+  unfolding comparedRight
+  right-fault code offset e = rw (sym e)
+
+  pub right-read : (front : List ℕ) (n : ℕ) → got front n ≡ readTerm σ right → (c : Comparison) →
+      c ≡ comparison σ s (termOf σ right) → accepted c ≡ comparedRight σ s right
+  unfolding comparedRight
+  right-read front n e c h = ap accepted h ∙ rw (sym e, read-whole σ right front n e .0)
+
+module _ (bytes left right : List ℕ) where
+  pub book-fault : (code offset : ℕ) → readBytes bytes ≡ fault code offset →
+      refused (record { code = code; input = 0; offset = offset }) ≡ compared bytes left right
+  unfolding compared
+  book-fault code offset e = rw e
+
+  pub book-read : (file : RuleFile) (end : ℕ) → readBytes bytes ≡ got file end → (r : Reply Comparison) →
+      r ≡ comparedTerms (file .signature) left right → r ≡ compared bytes left right
+  unfolding compared
+  book-read file end e r h = h ∙ rw e
+
+-- The table that reading leaves.
+pub table-of : (bytes table : List ℕ) (file : RuleFile) (end symbols rules words offset : ℕ) → 1021 ≡ length table →
+    readBytes bytes ≡ got file end → FileParts bytes table file symbols rules words offset →
+    (length (take (1 + 4 * symbols) table) ≤ 1021) × Admissible (signatureOf (take (1 + 4 * symbols) table))
+table-of bytes table file end symbols rules words offset n e p = (
+  omega (arith, length-take-le (1 + 4 * symbols) table (omega (arith, p .fewSymbols)), p .fewSymbols),
+  rw (p .signature) (readable-admissible file (fromBytes bytes end e) .0),
+)
+
+pub numbered-relation : (σ : Signature) (s t : Term) → relationOf (relationNumbered (order.relation σ s t)) ≡ relation σ s t
+unfolding order.relation relation
+numbered-relation σ s t =
+    byTest (isGreater σ s t) (λ a. rw a) λ a. byTest (isGreater σ t s) (λ b. rw (a, b))
+    λ b. byTest (isEquivalent σ s t) (λ c. rw (a, b, c)) λ c. rw (a, b, c)
+
+pub terms-read : (σ : Signature) (s t : Term) (r : Relation) (n : ℕ) (m : ℤ) → r ≡ relationNumbered n →
+    n ≡ order.relation σ s t → m ≡ margin σ s t → record { relation = relationOf r; margin = m } ≡ comparison σ s t
+terms-read σ s t r n m e d f =
+    let k : relationOf r ≡ relation σ s t = ap relationOf (e ∙ ap relationNumbered d) ∙ numbered-relation σ s t in
+    rw (k, f)

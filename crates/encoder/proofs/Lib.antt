@@ -1,0 +1,3 @@
+-- Laws of encoding.
+mod ItemBits
+mod EncodeLaws

@@ -1,0 +1,2 @@
+-- What encoding replies.
+pub mod Encode

@@ -1,0 +1,56 @@
+// Encoding: the words of a file packed into bytes.
+ghost use mathlib.Core.Path.{_≡_};
+ghost use Rattle.format.specs.Operations.{encoded};
+ghost use Rattle.encoder.specs.Encode.{replyOf};
+use crate::items::packed_bits;
+use crate::items::write_items;
+use files::file::FileReading;
+use files::file::read_file;
+
+const MAX_BYTES: usize = 32768;
+
+// An error's code, the input at fault and the offset in it.
+pub struct Error {
+    pub code: u8,
+    pub input: u8,
+    pub offset: usize,
+}
+
+// How many bytes were written, or why none was.
+pub enum EncodeReply {
+    Accepted(usize),
+    Refused(Error),
+}
+
+// Writes the packed form of a file to the front of the bytes.
+pub fn encode(words: &[u16], bytes: &mut [u8]) -> EncodeReply
+    ensures { λ r. ⌜ replyOf r ≡ encoded (now (words .entry)) (now (bytes .entry)) .reply ⌝ }
+    ensures { λ _. ⌜ now (bytes .exit) ≡ encoded (now (words .entry)) (now (bytes .entry)) .output ⌝ }
+{
+    let counted = match read_file(words) {
+        FileReading::Got(counts) => counts,
+        FileReading::Fault(code, offset) => return EncodeReply::Refused(Error {
+            code,
+            input: 0,
+            offset,
+        }),
+    };
+    let nodes = 4 + 4 * counted.symbols;
+    let count = (packed_bits(words, nodes) + 7) / 8;
+    if MAX_BYTES < count {
+        return EncodeReply::Refused(Error {
+            code: 1,
+            input: 0,
+            offset: 0,
+        });
+    }
+    if bytes.len() < count {
+        return EncodeReply::Refused(Error {
+            code: 16,
+            input: 1,
+            offset: 0,
+        });
+    }
+    write_items(words, nodes, bytes);
+    EncodeReply::Accepted(count)
+}

@@ -1,0 +1,91 @@
+use borrow.Author.Needs.{needs}
+use native.Mathlib.Omega.{arith}
+use Prim.Native.Nat.{_-_}
+use Rattle.equivalence.proofs.CancelLaws.{Cancelling, cancelling-start, cancelling-kept, cancelling-spent}
+use Rattle.equivalence.proofs.CancelLaws.{cancelling-done}
+use Rattle.equivalence.proofs.cancel.cancel.Statement.{statement}
+use Rattle.equivalence.proofs.cancel.cancel.Tie as tie
+use Rattle.equivalence.proofs.cancel.cancel.Reads as reads
+use Rattle.equivalence.proofs.cancel.cancel.Lts as lts
+use Rattle.equivalence.proofs.equivalence.partner.Reads as partner-reads
+use Rattle.equivalence.proofs.offsets.delete.Reads as delete-reads
+use Rattle.equivalence.proofs.offsets.wide_byte.Reads as wide-byte-reads
+
+abbrev Inv-loop : tie.InvT-loop
+Inv-loop table s sk ps₀ n t tk qs₀ m k₀ left₀ right₀ ps qs k left right =
+    Cancelling table s t ps₀ n qs₀ m ps qs k right left
+
+abbrev μ-loop : tie.MeasureT-loop
+μ-loop table s sk ps₀ n t tk qs₀ m k₀ left₀ right₀ ps qs k left right = n - k
+
+loop-holds : tie.Need-loop-holds Inv-loop μ-loop
+loop-holds c = cancelling-start _ _ _ _ _ _ _ (c .before .before .before .pre .1 .0) (c .before .before .before .pre .1 .1)
+
+element-copy-out-p : tie.Need-element-copy-out-p Inv-loop μ-loop
+element-copy-out-p c = search needs
+
+wide-byte-requires : tie.Need-wide-byte-requires Inv-loop μ-loop
+wide-byte-requires c κs = search needs
+
+partner-requires : tie.Need-partner-requires Inv-loop μ-loop
+partner-requires c κs =
+    let g = c .before .before .before .before .loop .inv in
+    (c .before .before .before .before .before .before .before .before .pre .0, (rw (c .before .wide-byte .ensures .0) (g .left .inside (c .before .before .before .before .loop .k) (omega arith)), g .right))
+
+element-write-ps : tie.Need-element-write-ps Inv-loop μ-loop
+element-write-ps c = search needs
+
+add-left : tie.Need-add-left Inv-loop μ-loop
+add-left c = search needs
+
+add-k : tie.Need-add-k Inv-loop μ-loop
+add-k c = search needs
+
+loop-less : tie.Need-loop-less Inv-loop μ-loop
+loop-less c = search needs
+
+loop-again : tie.Need-loop-again Inv-loop μ-loop
+loop-again c =
+    cancelling-kept (c .before .before .before .before .before .before .loop .inv) (omega arith) (rw (c .before .before .before .wide-byte .ensures .0) at (c .before .partner .ensures)) (c .if1 .taken)
+
+delete-requires : tie.Need-delete-requires Inv-loop μ-loop
+delete-requires c κs = (omega (arith, c .before .before .partner .ensures .within), omega arith, c .before .before .before .before .before .before .before .loop .inv .right .room)
+
+sub-right : tie.Need-sub-right Inv-loop μ-loop
+sub-right c = search needs
+
+add-k-2 : tie.Need-add-k-2 Inv-loop μ-loop
+add-k-2 c = search needs
+
+loop-less-2 : tie.Need-loop-less-2 Inv-loop μ-loop
+loop-less-2 c = search needs
+
+loop-again-2 : tie.Need-loop-again-2 Inv-loop μ-loop
+loop-again-2 c =
+    cancelling-spent (c .before .before .before .before .before .before .before .before .loop .inv) (omega arith) (rw (c .before .before .before .before .before .wide-byte .ensures .0) at (c .before .before .before .partner .ensures)) _ (c .before .before .if1 .left)
+    (c .delete .ensures .0) (c .delete .ensures .1)
+
+returns : tie.Need-returns Inv-loop μ-loop
+returns c = cancelling-done (c .before .loop .inv) (omega arith)
+
+pub cancel-spec : {M : Type 1} → statement M
+cancel-spec =
+    tie.close
+    (tie.spec
+    Inv-loop
+    μ-loop
+    loop-holds
+    element-copy-out-p
+    wide-byte-requires
+    partner-requires
+    element-write-ps
+    add-left
+    add-k
+    loop-less
+    loop-again
+    delete-requires
+    sub-right
+    add-k-2
+    loop-less-2
+    loop-again-2
+    returns)

@@ -1,0 +1,103 @@
+use borrow.Author.Needs.{needs}
+use native.Mathlib.Omega.{arith}
+use Prim.Native.Nat.{_-_}
+use lib.ListN.{length}
+use Rattle.equivalence.proofs.StepLaws.{step-some}
+use Rattle.equivalence.proofs.ElementLaws.{Listing, listing-start, listing-own, listing-room, listing-other}
+use Rattle.equivalence.proofs.ElementLaws.{listing-done}
+use Rattle.equivalence.proofs.flatten.elements.Statement.{statement}
+use Rattle.equivalence.proofs.flatten.elements.Tie as tie
+use Rattle.equivalence.proofs.flatten.elements.Reads as reads
+use Rattle.equivalence.proofs.flatten.elements.Lts as lts
+use Rattle.equivalence.proofs.keys.size_at.Reads as size-at-reads
+use Rattle.symbols.proofs.arity.Reads as arity-reads
+
+abbrev Inv-loop : tie.InvT-loop
+Inv-loop table f words keys i n offsets₀ inner at₀ owed₀ k₀ offsets at owed k = Listing table f words i n offsets at owed k
+
+abbrev μ-loop : tie.MeasureT-loop
+μ-loop table f words keys i n offsets₀ inner at₀ owed₀ k₀ offsets at owed k = length words - at
+
+arity-requires : tie.Need-arity-requires Inv-loop μ-loop
+arity-requires c κs = search needs
+
+loop-holds : tie.Need-loop-holds Inv-loop μ-loop
+loop-holds c = listing-start _ _ _ _ _ _ (c .before .before .before .pre .1 .1 .0) (c .before .before .before .pre .0 .1)
+
+mul-if1 : tie.Need-mul-if1 Inv-loop μ-loop
+mul-if1 c = search needs
+
+shared-slice-read-if1 : tie.Need-shared-slice-read-if1 Inv-loop μ-loop
+shared-slice-read-if1 c = search needs
+
+add-at : tie.Need-add-at Inv-loop μ-loop
+add-at c = search needs
+
+sub-owed : tie.Need-sub-owed Inv-loop μ-loop
+sub-owed c = search needs
+
+add-owed : tie.Need-add-owed Inv-loop μ-loop
+add-owed c = search needs
+
+loop-less : tie.Need-loop-less Inv-loop μ-loop
+loop-less c = search needs
+
+loop-again : tie.Need-loop-again Inv-loop μ-loop
+loop-again c =
+    listing-own (c .before .before .before .before .before .before .before .pre .1 .0) (c .before .before .before .loop .inv) (omega arith) (c .if1 .taken) (omega arith) (c .before .before .before .before .arity .ensures .0)
+
+cast-offsets : tie.Need-cast-offsets Inv-loop μ-loop
+cast-offsets c = search needs
+
+element-write-offsets : tie.Need-element-write-offsets Inv-loop μ-loop
+element-write-offsets c =
+    listing-room (c .before .before .before .before .before .before .before .pre .1 .0) (c .before .before .before .loop .inv) (omega arith) (c .if1 .left) (c .before .before .before .before .before .before .before .pre .1 .1 .1)
+
+add-k : tie.Need-add-k Inv-loop μ-loop
+add-k c = search needs
+
+size-at-requires : tie.Need-size-at-requires Inv-loop μ-loop
+size-at-requires c κs = search needs
+
+add-at-2 : tie.Need-add-at-2 Inv-loop μ-loop
+add-at-2 c = search needs
+
+sub-owed-2 : tie.Need-sub-owed-2 Inv-loop μ-loop
+sub-owed-2 c = search needs
+
+loop-less-2 : tie.Need-loop-less-2 Inv-loop μ-loop
+loop-less-2 c =
+    let p = step-some (c .before .before .before .before .before .before .before .before .pre .1 .0) (c .before .before .before .before .loop .inv .terms) (omega arith) in
+    omega (arith, c .size-at .ensures .0)
+
+loop-again-2 : tie.Need-loop-again-2 Inv-loop μ-loop
+loop-again-2 c =
+    listing-other (c .before .before .before .before .before .before .before .before .pre .1 .0) (c .before .before .before .before .loop .inv) (omega arith) (c .before .if1 .left) (c .size-at .ensures .0) (c .before .before .before .before .before .before .before .before .pre .1 .1 .1)
+
+returns : tie.Need-returns Inv-loop μ-loop
+returns c = listing-done (c .before .before .before .before .before .pre .1 .0) (c .before .loop .inv) (omega arith)
+
+pub elements-spec : {M : Type 1} → statement M
+elements-spec =
+    tie.close
+    (tie.spec
+    Inv-loop
+    μ-loop
+    arity-requires
+    loop-holds
+    mul-if1
+    shared-slice-read-if1
+    add-at
+    sub-owed
+    add-owed
+    loop-less
+    loop-again
+    cast-offsets
+    element-write-offsets
+    add-k
+    size-at-requires
+    add-at-2
+    sub-owed-2
+    loop-less-2
+    loop-again-2
+    returns)

@@ -1,0 +1,76 @@
+use borrow.Author.Needs.{needs}
+use native.Mathlib.Omega.{arith}
+use mathlib.Core.Path.{_≡_, refl, _∙_}
+use Prim.Native.Nat.{_+_, _*_, _≤_, _<_}
+use Rattle.equivalence.specs.Keys.{offsetAfter, hashAfter}
+use Rattle.equivalence.proofs.PrepareLaws.{offset-more, hash-more}
+use Rattle.equivalence.proofs.keys.gather.Statement.{statement}
+use Rattle.equivalence.proofs.keys.gather.Tie as tie
+use Rattle.equivalence.proofs.keys.gather.Reads as reads
+use Rattle.equivalence.proofs.keys.gather.Lts as lts
+use Rattle.equivalence.proofs.keys.added.Reads as added-reads
+use Rattle.equivalence.proofs.keys.key_at.Reads as key-at-reads
+use Rattle.symbols.proofs.word_at.Reads as word-at-reads
+
+abbrev Inv-loop : tie.InvT-loop
+Inv-loop ac f words keys i n at₀ left₀ hash₀ at left hash =
+    (at + 256 * left ≤ i + 256 * n) × (hash < 4294967296)
+    × (offsetAfter keys at left ≡ offsetAfter keys i n)
+    × (hashAfter ac f words keys hash at left ≡ hashAfter ac f words keys 0 i n)
+
+abbrev μ-loop : tie.MeasureT-loop
+μ-loop ac f words keys i n at₀ left₀ hash₀ at left hash = left
+
+loop-holds : tie.Need-loop-holds Inv-loop μ-loop
+loop-holds c = (omega arith, omega arith, refl, refl)
+
+key-at-requires : tie.Need-key-at-requires Inv-loop μ-loop
+key-at-requires c κs = search needs
+
+word-at-requires : tie.Need-word-at-requires Inv-loop μ-loop
+word-at-requires c κs = search needs
+
+added-requires : tie.Need-added-requires Inv-loop μ-loop
+added-requires c κs = search needs
+
+add-at : tie.Need-add-at Inv-loop μ-loop
+add-at c = search needs
+
+sub-left : tie.Need-sub-left Inv-loop μ-loop
+sub-left c = search needs
+
+loop-less : tie.Need-loop-less Inv-loop μ-loop
+loop-less c = search needs
+
+loop-again : tie.Need-loop-again Inv-loop μ-loop
+loop-again c =
+    let a = c .before .before .before .before .before .before .args in
+    let l = c .before .before .before .before .loop in (
+      omega arith,
+      omega arith,
+      rw (c .before .before .key-at .ensures) (offset-more (a .keys .now) (l .at) (l .left) (omega arith)) ∙ l .inv .2,
+      rw (c .added .ensures .0, c .before .word-at .ensures, c .before .before .key-at .ensures)
+          (hash-more (a .ac) (a .f) (a .words .now) (a .keys .now) (l .hash) (l .at) (l .left) (omega arith)) ∙ l .inv .3,
+    )
+
+returns : tie.Need-returns Inv-loop μ-loop
+returns c =
+    let l = c .before .loop in
+    let z : l .left ≡ 0 = omega arith in
+    (rw z at (l .inv .2), (rw z at (l .inv .3), l .inv .1))
+
+pub gather-spec : {M : Type 1} → statement M
+gather-spec =
+    tie.close
+    (tie.spec
+    Inv-loop
+    μ-loop
+    loop-holds
+    key-at-requires
+    word-at-requires
+    added-requires
+    add-at
+    sub-left
+    loop-less
+    loop-again
+    returns)

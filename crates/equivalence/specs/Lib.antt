@@ -1,0 +1,4 @@
+-- What the contracts of the AC-equivalence test say.
+pub mod Parts
+pub mod Keys
+pub mod Offsets

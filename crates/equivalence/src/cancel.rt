@@ -1,0 +1,55 @@
+// The cancelling of AC-equivalent pairs.
+use crate::equivalence::partner;
+use crate::offsets::delete;
+use crate::offsets::wide_byte;
+ghost use Rattle.symbols.specs.Table.{signatureOf};
+ghost use Rattle.equivalence.specs.Keys.{Sides};
+ghost use Rattle.equivalence.specs.Offsets.{Offsets, termsAt, leftAt};
+
+pub struct Counts {
+    pub left: usize,
+    pub right: usize,
+}
+
+// Cancels equivalent terms, one for one; what is left stands first among the offsets of both sides.
+pub fn cancel(
+    table: &[u16],
+    s: &[u16],
+    sk: &[u64; 128],
+    ps: &mut [u8; 64],
+    n: usize,
+    t: &[u16],
+    tk: &[u64; 128],
+    qs: &mut [u8; 64],
+    m: usize,
+) -> Counts
+    requires { ⌜ Sides (now table) (now s) (now sk) (now t) (now tk) ⌝ }
+    requires { ⌜ Offsets (signatureOf (now table)) (now s) (now ps) n (termsAt (now table) (now s) (now ps) n) ⌝ }
+    requires { ⌜ Offsets (signatureOf (now table)) (now t) (now qs) m (termsAt (now table) (now t) (now qs) m) ⌝ }
+    ensures { λ r. ⌜
+        Offsets (signatureOf (now (table .entry))) (now (s .entry)) (now (ps .exit)) (r .left)
+        (leftAt (now (table .entry)) (now (s .entry)) (now (ps .entry)) n (now (t .entry)) (now (qs .entry)) m .left)
+        ⌝ }
+    ensures { λ r. ⌜
+        Offsets (signatureOf (now (table .entry))) (now (t .entry)) (now (qs .exit)) (r .right)
+        (leftAt (now (table .entry)) (now (s .entry)) (now (ps .entry)) n (now (t .entry)) (now (qs .entry)) m .right)
+        ⌝ }
+{
+    let mut k = 0;
+    let mut left = 0;
+    let mut right = m;
+    while k < n {
+        let p = ps[k];
+        let r = partner(table, s, sk, wide_byte(p), t, tk, qs, right);
+        if r == right {
+            ps[left] = p;
+            left += 1;
+            k += 1;
+        } else {
+            delete(qs, r, right);
+            right -= 1;
+            k += 1;
+        }
+    }
+    Counts { left, right }
+}

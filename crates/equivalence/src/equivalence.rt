@@ -1,0 +1,176 @@
+// The AC-equivalence test: terms, rows of arguments and flattenings, which call one another.
+use crate::flatten::elements;
+use crate::keys::size_at;
+use crate::offsets::delete;
+use crate::offsets::wide_byte;
+use symbols::arity;
+use symbols::is_ac;
+ghost use mathlib.Core.Path.{_≡_};
+ghost use Prim.Native.Nat.{ℕ, _≤_, _<_};
+ghost use lib.ListN.{length, getD};
+ghost use Rattle.symbols.specs.Table.{signatureOf};
+ghost use Rattle.equivalence.specs.Parts.{elementsAt, Stands};
+ghost use Rattle.equivalence.specs.Keys.{Sides};
+ghost use Rattle.equivalence.specs.Offsets.{Offsets, First, alikeAt, rowsAlike, elementsAlike, termsAt};
+
+// Are the terms at i and j AC-equivalent?
+pub fn equivalent(
+    table: &[u16],
+    s: &[u16],
+    sk: &[u64; 128],
+    i: usize,
+    t: &[u16],
+    tk: &[u64; 128],
+    j: usize,
+) -> bool
+    requires { ⌜ Sides (now table) (now s) (now sk) (now t) (now tk) ⌝ }
+    requires { ⌜ (i < length (now s)) × (j < length (now t)) ⌝ }
+    ensures { λ r. ⌜ r ≡ alikeAt (now (table .entry)) (now (s .entry)) i (now (t .entry)) j ⌝ }
+{
+    let f = s[i];
+    if f != t[j] {
+        return false;
+    }
+    if sk[i] != tk[j] {
+        return false;
+    }
+    let n = arity(table, f);
+    if is_ac(table, f) {
+        return flattenings_equivalent(table, s, sk, i + 1, t, tk, j + 1, f, n);
+    }
+    rows_equivalent(table, s, sk, i + 1, t, tk, j + 1, n)
+}
+
+// Are the n terms at i and j equivalent in their order?
+fn rows_equivalent(
+    table: &[u16],
+    s: &[u16],
+    sk: &[u64; 128],
+    i: usize,
+    t: &[u16],
+    tk: &[u64; 128],
+    j: usize,
+    n: usize,
+) -> bool
+    requires { ⌜ Sides (now table) (now s) (now sk) (now t) (now tk) ⌝ }
+    requires { ⌜ Stands (signatureOf (now table)) (now s) i n × Stands (signatureOf (now table)) (now t) j n ⌝ }
+    ensures { λ r. ⌜ r ≡ rowsAlike (now (table .entry)) (now (s .entry)) i (now (t .entry)) j n ⌝ }
+{
+    let mut at = i;
+    let mut to = j;
+    let mut left = n;
+    while left > 0 {
+        if equivalent(table, s, sk, at, t, tk, to) {
+            at += size_at(sk, at);
+            to += size_at(tk, to);
+            left -= 1;
+        } else {
+            return false;
+        }
+    }
+    true
+}
+
+// Are the flattenings for f of the n terms at i and of those at j equivalent as multisets?
+fn flattenings_equivalent(
+    table: &[u16],
+    s: &[u16],
+    sk: &[u64; 128],
+    i: usize,
+    t: &[u16],
+    tk: &[u64; 128],
+    j: usize,
+    f: u16,
+    n: usize,
+) -> bool
+    requires { ⌜ Sides (now table) (now s) (now sk) (now t) (now tk) ⌝ }
+    requires { ⌜ Stands (signatureOf (now table)) (now s) i n × Stands (signatureOf (now table)) (now t) j n ⌝ }
+    requires { ⌜ (f < 256) × (length (elementsAt (signatureOf (now table)) f (now t) j n) ≤ 64) ⌝ }
+    ensures { λ r. ⌜
+        r
+        ≡ elementsAlike (now (table .entry)) f (now (s .entry)) i n
+        (elementsAt (signatureOf (now (table .entry))) f (now (t .entry)) j n)
+        ⌝ }
+{
+    let mut offsets = [0u8; 64];
+    let m = elements(table, f, t, tk, j, n, &mut offsets);
+    cancels(table, s, sk, i, t, tk, f, n, &mut offsets, m)
+}
+
+// Does the flattening for f of the n terms at i cancel against the terms at the first m offsets?
+fn cancels(
+    table: &[u16],
+    s: &[u16],
+    sk: &[u64; 128],
+    i: usize,
+    t: &[u16],
+    tk: &[u64; 128],
+    f: u16,
+    n: usize,
+    offsets: &mut [u8; 64],
+    m: usize,
+) -> bool
+    requires { ⌜ Sides (now table) (now s) (now sk) (now t) (now tk) ⌝ }
+    requires { ⌜ Stands (signatureOf (now table)) (now s) i n ⌝ }
+    requires { ⌜ f < 256 ⌝ }
+    requires { ⌜ Offsets (signatureOf (now table)) (now t) (now offsets) m (termsAt (now table) (now t) (now offsets) m) ⌝ }
+    ensures { λ r. ⌜
+        r
+        ≡ elementsAlike (now (table .entry)) f (now (s .entry)) i n
+        (termsAt (now (table .entry)) (now (t .entry)) (now (offsets .entry)) m)
+        ⌝ }
+{
+    let mut at = i;
+    let mut owed = n;
+    let mut left = m;
+    while owed > 0 {
+        if s[at] == f {
+            owed = arity(table, f) + (owed - 1);
+            at += 1;
+        } else {
+            let k = partner(table, s, sk, at, t, tk, offsets, left);
+            if k == left {
+                return false;
+            }
+            delete(offsets, k, left);
+            at += size_at(sk, at);
+            owed -= 1;
+            left -= 1;
+        }
+    }
+    left == 0
+}
+
+// The first of the m offsets whose term is equivalent to the term at i; m where there is none.
+pub fn partner(
+    table: &[u16],
+    s: &[u16],
+    sk: &[u64; 128],
+    i: usize,
+    t: &[u16],
+    tk: &[u64; 128],
+    offsets: &[u8; 64],
+    m: usize,
+) -> usize
+    requires { ⌜ Sides (now table) (now s) (now sk) (now t) (now tk) ⌝ }
+    requires { ⌜ i < length (now s) ⌝ }
+    requires { ⌜ Offsets (signatureOf (now table)) (now t) (now offsets) m (termsAt (now table) (now t) (now offsets) m) ⌝ }
+    ensures { λ r. ⌜
+        First (λ (k : ℕ). alikeAt (now (table .entry)) (now (s .entry)) i (now (t .entry)) (getD (now (offsets .entry)) k 0))
+        m r
+        ⌝ }
+{
+    let key = sk[i];
+    let mut k = 0;
+    while k < m {
+        let j = wide_byte(offsets[k]);
+        if tk[j] != key {
+            k += 1;
+        } else if equivalent(table, s, sk, i, t, tk, j) {
+            return k;
+        } else {
+            k += 1;
+        }
+    }
+    m
+}

@@ -1,0 +1,132 @@
+-- The lines of rules, one after another.
+--     WrittenSoFar, written-none, written-more, written-all     what a loop over the rules has counted and written
+--     put-verdict                                               the last two lines
+--     report-refusal, report-marks                              the whole text
+use mathlib.Core.List.{List, [], _∷_, _++_, append-assoc, append-nil}
+use mathlib.Core.Bool.{cond}
+use mathlib.Core.Path.{_≡_, refl, sym, ap, _∙_}
+use Prim.Native.Nat.{ℕ, suc, zero, _+_, _-_, _≤_, _<_}
+use Prim.Native.String.{String}
+use native.Mathlib.Nat.{add-zero, zero-add}
+use native.Mathlib.Omega.{arith}
+use lib.IntN.{subℕ}
+use lib.ListN.{length, take, drop, length-map}
+use lib.Seq.{sets, sets-eq, take-append-seam}
+use lib.Dec.{eqb}
+use Rattle.terms.specs.Signature.{Signature}
+use Rattle.terms.specs.Term.{weight}
+use Rattle.terms.specs.Words.{termOf}
+use Rattle.terms.specs.Order.{mark}
+use Rattle.text.specs.Text.{ascii, decimal, signedDecimal, line}
+use Rattle.text.specs.Put.{Put}
+use Rattle.text.proofs.TextLaws.{put-append}
+use Rattle.format.specs.Reading.{Source}
+use Rattle.format.specs.Reading.Reading.{got, fault}
+use Rattle.format.specs.Format.{Sides, RuleFile, systemOf, rulesReader}
+use Rattle.format.specs.Files.{readBytes}
+use Rattle.reader.specs.Rule.{ruleReader}
+use Rattle.marking.specs.Marking.{marksOf, decreasingCount, scoreOf}
+use Rattle.marking.specs.Report.{summaryLines, report}
+use Rattle.marking.specs.Rule.{sidesMarks, sidesLines}
+use Rattle.marking.proofs.RuleLaws.{After, after-none, after-more, after-all, count-added}
+
+module _ (source : Source) (σ : Signature) where
+  -- The line of one rule, by the node words of its sides.
+  abbrev pub sidesLine : ℕ → Sides → List ℕ
+  sidesLine n r =
+      line
+      (decimal n ∷ decimal (mark σ (termOf σ (r .left)) (termOf σ (r .right))) ∷
+      signedDecimal (subℕ (weight σ (termOf σ (r .left))) (weight σ (termOf σ (r .right)))) ∷ [])
+
+  lines-snoc : (n : ℕ) (done : List Sides) (r : Sides) →
+      sidesLines σ n (done ++ (r ∷ [])) ≡ sidesLines σ n done ++ sidesLine (length done + n) r
+  lines-snoc n [] r = rw zero-add (append-nil (sidesLine n r))
+  lines-snoc n (s ∷ done) r =
+      let e : length done + suc n ≡ suc (length done) + n = omega arith in
+      ap (λ (l : List ℕ). sidesLine n s ++ l) (lines-snoc (suc n) done r ∙ rw e)
+      ∙ sym (append-assoc (sidesLine n s) (sidesLines σ (suc n) done) (sidesLine (suc (length done) + n) r))
+
+  -- Of every reading of all rules: some are done, with so many decreasing, and their lines written.
+  abbrev pub WrittenSoFar : ℕ → ℕ → List ℕ → ℕ → ℕ → ℕ → ℕ → ℕ → List ℕ → Type 0
+  WrittenSoFar count start out₀ end₀ i at decreasing end out =
+      (rules : List Sides) (last : ℕ) → rulesReader source σ count start ≡ got rules last →
+      (done : List Sides) × After source σ rules last count i at done × (length done ≡ i)
+      × (decreasing ≡ decreasingCount (sidesMarks σ done)) × Put out₀ end₀ (sidesLines σ 0 done) end out
+
+  pub written-none : (count start : ℕ) (out₀ : List ℕ) (end₀ : ℕ) → WrittenSoFar count start out₀ end₀ 0 start 0 end₀ out₀
+  written-none count start out₀ end₀ rules last e =
+      ([], after-none source σ rules last count start e, refl, refl, (sym (add-zero end₀), refl))
+
+  pub written-more : (count start : ℕ) (out₀ : List ℕ) (end₀ i at decreasing end : ℕ) (out : List ℕ) →
+      WrittenSoFar count start out₀ end₀ i at decreasing end out → i < count → (m left right next n : ℕ) →
+      ((r : Sides) (last : ℕ) → ruleReader source σ at ≡ got r last →
+      (m ≡ mark σ (termOf σ (r .left)) (termOf σ (r .right))) × (left ≡ weight σ (termOf σ (r .left)))
+      × (right ≡ weight σ (termOf σ (r .right))) × (next ≡ last)) → n ≡ decreasingCount (m ∷ []) →
+      (after : ℕ) (out' : List ℕ) →
+      Put out end (line (decimal i ∷ decimal m ∷ signedDecimal (subℕ left right) ∷ [])) after out' →
+      WrittenSoFar count start out₀ end₀ (i + 1) next (decreasing + n) after out'
+  written-more count start out₀ end₀ i at decreasing end out so h m left right next n step one after out' p rules last e =
+      let (done, a, l, d, w) = so rules last e in
+      let (r, stop, f, b) = after-more source σ rules last count i at done a h in
+      let (x, y, z, v) = step r stop f in
+      let k : length done + 0 ≡ i = add-zero (length done) ∙ l in
+      let (c, q) = count-added source σ i decreasing m n done r l d x one in (
+        done ++ (r ∷ []),
+        rw v b,
+        c,
+        q,
+        rw (lines-snoc 0 done r, k, ← x, ← y, ← z) (put-append out₀ end₀ (sidesLines σ 0 done) _ end out after out' w p),
+      )
+
+  pub written-all : (count start : ℕ) (out₀ : List ℕ) (end₀ i at decreasing end : ℕ) (out : List ℕ) →
+      WrittenSoFar count start out₀ end₀ i at decreasing end out → count ≤ i → (rules : List Sides) (last : ℕ) →
+      rulesReader source σ count start ≡ got rules last →
+      (decreasing ≡ decreasingCount (sidesMarks σ rules)) × Put out₀ end₀ (sidesLines σ 0 rules) end out
+  written-all count start out₀ end₀ i at decreasing end out so h rules last e =
+      let (done, a, l, d, w) = so rules last e in
+      let s = after-all source σ rules last count i at done a h in
+      rw s (d, w)
+
+-- ---- the last two lines
+
+pub put-verdict : (l : List ℕ) (at rules decreasing score next : ℕ) (mid : List ℕ) (r : ℕ) (out : List ℕ) (word : String) →
+    score ≡ scoreOf decreasing rules → cond (eqb decreasing rules) "accepted" "returned" ≡ word →
+    Put l at (line (ascii "score" ∷ decimal score ∷ [])) next mid → Put mid next (line (ascii word ∷ [])) r out →
+    Put l at (summaryLines (record { rules = rules; decreasing = decreasing; score = scoreOf decreasing rules })) r out
+put-verdict l at rules decreasing score next mid r out word e w p q =
+    rw (← e, w) (put-append l at (line (ascii "score" ∷ decimal score ∷ [])) (line (ascii word ∷ [])) next mid r out p q)
+
+-- ---- the whole text
+
+-- A text that was put first.
+pub taken : (l text : List ℕ) (r : ℕ) (out : List ℕ) → Put l 0 text r out → r ≤ length l → take r out ≡ text
+taken l text r out p h =
+    let n : r ≡ length text = p .0 ∙ zero-add (length text) in
+    rw (n, p .1, sets-eq text l 0 (omega arith)) (take-append-seam text (drop (0 + length text) l))
+
+module _ (bytes : List ℕ) where
+  pub report-refusal : (code offset r : ℕ) (l out : List ℕ) → readBytes bytes ≡ fault code offset →
+      r ≡ length (line (ascii "refusal" ∷ decimal code ∷ decimal offset ∷ [])) →
+      out ≡ sets l 0 (line (ascii "refusal" ∷ decimal code ∷ decimal offset ∷ [])) → r ≤ length l →
+      take r out ≡ report bytes
+  unfolding report
+  report-refusal code offset r l out e n w h =
+      rw e (taken l (line (ascii "refusal" ∷ decimal code ∷ decimal offset ∷ [])) r out (n ∙ sym (zero-add _), w) h)
+
+  module _ (file : RuleFile) (end : ℕ) (e : readBytes bytes ≡ got file end) where
+    pub report-marks : (rules decreasing start : ℕ) (l l₁ : List ℕ) (stop : ℕ) (l₂ : List ℕ) (r : ℕ) (out : List ℕ) →
+        rules ≡ length (file .rules) → decreasing ≡ decreasingCount (sidesMarks (file .signature) (file .rules)) →
+        Put l 0 (line (ascii "rules" ∷ decimal rules ∷ [])) start l₁ →
+        Put l₁ start (sidesLines (file .signature) 0 (file .rules)) stop l₂ →
+        Put l₂ stop (summaryLines (record { rules = rules; decreasing = decreasing; score = scoreOf decreasing rules })) r out →
+        r ≤ length l → take r out ≡ report bytes
+    unfolding report
+    report-marks rules decreasing start l l₁ stop l₂ r out n d p q v h =
+        let k : length (marksOf (systemOf file)) ≡ rules =
+        length-map (systemOf file .rules) _ ∙ length-map (file .rules) _ ∙ sym n in
+        let head = line (ascii "rules" ∷ decimal rules ∷ []) in
+        let body = sidesLines (file .signature) 0 (file .rules) in
+        let tail = summaryLines (record { rules = rules; decreasing = decreasing; score = scoreOf decreasing rules }) in
+        rw (e, k, ← d)
+        (taken l (head ++ (body ++ tail)) r out
+        (put-append l 0 head (body ++ tail) start l₁ r out p (put-append l₁ start body tail stop l₂ r out q v)) h)

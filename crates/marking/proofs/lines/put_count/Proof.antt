@@ -1,0 +1,41 @@
+use mathlib.Core.List.{[], _∷_}
+use native.Mathlib.Omega.{arith}
+use Rattle.text.specs.Text.{decimal}
+use Rattle.text.proofs.TextLaws.{put-append, put-line2}
+use borrow.Author.Needs.{needs}
+use Rattle.marking.proofs.lines.put_count.Statement.{statement}
+use Rattle.marking.proofs.lines.put_count.Tie as tie
+
+put-bytes-requires : tie.Need-put-bytes-requires
+put-bytes-requires c κs = search needs
+
+put-byte-requires : tie.Need-put-byte-requires
+put-byte-requires c κs = search needs
+
+put-number-requires : tie.Need-put-number-requires
+put-number-requires c κs = search needs
+
+same-length : tie.Need-same-length
+same-length c = search needs
+
+returns : tie.Need-returns
+returns c =
+    let a = c .before .before .before .before .before .before .before .before .before .before .before .before .before .before .args in
+    let w = a .word .now in
+    let first = put-append (a .out .now) (a .at) w (32 ∷ []) _ _ _ _
+    (c .before .before .before .before .before .before .before .before .before .before .put-bytes .ensures)
+    (c .before .before .before .before .before .before .put-byte .ensures) in
+    let n = c .before .before .put-number .ensures in
+    let p = put-line2 (a .out .now) (a .at) w (decimal (a .n)) _ _ _ _ first (n .0, n .1 .0) in (
+      p .0,
+      (
+        p .1,
+        omega
+            (arith, c .before .before .before .before .before .before .before .before .before .before .put-bytes .ensures .0, c .before .before .before .before .before .before .put-byte .ensures .0, n .1 .1),
+      ),
+    )
+
+pub put-count-spec : {M : Type 1} → statement M
+put-count-spec =
+    tie.close
+    (tie.spec put-bytes-requires put-byte-requires put-number-requires same-length returns)

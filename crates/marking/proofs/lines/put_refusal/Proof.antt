@@ -1,0 +1,55 @@
+use native.Mathlib.Omega.{arith}
+use mathlib.Core.List.{[], _∷_}
+use Rattle.text.specs.Text.{ascii, decimal, line}
+use Rattle.text.proofs.TextLaws.{put-line3, put-first}
+use borrow.Author.Needs.{needs}
+use Rattle.marking.proofs.lines.put_refusal.Statement.{statement}
+use Rattle.marking.proofs.lines.put_refusal.Tie as tie
+
+slice-aggregate-put-bytes : tie.Need-slice-aggregate-put-bytes
+slice-aggregate-put-bytes c = search needs
+
+put-bytes-requires : tie.Need-put-bytes-requires
+put-bytes-requires c κs = search needs
+
+put-number-requires : tie.Need-put-number-requires
+put-number-requires c κs = search needs
+
+put-number-requires-2 : tie.Need-put-number-requires-2
+put-number-requires-2 c κs = search needs
+
+same-length : tie.Need-same-length
+same-length c = search needs
+
+returns : tie.Need-returns
+returns c =
+    let a = c .before .before .before .before .before .before .before .before .before .before .before .before .before .before .args in
+    let p = put-first (a .out .now) (line (ascii "refusal" ∷ decimal (a .code) ∷ decimal (a .offset) ∷ [])) _ _
+    (put-line3 (a .out .now) 0 (ascii "refusal") (decimal (a .code)) (decimal (a .offset)) _ _ _ _ _ _
+    (c .before .before .before .before .before .before .before .before .before .before .put-bytes .ensures) (
+      c .before .before .before .before .before .before .put-number .ensures .0,
+      c .before .before .before .before .before .before .put-number .ensures .1 .0,
+    )
+    (c .before .before .put-number2 .ensures .0, c .before .before .put-number2 .ensures .1 .0)) in (
+      p .0,
+      (
+        p .1,
+        omega (
+          arith,
+          c .before .before .before .before .before .before .before .before .before .before .put-bytes .ensures .0,
+          c .before .before .before .before .before .before .put-number .ensures .1 .1,
+          c .before .before .put-number2 .ensures .1 .1,
+        ),
+      ),
+    )
+
+pub put-refusal-spec : {M : Type 1} → statement M
+put-refusal-spec =
+    tie.close
+    (tie.spec
+    slice-aggregate-put-bytes
+    put-bytes-requires
+    put-number-requires
+    put-number-requires-2
+    same-length
+    returns)

@@ -1,0 +1,50 @@
+use mathlib.Core.List.{[], _∷_}
+use native.Mathlib.Omega.{arith}
+use lib.IntN.{subℕ}
+use Rattle.text.specs.Text.{decimal, signedDecimal}
+use Rattle.text.proofs.TextLaws.{put-append, put-line3}
+use borrow.Author.Needs.{needs}
+use Rattle.marking.proofs.lines.put_rule.Statement.{statement}
+use Rattle.marking.proofs.lines.put_rule.Tie as tie
+
+put-number-requires : tie.Need-put-number-requires
+put-number-requires c κs = search needs
+
+put-number-requires-2 : tie.Need-put-number-requires-2
+put-number-requires-2 c κs = search needs
+
+put-difference-requires : tie.Need-put-difference-requires
+put-difference-requires c κs = search needs
+
+put-byte-requires : tie.Need-put-byte-requires
+put-byte-requires c κs = search needs
+
+same-length : tie.Need-same-length
+same-length c = search needs
+
+returns : tie.Need-returns
+returns c =
+    let a = c .before .before .before .before .before .before .before .before .before .before .before .before .before .before .before .before .before .args in
+    let d = signedDecimal (subℕ (a .left) (a .right)) in
+    let e = c .before .before .before .before .before .before .put-difference .ensures in
+    let t = put-append _ _ d (10 ∷ []) _ _ _ _ (e .0, e .1 .0) (c .before .before .put-byte .ensures) in
+    let p = put-line3 (a .out .now) (a .at) (decimal (a .number)) (decimal (a .mark)) d _ _ _ _ _ _
+    (c .before .before .before .before .before .before .before .before .before .before .before .before .before .before .put-number .ensures .0, c .before .before .before .before .before .before .before .before .before .before .before .before .before .before .put-number .ensures .1 .0) (c .before .before .before .before .before .before .before .before .before .before .put-number2 .ensures .0, c .before .before .before .before .before .before .before .before .before .before .put-number2 .ensures .1 .0) t in (
+      p .0,
+      (
+        p .1,
+        omega
+            (arith, c .before .before .before .before .before .before .before .before .before .before .before .before .before .before .put-number .ensures .1 .1, c .before .before .before .before .before .before .before .before .before .before .put-number2 .ensures .1 .1, e .1 .1, c .before .before .put-byte .ensures .0),
+      ),
+    )
+
+pub put-rule-spec : {M : Type 1} → statement M
+put-rule-spec =
+    tie.close
+    (tie.spec
+    put-number-requires
+    put-number-requires-2
+    put-difference-requires
+    put-byte-requires
+    same-length
+    returns)

@@ -1,0 +1,101 @@
+use mathlib.Core.Path.{_≡_, refl, _∙_}
+use Prim.Native.Nat.{_+_, _-_, _*_, _≤_}
+use native.Mathlib.Omega.{arith}
+use lib.ListN.{length}
+use Rattle.format.specs.Reading.{bitSource}
+use Rattle.symbols.specs.Table.{signatureOf}
+use Rattle.marking.proofs.ReportLaws.{WrittenSoFar, written-none, written-more, written-all}
+use borrow.Author.Needs.{needs}
+use Rattle.marking.proofs.report.put_rules.Statement.{statement}
+use Rattle.marking.proofs.report.put_rules.Tie as tie
+
+abbrev Inv-loop : tie.InvT-loop
+Inv-loop book table out₀ at count here₀ end₀ decreasing₀ i₀ out here end decreasing i =
+    (i ≤ count) × (decreasing ≤ i) × (end ≤ at + 41 * i) × (length out ≡ length out₀)
+    × WrittenSoFar (bitSource book) (signatureOf table) count (here₀ .at) out₀ at i (here .at) decreasing end out
+
+abbrev μ-loop : tie.MeasureT-loop
+μ-loop book table out₀ at count here₀ end₀ decreasing₀ i₀ out here end decreasing i = count - i
+
+loop-holds : tie.Need-loop-holds Inv-loop μ-loop
+loop-holds c =
+    let a = c .before .before .before .args in (
+      omega arith,
+      omega arith,
+      omega arith,
+      refl,
+      written-none (bitSource (a .book .now)) (signatureOf (a .table .now)) (a .count) (a .cursor .at) (a .out .now)
+          (a .at),
+    )
+
+orient-requires : tie.Need-orient-requires Inv-loop μ-loop
+orient-requires c κs = search needs
+
+long-requires : tie.Need-long-requires Inv-loop μ-loop
+long-requires c κs = search needs
+
+put-rule-requires : tie.Need-put-rule-requires Inv-loop μ-loop
+put-rule-requires c κs = search needs
+
+decreases-requires : tie.Need-decreases-requires Inv-loop μ-loop
+decreases-requires c κs = search needs
+
+add-decreasing : tie.Need-add-decreasing Inv-loop μ-loop
+add-decreasing c = search needs
+
+add-i : tie.Need-add-i Inv-loop μ-loop
+add-i c = search needs
+
+loop-less : tie.Need-loop-less Inv-loop μ-loop
+loop-less c = search needs
+
+loop-again : tie.Need-loop-again Inv-loop μ-loop
+loop-again c =
+    let a = c .before .before .before .before .before .before .before .before .before .before .before .before .before .args in
+    let l = c .before .before .before .before .before .before .before .before .before .loop in
+    let p = c .before .before .before .before .put-rule .ensures in (
+      omega arith,
+      omega (arith, c .before .decreases .ensures .1),
+      omega (arith, p .1 .1),
+      c .before .before .before .before .put-rule .kept .0 ∙ l .inv .3,
+      written-more (bitSource (a .book .now)) (signatureOf (a .table .now)) (a .count) (a .cursor .at) (a .out .now)
+          (a .at)
+          (l .i) (l .here .at) (l .decreasing) (l .end) (l .out) (l .inv .4)
+          (c .before .before .before .before .before .before .before .before .loop-test .taken)
+          (c .before .before .before .before .before .long .result) _ _ _ _
+          (λ r last e. let o = c .before .before .before .before .before .before .before .orient .ensures .0 r last e in
+          (c .before .before .before .before .before .long .ensures .0 ∙ o .mark, o .left, o .right, o .next))
+          (c .before .decreases .ensures .0 ∙ rw (c .before .before .before .before .before .long .ensures .0)) _ _
+          (p .0, p .1 .0),
+    )
+
+same-length : tie.Need-same-length Inv-loop μ-loop
+same-length c = c .before .loop .inv .3
+
+returns : tie.Need-returns Inv-loop μ-loop
+returns c =
+    let a = c .before .before .before .before .before .args in
+    let l = c .before .loop in (
+      written-all (bitSource (a .book .now)) (signatureOf (a .table .now)) (a .count) (a .cursor .at) (a .out .now)
+          (a .at)
+          (l .i) (l .here .at) (l .decreasing) (l .end) (l .out) (l .inv .4) (c .loop-test .left),
+      (omega arith, omega arith),
+    )
+
+pub put-rules-spec : {M : Type 1} → statement M
+put-rules-spec =
+    tie.close
+    (tie.spec
+    Inv-loop
+    μ-loop
+    loop-holds
+    orient-requires
+    long-requires
+    put-rule-requires
+    decreases-requires
+    add-decreasing
+    add-i
+    loop-less
+    loop-again
+    same-length
+    returns)

@@ -1,0 +1,168 @@
+use mathlib.Core.Path.{_≡_, sym, _∙_}
+use native.Mathlib.Omega.{arith}
+use lib.ListN.{length}
+use lib.Seq.{length-take-le}
+use borrow.Author.Needs.{needs}
+use Rattle.marking.proofs.MarkLaws.{table-of, fault-small}
+use Rattle.marking.proofs.ReportLaws.{report-refusal, report-marks}
+use Rattle.marking.proofs.report.report.Statement.{statement}
+use Rattle.marking.proofs.report.report.Tie as tie
+
+slice-aggregate-read-file : tie.Need-slice-aggregate-read-file
+slice-aggregate-read-file c = search needs
+
+read-file-requires : tie.Need-read-file-requires
+read-file-requires c κs = search needs
+
+enum-known-code : tie.Need-enum-known-code
+enum-known-code c = search needs
+
+long-requires : tie.Need-long-requires
+long-requires c κs = search needs
+
+put-refusal-requires : tie.Need-put-refusal-requires
+put-refusal-requires c κs = (
+  omega (arith, c .long .ensures .1),
+  fault-small
+      (c .before .before .before .before .before .before .before .before .before .before .args .book .now) _ _
+      (rw (c .before .before .before .code .given .1) at
+      (c .before .before .before .before .before .before .read-file .ensures)),
+)
+
+enum-known-symbol-count : tie.Need-enum-known-symbol-count
+enum-known-symbol-count c = search needs
+
+slice-aggregate-put-count : tie.Need-slice-aggregate-put-count
+slice-aggregate-put-count c = search needs
+
+put-count-requires : tie.Need-put-count-requires
+put-count-requires c κs =
+    let (file, end, read, parts) = (rw (c .before .before .before .symbol-count .given .1) at
+    (c .before .before .before .before .before .before .read-file .ensures)) in
+    (omega arith, omega (arith, parts .fewRules))
+
+mul-front : tie.Need-mul-front
+mul-front c =
+    let (file, end, read, parts) = (rw (c .before .before .before .before .before .before .symbol-count .given .1) at
+    (c .before .before .before .before .before .before .before .before .before .read-file .ensures)) in
+    omega (arith, parts .fewSymbols)
+
+add-front : tie.Need-add-front
+add-front c =
+    let (file, end, read, parts) = (rw (c .before .before .before .before .before .before .symbol-count .given .1) at
+    (c .before .before .before .before .before .before .before .before .before .read-file .ensures)) in
+    omega (arith, parts .fewSymbols)
+
+array-share-prefix-table : tie.Need-array-share-prefix-table
+array-share-prefix-table c =
+    let (file, end, read, parts) = (rw (c .before .before .before .before .before .before .symbol-count .given .1) at
+    (c .before .before .before .before .before .before .before .before .before .read-file .ensures)) in
+    let n : length (c .before .before .before .before .before .before .before .before .before .read-file .last .1 .0)
+    ≡ 1021 = c .before .before .before .before .before .before .before .before .before .read-file .kept .1 .0 in
+    omega (arith, parts .fewSymbols)
+
+slice-aggregate-put-rules : tie.Need-slice-aggregate-put-rules
+slice-aggregate-put-rules c =
+    let (file, end, read, parts) =
+    (rw (c .before .before .before .before .before .before .before .symbol-count .given .1) at
+    (c .before .before .before .before .before .before .before .before .before .before .read-file .ensures)) in
+    let n : length
+    (c .before .before .before .before .before .before .before .before .before .before .read-file .last .1 .0) ≡
+    1021 = c .before .before .before .before .before .before .before .before .before .before .read-file .kept .1 .0 in
+    sym (length-take-le _
+    (c .before .before .before .before .before .before .before .before .before .before .read-file .last .1 .0)
+    (omega (arith, parts .fewSymbols)))
+
+put-rules-requires : tie.Need-put-rules-requires
+put-rules-requires c κs =
+    let (file, end, read, parts) =
+    (rw (c .before .before .before .before .before .before .before .before .symbol-count .given .1) at
+    (c .before .before .before .before .before .before .before .before .before .before .before .read-file .ensures)) in
+    let n : length
+    (c .before .before .before .before .before .before .before .before .before .before .before .read-file .last .1 .0) ≡ 1021 = c .before .before .before .before .before .before .before .before .before .before .before .read-file .kept .1 .0 in (
+      parts .short,
+      table-of
+          (c .before .before .before .before .before .before .before .before .before .before .before .before .before .before .before .args .book .now) _ file end _ _ _ _ (sym n) read parts,
+      omega (arith, c .before .before .before .before .put-count .ensures .1 .1),
+      parts .fewRules,
+    )
+
+put-summary-requires : tie.Need-put-summary-requires
+put-summary-requires c κs =
+    let (file, end, read, parts) =
+    (rw (c .before .before .before .before .before .before .before .before .before .before .before .before .symbol-count .given .1) at (c .before .before .before .before .before .before .before .before .before .before .before .before .before .before .before .read-file .ensures)) in (
+      omega (
+        arith,
+        parts .fewRules,
+        c .before .before .before .before .before .before .before .before .put-count .ensures .1 .1,
+        c .before .before .before .put-rules .ensures .1 .1,
+      ),
+      omega
+          (arith, parts .fewRules, c .before .before .before .put-rules .ensures .1 .0),
+    )
+
+same-length : tie.Need-same-length
+same-length c = search needs
+
+returns : tie.Need-returns
+returns c =
+    let p = c .before .before .put-refusal .ensures in (
+      report-refusal
+          (c .before .before .before .before .before .before .before .before .before .before .before .before .before .args .book .now) _ _ _ (c .before .before .before .before .before .before .before .before .before .before .before .before .before .args .out .now) _ (rw (c .before .before .before .before .before .before .code .given .1) at (c .before .before .before .before .before .before .before .before .before .read-file .ensures))
+          (p .0 ∙ rw (c .before .before .before .long .ensures .0))
+          (p .1 .0 ∙ rw (c .before .before .before .long .ensures .0)) (omega (arith, p .1 .1)),
+      omega (arith, p .1 .1),
+    )
+
+same-length-2 : tie.Need-same-length-2
+same-length-2 c = search needs
+
+returns-2 : tie.Need-returns-2
+returns-2 c =
+    let (file, end, read, parts) =
+    (rw (c .before .before .before .before .before .before .before .before .before .before .before .before .before .before .before .symbol-count .given .1) at (c .before .before .before .before .before .before .before .before .before .before .before .before .before .before .before .before .before .before .read-file .ensures)) in
+    let (d, w) = c .before .before .before .before .before .before .put-rules .ensures .0 (file .rules) (parts .end)
+    (rw (parts .signature) (parts .rulesRead)) in
+    let k = c .before .before .before .before .before .before .before .before .before .before .before .put-count .ensures in
+    let t = c .before .before .put-summary .ensures in (
+      report-marks
+          (c .before .before .before .before .before .before .before .before .before .before .before .before .before .before .before .before .before .before .before .before .before .before .args .book .now) file end read _ _ _ (c .before .before .before .before .before .before .before .before .before .before .before .before .before .before .before .before .before .before .before .before .before .before .args .out .now) _ _ _ _ _ (parts .ruleCount)
+          (d ∙ rw (parts .signature)) (k .0, k .1 .0) (rw (parts .signature) at w) (t .0)
+          (omega (
+            arith,
+            parts .fewRules,
+            k .1 .1,
+            c .before .before .before .before .before .before .put-rules .ensures .1 .1,
+            t .1,
+          )),
+      omega (
+        arith,
+        parts .fewRules,
+        k .1 .1,
+        c .before .before .before .before .before .before .put-rules .ensures .1 .1,
+        t .1,
+      ),
+    )
+
+pub report-spec : {M : Type 1} → statement M
+report-spec =
+    tie.close
+    (tie.spec
+    slice-aggregate-read-file
+    read-file-requires
+    enum-known-code
+    long-requires
+    put-refusal-requires
+    enum-known-symbol-count
+    slice-aggregate-put-count
+    put-count-requires
+    mul-front
+    add-front
+    array-share-prefix-table
+    slice-aggregate-put-rules
+    put-rules-requires
+    put-summary-requires
+    same-length
+    returns
+    same-length-2
+    returns-2)

@@ -1,0 +1,140 @@
+-- Covering and the comparison of two lists of offsets as multisets.
+--     marked, marked-above, marked-not           a mark says whether the left is greater
+--     above-none, above-at                       the search for a greater term
+--     covered-all, covered-not                   each has a greater one
+--     verdict-equal, -short, -above, -not        what is left decides
+use mathlib.Core.List.{List, [], _∷_, map}
+use mathlib.Core.Path.{_≡_, refl, sym, ap, _∙_}
+use mathlib.Core.Bool.{Bool, true, false, cond, not, _&&_, _||_}
+use Prim.Native.Nat.{ℕ, suc, zero, _≤_, _<_}
+use native.Mathlib.Omega.{arith}
+use lib.Dec.{ltb}
+use lib.ListN.{length, getD, take}
+use lib.Seq.{getD-take, length-take-le}
+use borrow.Author.Tests.{lt-ltb, le-ltb}
+use Rattle.multisets.specs.Multiset.{some, every, isEmpty, cancel, multisetEqual, multisetGreater}
+use Rattle.multisets.proofs.Relations.{byTest}
+use Rattle.multisets.proofs.MultisetLaws.{sum}
+use Rattle.terms.specs.Signature.{Signature}
+use Rattle.terms.specs.Term.{Term, size}
+use Rattle.terms.specs.Equivalence.{isEquivalent}
+use Rattle.terms.specs.Order.{isGreater}
+use Rattle.terms.proofs.OrderLaws.{isGreater-unfolds}
+use Rattle.symbols.specs.Table.{signatureOf}
+use Rattle.equivalence.specs.Parts.{partAt}
+use Rattle.equivalence.specs.Offsets.{Offsets, termsAt}
+use Rattle.equivalence.proofs.OffsetLaws.{offsets-length}
+use Rattle.order.specs.Compared.{greaterAt, markAt, covered, verdict}
+use Rattle.order.proofs.MeasureLaws.{cancel-within}
+
+module _ {A : Type 0} (p : A → Bool) (g : ℕ → A) where
+  some-none : (qs : List ℕ) → ((k : ℕ) → k < length qs → p (g (getD qs k 0)) ≡ false) → some p (map g qs) ≡ false
+  some-none [] h = refl
+  some-none (q ∷ qs) h = rw (h 0 (omega arith), some-none qs (λ k l. h (suc k) (omega arith)))
+
+  some-at : (qs : List ℕ) (r : ℕ) → r < length qs → p (g (getD qs r 0)) ≡ true → some p (map g qs) ≡ true
+  some-at [] r h e = absurd (omega arith)
+  some-at (q ∷ qs) zero h e = rw e
+  some-at (q ∷ qs) (suc r) h e = byTest (p (g q)) (λ d. rw d) λ d. rw d (some-at qs r (omega arith) e)
+
+  every-all : (qs : List ℕ) → ((k : ℕ) → k < length qs → p (g (getD qs k 0)) ≡ true) → every p (map g qs) ≡ true
+  every-all [] h = refl
+  every-all (q ∷ qs) h = rw (h 0 (omega arith), every-all qs (λ k l. h (suc k) (omega arith)))
+
+  every-not : (qs : List ℕ) (r : ℕ) → r < length qs → p (g (getD qs r 0)) ≡ false → every p (map g qs) ≡ false
+  every-not [] r h e = absurd (omega arith)
+  every-not (q ∷ qs) zero h e = rw e
+  every-not (q ∷ qs) (suc r) h e = byTest (p (g q)) (λ d. rw d (every-not qs r (omega arith) e)) λ d. rw d
+
+-- ---- covers
+
+module _ (table : List ℕ) where
+  abbrev σ : Signature
+  σ = signatureOf table
+
+  greater-mark : (s : List ℕ) (i : ℕ) (t : List ℕ) (j : ℕ) → greaterAt table s i t j ≡ ltb 0 (markAt table s i t j)
+  greater-mark s i t j = isGreater-unfolds σ (partAt σ s i) (partAt σ t j)
+
+  module _ (s : List ℕ) (i : ℕ) (t : List ℕ) (j v : ℕ) (e : v ≡ markAt table s i t j) where
+    pub marked : ltb 0 v ≡ greaterAt table s i t j
+    marked = rw e (sym (greater-mark s i t j))
+
+    pub marked-above : 0 < v → greaterAt table s i t j ≡ true
+    marked-above h = sym marked ∙ lt-ltb 0 v h
+
+    pub marked-not : v ≤ 0 → greaterAt table s i t j ≡ false
+    marked-not h = sym marked ∙ le-ltb 0 v h
+
+  -- Does the term at q have a greater one among those at offsets?
+  abbrev pub someAbove : List ℕ → List ℕ → ℕ → List ℕ → ℕ → Bool
+  someAbove s ps n t q = some (λ (a : Term). isGreater σ a (partAt σ t q)) (termsAt table s ps n)
+
+  module _ {s ps : List ℕ} {n : ℕ} (P : Offsets σ s ps n (termsAt table s ps n)) (t : List ℕ) (q : ℕ) where
+    pub above-none : ((k : ℕ) → k < n → greaterAt table s (getD ps k 0) t q ≡ false) → someAbove s ps n t q ≡ false
+    above-none h =
+        let e = length-take-le n ps (omega (arith, P .room, P .few)) in
+        some-none (λ a. isGreater σ a (partAt σ t q)) (partAt σ s) (take n ps)
+        λ k l. let z : k < n = omega arith in rw (getD-take n ps k 0 z) (h k z)
+
+    pub above-at : (k : ℕ) → k < n → greaterAt table s (getD ps k 0) t q ≡ true → someAbove s ps n t q ≡ true
+    above-at k h f =
+        let e = length-take-le n ps (omega (arith, P .room, P .few)) in
+        some-at (λ a. isGreater σ a (partAt σ t q)) (partAt σ s) (take n ps) k (omega arith) (rw (getD-take n ps k 0 h) f)
+
+  module _ (s ps : List ℕ) (n : ℕ) {t qs : List ℕ} {m : ℕ} (Q : Offsets σ t qs m (termsAt table t qs m)) where
+    abbrev test : Term → Bool
+    test y = some (λ (x : Term). isGreater σ x y) (termsAt table s ps n)
+
+    pub covered-all : ((k : ℕ) → k < m → someAbove s ps n t (getD qs k 0) ≡ true) →
+        true ≡ covered table (termsAt table s ps n) (termsAt table t qs m)
+    unfolding covered
+    covered-all h =
+        let e = length-take-le m qs (omega (arith, Q .room, Q .few)) in
+        sym (every-all test (partAt σ t) (take m qs) λ k l. let z : k < m = omega arith in rw (getD-take m qs k 0 z) (h k z))
+
+    pub covered-not : (k : ℕ) → k < m → someAbove s ps n t (getD qs k 0) ≡ false →
+        false ≡ covered table (termsAt table s ps n) (termsAt table t qs m)
+    unfolding covered
+    covered-not k h f =
+        let e = length-take-le m qs (omega (arith, Q .room, Q .few)) in
+        sym (every-not test (partAt σ t) (take m qs) k (omega arith) (rw (getD-take m qs k 0 h) f))
+
+  -- ---- compare
+
+  empty : (l : List Term) → length l ≡ 0 → isEmpty l ≡ true
+  empty [] e = refl
+  empty (a ∷ l) e = absurd (omega arith)
+
+  filled : (l : List Term) → (length l ≡ 0 → ⊥) → isEmpty l ≡ false
+  filled [] e = absurd (e refl)
+  filled (a ∷ l) e = refl
+
+  module _ {s t : List ℕ} (xs ys : List Term) {ps qs : List ℕ} {a b : ℕ}
+      (P : Offsets σ s ps a (cancel (isEquivalent σ) xs ys .left))
+      (Q : Offsets σ t qs b (cancel (isEquivalent σ) xs ys .right)) where
+    pub verdict-equal : a ≡ 0 → b ≡ 0 → 1 ≡ verdict table xs ys
+    unfolding verdict multisetEqual multisetGreater
+    verdict-equal d e = rw (empty _ (offsets-length P ∙ d), empty _ (offsets-length Q ∙ e))
+
+    pub verdict-short : a ≡ 0 → (b ≡ 0 → ⊥) → 0 ≡ verdict table xs ys
+    unfolding verdict multisetEqual multisetGreater
+    verdict-short d e = rw (empty _ (offsets-length P ∙ d), filled _ (λ z. e (sym (offsets-length Q) ∙ z)))
+
+    module _ (d : a ≡ 0 → ⊥) where
+      left-filled : isEmpty (cancel (isEquivalent σ) xs ys .left) ≡ false
+      left-filled = filled (cancel (isEquivalent σ) xs ys .left) (λ z. d (sym (offsets-length P) ∙ z))
+
+      left-covered : (r : Bool) → r ≡ covered table (termsAt table s ps a) (termsAt table t qs b) →
+          r ≡ covered table (cancel (isEquivalent σ) xs ys .left) (cancel (isEquivalent σ) xs ys .right)
+      left-covered r h = rw (P .there, Q .there) at h
+
+      pub verdict-above : true ≡ covered table (termsAt table s ps a) (termsAt table t qs b) → 2 ≡ verdict table xs ys
+      unfolding verdict multisetEqual multisetGreater covered
+      verdict-above h = let c = left-covered true h in rw (left-filled, ← c)
+
+      pub verdict-not : false ≡ covered table (termsAt table s ps a) (termsAt table t qs b) → 0 ≡ verdict table xs ys
+      unfolding verdict multisetEqual multisetGreater covered
+      verdict-not h = let c = left-covered false h in rw (left-filled, ← c)
+
+    pub left-sum : (sum size (termsAt table s ps a) ≤ sum size xs) × (sum size (termsAt table t qs b) ≤ sum size ys)
+    left-sum = rw (P .there, Q .there) (cancel-within size (isEquivalent σ) xs ys)

@@ -1,0 +1,12 @@
+-- The laws that the functions' proofs cite, in reading order.
+pub mod SumLaws
+pub mod OccurrenceLaws
+pub mod MeasureLaws
+pub mod CoverLaws
+pub mod SplitLaws
+pub mod FlattenedLaws
+pub mod RootLaws
+pub mod EquivalentLaws
+pub mod MarkLaws
+pub mod WholeLaws
+pub mod MarginLaws

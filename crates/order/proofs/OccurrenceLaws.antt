@@ -1,0 +1,143 @@
+-- Occurrences of eight variables as digits of one number: comparing digits compares occurrences.
+--     within-none, within-more             one digit more
+--     none-oftener-of, oftener-low, -high  the test of all sixteen variables
+use mathlib.Core.List.{List}
+use mathlib.Core.Path.{_≡_, refl, sym, ap, _∙_}
+use mathlib.Core.Bool.{Bool, true, false, cond, _&&_, false≢true, and-eq-true-iff as both}
+use Prim.Native.Nat.{ℕ, suc, zero, _+_, _-_, _*_, _/_, _%_, _≤_, _<_}
+use native.Mathlib.Omega.{arith}
+use lib.Dec.{eqb, leb}
+use lib.ListN.{length}
+use borrow.Author.Tests.{leb-true, le-leb, lt-leb}
+use Rattle.multisets.proofs.Relations.{byTest, byOrder}
+use Rattle.terms.specs.Signature.{Signature}
+use Rattle.terms.specs.Term.{Term, Terms, size, sizes, measure, measures, occurrences, variableCount}
+use Rattle.terms.specs.Term.Term.{var, app}
+use Rattle.terms.specs.Term.Terms.{nil, cons}
+use Rattle.terms.specs.Order.{noneOftener}
+use Rattle.terms.proofs.OrderLaws.{noneOftener-facts}
+use Rattle.symbols.specs.Table.{signatureOf}
+use Rattle.equivalence.specs.Parts.{partAt}
+use Rattle.equivalence.specs.Keys.{Prepared}
+use Rattle.equivalence.proofs.StepLaws.{part-small}
+use Rattle.order.specs.Sums.{digit, digitsWithin, termSum}
+
+-- ---- the loop over digits
+
+pub within-zero : (n a b : ℕ) → b ≡ 0 → digitsWithin n a b ≡ true
+unfolding digitsWithin
+within-zero zero a b e = refl
+within-zero (suc n) a b e = rw (le-leb (b % 256) (a % 256) (omega arith), within-zero n (a / 256) (b / 256) (omega arith))
+
+pub within-none : (n a b : ℕ) → n ≡ 0 → digitsWithin n a b ≡ true
+unfolding digitsWithin
+within-none n a b e = rw e
+
+pub within-not : (n a b : ℕ) → 0 < n → a % 256 < b % 256 → digitsWithin n a b ≡ false
+unfolding digitsWithin
+within-not zero a b p h = absurd (omega arith)
+within-not (suc n) a b p h = rw (lt-leb (b % 256) (a % 256) h)
+
+pub within-more : (n a b : ℕ) → 0 < n → b % 256 ≤ a % 256 → digitsWithin (n - 1) (a / 256) (b / 256) ≡ digitsWithin n a b
+unfolding digitsWithin
+within-more zero a b p h = absurd (omega arith)
+within-more (suc n) a b p h = let d : suc n - 1 ≡ n = omega arith in rw (d, le-leb (b % 256) (a % 256) h)
+
+-- ---- digits are occurrences
+
+abbrev pub packed : ℕ → ℕ → Term → ℕ
+packed k n = measure (λ (x : ℕ). digit k n x) (λ (f : ℕ). 0)
+
+abbrev packeds : ℕ → ℕ → Terms → ℕ
+packeds k n = measures (λ (x : ℕ). digit k n x) (λ (f : ℕ). 0)
+
+abbrev occurrencesIn : ℕ → Terms → ℕ
+occurrencesIn x = measures (λ (y : ℕ). cond (eqb x y) 1 0) (λ (f : ℕ). 0)
+
+mutual
+  packed-more : (k n : ℕ) (t : Term) → packed k (suc n) t ≡ occurrences k t + 256 * packed (suc k) n t
+  packed-more k n (var x) = refl
+  packed-more k n (app f ts) = omega (arith, packeds-more k n ts)
+
+  packeds-more : (k n : ℕ) (ts : Terms) → packeds k (suc n) ts ≡ occurrencesIn k ts + 256 * packeds (suc k) n ts
+  packeds-more k n nil = refl
+  packeds-more k n (cons t ts) = omega (arith, packed-more k n t, packeds-more k n ts)
+
+mutual
+  occurrences-size : (x : ℕ) (t : Term) → occurrences x t ≤ size t
+  occurrences-size x (var y) = byTest (eqb x y) (λ e. rw e (omega arith)) λ e. rw e (omega arith)
+  occurrences-size x (app f ts) = omega (arith, occurrencesIn-sizes x ts)
+
+  occurrencesIn-sizes : (x : ℕ) (ts : Terms) → occurrencesIn x ts ≤ sizes ts
+  occurrencesIn-sizes x nil = omega arith
+  occurrencesIn-sizes x (cons t ts) = omega (arith, occurrences-size x t, occurrencesIn-sizes x ts)
+
+module _ (s t : Term) (p : size s < 256) (q : size t < 256) where
+  -- The lowest digit, and the others.
+  step : (k n : ℕ) → (packed k (suc n) s % 256 ≡ occurrences k s) × (packed k (suc n) s / 256 ≡ packed (suc k) n s)
+      × (packed k (suc n) t % 256 ≡ occurrences k t) × (packed k (suc n) t / 256 ≡ packed (suc k) n t)
+  step k n = omega (arith, packed-more k n s, packed-more k n t, occurrences-size k s, occurrences-size k t)
+
+  within-all : (n k : ℕ) → ((x : ℕ) → k ≤ x → x < k + n → occurrences x t ≤ occurrences x s) →
+      digitsWithin n (packed k n s) (packed k n t) ≡ true
+  unfolding digitsWithin
+  within-all zero k h = refl
+  within-all (suc n) k h =
+      let (a, b, c, d) = step k n in
+      rw (a, b, c, d, le-leb _ _ (h k (omega arith) (omega arith))) (within-all n (suc k) λ x l m. h x (omega arith) (omega arith))
+
+  within-each : (n k : ℕ) → digitsWithin n (packed k n s) (packed k n t) ≡ true → (x : ℕ) → k ≤ x → x < k + n →
+      occurrences x t ≤ occurrences x s
+  unfolding digitsWithin
+  within-each zero k e x l m = absurd (omega arith)
+  within-each (suc n) k e x l m =
+      let (a, b, c, d) = step k n in
+      let f = rw (a, b, c, d) at e in
+      let g = both (leb (occurrences k t) (occurrences k s)) _ .0 f in
+      byOrder k x (λ z. within-each n (suc k) (g .1) x (omega arith) (omega arith))
+      λ z. let y : x ≡ k = omega arith in rw y (leb-true _ _ (g .0))
+
+  pub none-oftener-of : digitsWithin 8 (packed 0 8 s) (packed 0 8 t) ≡ true →
+      digitsWithin 8 (packed 8 8 s) (packed 8 8 t) ≡ true → true ≡ noneOftener variableCount s t
+  none-oftener-of e d =
+      sym (noneOftener-facts variableCount s t .1 λ x l.
+      byOrder x 8 (λ a. within-each 8 0 e x (omega arith) (omega arith)) λ a. within-each 8 8 d x a (omega arith))
+
+  oftener-of : (k : ℕ) → k + 8 ≤ variableCount → digitsWithin 8 (packed k 8 s) (packed k 8 t) ≡ false →
+      false ≡ noneOftener variableCount s t
+  oftener-of k h e =
+      byTest (noneOftener variableCount s t)
+      (λ d. absurd (false≢true (sym e ∙ within-all 8 k λ x l m. noneOftener-facts variableCount s t .0 d x (omega arith))))
+      λ d. sym d
+
+  pub oftener-low : digitsWithin 8 (packed 0 8 s) (packed 0 8 t) ≡ false → false ≡ noneOftener variableCount s t
+  oftener-low e = oftener-of 0 (omega arith) e
+
+  pub oftener-high : digitsWithin 8 (packed 8 8 s) (packed 8 8 t) ≡ false → false ≡ noneOftener variableCount s t
+  oftener-high e = oftener-of 8 (omega arith) e
+
+-- ---- by the sums at two offsets
+
+module _ (table : List ℕ) {s sk t tk : List ℕ} (P : Prepared (signatureOf table) s sk) (Q : Prepared (signatureOf table) t tk)
+    (i j : ℕ) (h : i < length s) (k : j < length t) where
+  abbrev σ : Signature
+  σ = signatureOf table
+
+  small-left : size (partAt σ s i) < 256
+  small-left = omega (arith, part-small σ s (P .complete) i h, P .short)
+
+  small-right : size (partAt σ t j) < 256
+  small-right = omega (arith, part-small σ t (Q .complete) j k, Q .short)
+
+  module _ {a b : ℕ} (d : a ≡ termSum σ 1 (partAt σ s i)) (e : b ≡ termSum σ 1 (partAt σ t j)) where
+    pub few-low : digitsWithin 8 a b ≡ false → false ≡ noneOftener variableCount (partAt σ s i) (partAt σ t j)
+    few-low w = oftener-low (partAt σ s i) (partAt σ t j) small-left small-right (rw (d, e) at w)
+
+    pub few-both : digitsWithin 8 a b ≡ true → {a' b' : ℕ} → a' ≡ termSum σ 2 (partAt σ s i) →
+        b' ≡ termSum σ 2 (partAt σ t j) → {r : Bool} → r ≡ digitsWithin 8 a' b' →
+        r ≡ noneOftener variableCount (partAt σ s i) (partAt σ t j)
+    few-both w d' e' {r} q =
+        byTest r
+        (λ z. rw z (none-oftener-of (partAt σ s i) (partAt σ t j) small-left small-right (rw (d, e) at w)
+        (rw (d', e', z) at (sym q))))
+        λ z. rw z (oftener-high (partAt σ s i) (partAt σ t j) small-left small-right (rw (d', e', z) at (sym q)))

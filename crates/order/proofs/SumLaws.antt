@@ -1,0 +1,193 @@
+-- Sums over words are measures of terms.
+--     nodes-part                  the words from an offset on are those of the part there and those after it
+--     place-below, place-at       the place value of a variable
+--     summed-step, part-sum       preparing sums, and the sum of a part
+use mathlib.Core.List.{List, [], _∷_, _++_}
+use mathlib.Core.Path.{_≡_, refl, sym, ap, _∙_}
+use mathlib.Core.Bool.{Bool, true, false, cond}
+use Prim.Native.Nat.{ℕ, suc, zero, _+_, _-_, _*_, _%_, _^_, _≤_, _<_}
+use native.Mathlib.Omega.{arith}
+use native.Mathlib.Nat.{pow-succ'}
+use native.Mathlib.Numerals.{add-one}
+use lib.Dec.{ltb, eqb}
+use lib.ListN.{length, getD, take, drop, set, take-append-drop, length-set}
+use lib.Seq.{drop-cons, drop-length, getD-set-same, getD-set-other}
+use borrow.Author.Tests.{lt-ltb, le-ltb, eq-eqb, ne-eqb}
+use Rattle.multisets.proofs.Relations.{byTest, byOrder}
+use Rattle.terms.specs.Signature.{Signature, symbolOf}
+use Rattle.terms.specs.Term.{Term, size, measure, measures, arguments}
+use Rattle.terms.specs.Words.{firstVariable, grow, forestOf}
+use Rattle.symbols.specs.Table.{signatureOf}
+use Rattle.equivalence.specs.Parts.{partAt}
+use Rattle.equivalence.specs.Keys.{Prepared, sizeIn}
+use Rattle.equivalence.proofs.PartLaws.{next, stand-one}
+use Rattle.equivalence.proofs.StepLaws.{prepared-size, part-small}
+use Rattle.order.specs.Sums.{node, nodes, digit, atVariable, atSymbol, nodeSum, wordSum, termSum, Summed}
+
+-- ---- sums over words
+
+module _ (σ : Signature) (v w : ℕ → ℕ) where
+  abbrev totals : List Term → ℕ
+  totals l = measures v w (arguments l)
+
+  totals-append : (l m : List Term) → totals (l ++ m) ≡ totals l + totals m
+  totals-append [] m = omega arith
+  totals-append (t ∷ l) m = omega (arith, totals-append l m)
+
+  totals-grow : (u : ℕ) (ts : List Term) → totals (grow σ u ts) ≡ node v w u + totals ts
+  totals-grow u ts =
+      let a = symbolOf σ u .arity in
+      byTest (ltb u firstVariable)
+      (λ e. rw e (omega (arith, totals-append (take a ts) (drop a ts), ap totals (take-append-drop a ts))))
+      λ e. rw e
+
+  totals-forest : (us : List ℕ) → totals (forestOf σ us) ≡ nodes v w us
+  unfolding forestOf
+  totals-forest [] = refl
+  totals-forest (u ∷ us) = totals-grow u (forestOf σ us) ∙ ap (λ (n : ℕ). node v w u + n) (totals-forest us)
+
+module _ {σ : Signature} {ws keys : List ℕ} (P : Prepared σ ws keys) (i : ℕ) (h : i < length ws) where
+  pub part-fits : i + sizeIn keys i ≤ length ws
+  part-fits = omega (arith, prepared-size P i h, part-small σ ws (P .complete) i h)
+
+  nodes-part : (v w : ℕ → ℕ) →
+      nodes v w (drop i ws) ≡ measure v w (partAt σ ws i) + nodes v w (drop (i + sizeIn keys i) ws)
+  nodes-part v w =
+      sym (totals-forest σ v w (drop i ws))
+      ∙ ap (totals σ v w) (next σ ws i (P .complete) 1 (stand-one σ ws i h) (omega arith))
+      ∙ ap (λ (n : ℕ). measure v w (partAt σ ws i) + n) (totals-forest σ v w (drop (i + size (partAt σ ws i)) ws))
+      ∙ rw (prepared-size P i h)
+
+  pub part-sum : {kind : ℕ} {sums : List ℕ} (S : Summed σ kind ws sums) {w : ℕ} → w ≡ sizeIn keys i →
+      (getD sums (129 * kind + (i + w)) 0 ≤ getD sums (129 * kind + i) 0)
+      × (getD sums (129 * kind + i) 0 - getD sums (129 * kind + (i + w)) 0 ≡ termSum σ kind (partAt σ ws i))
+  part-sum {kind} S {w} d =
+      let a = S .sum i (omega arith) in
+      let b = S .sum (i + w) (omega (arith, part-fits)) in
+      let e : wordSum σ kind (drop (i + w) ws) ≡ wordSum σ kind (drop (i + sizeIn keys i) ws) = rw d in
+      omega (arith, nodes-part (atVariable σ kind) (atSymbol σ kind))
+
+-- ---- place values
+
+pub place-below : (k n x : ℕ) → x < k → digit k n x ≡ 0
+place-below k zero x h = refl
+place-below k (suc n) x h =
+    let d : k ≡ x → ⊥ = λ e. omega arith in rw (ne-eqb k x d, place-below (suc k) n x (omega arith))
+
+pub place-past : (k n x : ℕ) → k + n ≤ x → digit k n x ≡ 0
+place-past k zero x h = refl
+place-past k (suc n) x h =
+    let d : k ≡ x → ⊥ = λ e. omega arith in rw (ne-eqb k x d, place-past (suc k) n x (omega arith))
+
+pub place-at : (n k d : ℕ) → d < n → digit k n (k + d) ≡ 256 ^ d
+place-at zero k d h = absurd (omega arith)
+place-at (suc n) k zero h =
+    let e : k ≡ k + 0 = omega arith in
+    rw (← e, eq-eqb k k refl, place-below (suc k) n k (omega arith))
+place-at (suc n) k (suc d) h =
+    let e : k ≡ k + suc d → ⊥ = λ e. omega arith in
+    let f : k + suc d ≡ suc k + d = omega arith in
+    rw (ne-eqb k (k + suc d) e, f, place-at n (suc k) d (omega arith))
+    (omega (arith, pow-succ' 256 d))
+
+pub power-shift : (d : ℕ) → d < 8 → (1 * 2 ^ (8 * d) % 2 ^ 64 ≡ 256 ^ d) × (256 ^ d ≤ 72057594037927936)
+power-shift zero h = (refl, omega arith)
+power-shift (suc zero) h = (refl, omega arith)
+power-shift (suc (suc zero)) h = (refl, omega arith)
+power-shift (suc (suc (suc zero))) h = (refl, omega arith)
+power-shift (suc (suc (suc (suc zero)))) h = (refl, omega arith)
+power-shift (suc (suc (suc (suc (suc zero))))) h = (refl, omega arith)
+power-shift (suc (suc (suc (suc (suc (suc zero)))))) h = (refl, omega arith)
+power-shift (suc (suc (suc (suc (suc (suc (suc zero))))))) h = (refl, omega arith)
+power-shift (suc (suc (suc (suc (suc (suc (suc (suc d)))))))) h = absurd (omega arith)
+
+-- ---- preparing
+
+abbrev pub SummedFrom : Signature → ℕ → List ℕ → List ℕ → ℕ → Type 0
+SummedFrom σ kind ws sums i =
+    (k : ℕ) → i ≤ k → k ≤ length ws → getD sums (129 * kind + k) 0 ≡ wordSum σ kind (drop k ws)
+
+-- The sums of every other kind stay.
+abbrev pub OthersStay : Signature → ℕ → List ℕ → List ℕ → List ℕ → Type 0
+OthersStay σ kind ws sums₀ sums =
+    (other : ℕ) → other < 3 → (other ≡ kind → ⊥) → Summed σ other ws sums₀ → Summed σ other ws sums
+
+pub sum-more : (σ : Signature) (kind : ℕ) (ws : List ℕ) (i sum v : ℕ) → 0 < i → i ≤ length ws →
+    sum ≡ wordSum σ kind (drop i ws) → v ≡ nodeSum σ kind (getD ws (i - 1) 0) →
+    sum + v ≡ wordSum σ kind (drop (i - 1) ws)
+sum-more σ kind ws i sum v p h e d =
+    let f : i - 1 + 1 ≡ i = omega arith in
+    let n : wordSum σ kind (drop (i - 1) ws) ≡ nodeSum σ kind (getD ws (i - 1) 0) + wordSum σ kind (drop (i - 1 + 1) ws) =
+    rw (drop-cons ws (i - 1) 0 (omega arith), add-one) in
+    omega (arith, rw f at n)
+
+module _ (σ : Signature) (kind : ℕ) (ws sums₀ sums : List ℕ) (three : kind < 3) (short : length ws ≤ 128)
+    (room : length sums ≡ 387) where
+  others-stay : (i v : ℕ) → i ≤ length ws → OthersStay σ kind ws sums₀ sums → OthersStay σ kind ws sums₀ (set sums (129 * kind + i) v)
+  others-stay i v h o other l d S =
+      let T = o other l d S in
+      record {
+        room = length-set sums _ v ∙ room;
+        sum = λ k p. getD-set-other sums (129 * kind + i) (129 * other + k) v 0 (λ e. d (omega arith)) ∙ T .sum k p;
+      }
+
+  pub summed-none : OthersStay σ kind ws sums₀ sums →
+      SummedFrom σ kind ws (set sums (129 * kind + length ws) 0) (length ws)
+      × OthersStay σ kind ws sums₀ (set sums (129 * kind + length ws) 0)
+  summed-none o = (
+    λ k p q. let e : k ≡ length ws = omega arith in
+        rw (e, drop-length, getD-set-same sums (129 * kind + length ws) 0 0 (omega arith)),
+    others-stay (length ws) 0 (omega arith) o,
+  )
+
+  pub summed-more : (i sum v : ℕ) → 0 < i → i ≤ length ws → sum ≡ wordSum σ kind (drop i ws) →
+      v ≡ nodeSum σ kind (getD ws (i - 1) 0) → SummedFrom σ kind ws sums i → OthersStay σ kind ws sums₀ sums →
+      (sum + v ≡ wordSum σ kind (drop (i - 1) ws))
+      × SummedFrom σ kind ws (set sums (129 * kind + (i - 1)) (sum + v)) (i - 1)
+      × OthersStay σ kind ws sums₀ (set sums (129 * kind + (i - 1)) (sum + v))
+  summed-more i sum v p h e d m o =
+      let g = sum-more σ kind ws i sum v p h e d in (
+        g,
+        λ k a b. byOrder (i - 1) k
+            (λ q. getD-set-other sums (129 * kind + (i - 1)) (129 * kind + k) (sum + v) 0 (omega arith) ∙ m k (omega arith) b)
+            λ q. let z : k ≡ i - 1 = omega arith in
+            rw z (getD-set-same sums (129 * kind + (i - 1)) (sum + v) 0 (omega arith) ∙ g),
+        others-stay (i - 1) (sum + v) (omega arith) o,
+      )
+
+-- ---- what a node adds
+
+module _ (table : List ℕ) (kind w : ℕ) where
+  abbrev σ : Signature
+  σ = signatureOf table
+
+  pub node-weight : w < 256 → kind ≡ 0 → symbolOf σ w .weight ≡ nodeSum σ kind w
+  node-weight h e = rw (e, lt-ltb w firstVariable h)
+
+  pub node-nothing : w < 256 → (kind ≡ 0 → ⊥) → 0 ≡ nodeSum σ kind w
+  node-nothing h e = rw (lt-ltb w firstVariable h) (go kind e)
+    where
+      go : (kind : ℕ) → (kind ≡ 0 → ⊥) → 0 ≡ atSymbol σ kind w
+      go zero e = absurd (e refl)
+      go (suc kind) e = refl
+
+  pub node-variable : 256 ≤ w → kind ≡ 0 → σ .w0 ≡ nodeSum σ kind w
+  node-variable h e = rw (e, le-ltb w firstVariable h)
+
+  pub node-low : 256 ≤ w → kind ≡ 1 → digit 0 8 (w - 256) ≡ nodeSum σ kind w
+  node-low h e = rw (e, le-ltb w firstVariable h)
+
+  pub node-high : 256 ≤ w → (kind ≡ 0 → ⊥) → (kind ≡ 1 → ⊥) → digit 8 8 (w - 256) ≡ nodeSum σ kind w
+  node-high h d e = rw (le-ltb w firstVariable h) (go kind d e)
+    where
+      go : (kind : ℕ) → (kind ≡ 0 → ⊥) → (kind ≡ 1 → ⊥) → digit 8 8 (w - 256) ≡ atVariable σ kind (w - 256)
+      go zero d e = absurd (d refl)
+      go (suc zero) d e = absurd (e refl)
+      go (suc (suc kind)) d e = refl
+
+pub all-kinds : {σ : Signature} {ws sums : List ℕ} → Summed σ 0 ws sums → Summed σ 1 ws sums → Summed σ 2 ws sums →
+    (kind : ℕ) → kind < 3 → Summed σ kind ws sums
+all-kinds a b c zero h = a
+all-kinds a b c (suc zero) h = b
+all-kinds a b c (suc (suc zero)) h = c
+all-kinds a b c (suc (suc (suc kind))) h = absurd (omega arith)

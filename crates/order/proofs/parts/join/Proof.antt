@@ -1,0 +1,61 @@
+use borrow.Author.Needs.{needs}
+use native.Mathlib.Omega.{arith}
+use mathlib.Core.Path.{_≡_}
+use Prim.Native.Nat.{_+_, _-_, _≤_}
+use Rattle.order.proofs.SplitLaws.{Joined, joined-none, joined-more}
+use Rattle.order.proofs.parts.join.Statement.{statement}
+use Rattle.order.proofs.parts.join.Tie as tie
+use Rattle.order.proofs.parts.join.Reads as reads
+use Rattle.order.proofs.parts.join.Lts as lts
+
+abbrev Inv-loop : tie.InvT-loop
+Inv-loop table t ps₀ k qs m x₀ ps x = (x ≤ m) × Joined table t ps₀ qs k ps x
+
+abbrev μ-loop : tie.MeasureT-loop
+μ-loop table t ps₀ k qs m x₀ ps x = m - x
+
+loop-holds : tie.Need-loop-holds Inv-loop μ-loop
+loop-holds c =
+    let a = c .args in (omega arith, joined-none (a .table .now) (a .t .now) (a .ps .now) (a .qs .now) (a .k))
+
+element-copy-out-ps : tie.Need-element-copy-out-ps Inv-loop μ-loop
+element-copy-out-ps c = search needs
+
+add-ps : tie.Need-add-ps Inv-loop μ-loop
+add-ps c = search needs
+
+element-write-ps : tie.Need-element-write-ps Inv-loop μ-loop
+element-write-ps c = search needs
+
+add-x : tie.Need-add-x Inv-loop μ-loop
+add-x c = search needs
+
+loop-less : tie.Need-loop-less Inv-loop μ-loop
+loop-less c = search needs
+
+loop-again : tie.Need-loop-again Inv-loop μ-loop
+loop-again c =
+    let a = c .before .before .before .args in
+    let h = c .before .before .before .pre .1 in (
+      omega arith,
+      joined-more (a .table .now) (a .t .now) (a .ps .now) (a .qs .now) (a .k) (c .before .before .loop .ps) (c .before .before .loop .x)
+          (omega (arith, h .room, h .few)) (omega arith) (h .inside (c .before .before .loop .x) (omega arith)) (c .before .before .loop .inv .1),
+    )
+
+returns : tie.Need-returns Inv-loop μ-loop
+returns c = let d : c .before .loop .x ≡ c .before .before .args .m = omega arith in rw (← d) (c .before .loop .inv .1)
+
+pub join-spec : {M : Type 1} → statement M
+join-spec =
+    tie.close
+    (tie.spec
+    Inv-loop
+    μ-loop
+    loop-holds
+    element-copy-out-ps
+    add-ps
+    element-write-ps
+    add-x
+    loop-less
+    loop-again
+    returns)

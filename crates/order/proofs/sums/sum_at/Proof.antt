@@ -1,0 +1,62 @@
+use native.Mathlib.Omega.{arith}
+use Rattle.order.proofs.SumLaws.{part-fits, part-sum}
+use borrow.Author.Needs.{needs}
+use Rattle.order.proofs.sums.sum_at.Statement.{statement}
+use Rattle.order.proofs.sums.sum_at.Tie as tie
+use Rattle.order.proofs.sums.sum_at.Reads as reads
+use Rattle.order.proofs.sums.sum_at.Lts as lts
+use Rattle.equivalence.proofs.keys.size_at.Reads as size-at-reads
+
+size-at-requires : tie.Need-size-at-requires
+size-at-requires c κs = search needs
+
+add-end : tie.Need-add-end
+add-end c = search needs
+
+mul-result : tie.Need-mul-result
+mul-result c = search needs
+
+add-result : tie.Need-add-result
+add-result c = search needs
+
+mul-result-2 : tie.Need-mul-result-2
+mul-result-2 c = search needs
+
+element-copy-out-result : tie.Need-element-copy-out-result
+element-copy-out-result c = search needs
+
+mul-result-3 : tie.Need-mul-result-3
+mul-result-3 c = search needs
+
+add-result-2 : tie.Need-add-result-2
+add-result-2 c = search needs
+
+mul-result-4 : tie.Need-mul-result-4
+mul-result-4 c = search needs
+
+element-copy-out-result-2 : tie.Need-element-copy-out-result-2
+element-copy-out-result-2 c =
+    omega (arith, part-fits (c .before .before .before .before .pre .0) (c .before .before .before .before .args .i) (c .before .before .before .before .pre .1 .1 .1), c .before .size-at .ensures .0, c .before .before .before .before .pre .1 .0 .room, c .before .before .before .before .pre .0 .short)
+
+sub-result : tie.Need-sub-result
+sub-result c = part-sum (c .before .before .before .before .before .pre .0) (c .before .before .before .before .before .args .i) (c .before .before .before .before .before .pre .1 .1 .1) (c .before .before .before .before .before .pre .1 .0) (c .before .before .size-at .ensures .0) .0
+
+returns : tie.Need-returns
+returns c = part-sum (c .before .before .before .before .before .pre .0) (c .before .before .before .before .before .args .i) (c .before .before .before .before .before .pre .1 .1 .1) (c .before .before .before .before .before .pre .1 .0) (c .before .before .size-at .ensures .0) .1
+
+pub sum-at-spec : {M : Type 1} → statement M
+sum-at-spec =
+    tie.close
+    (tie.spec
+    size-at-requires
+    add-end
+    mul-result
+    add-result
+    mul-result-2
+    element-copy-out-result
+    mul-result-3
+    add-result-2
+    mul-result-4
+    element-copy-out-result-2
+    sub-result
+    returns)

@@ -1,0 +1,85 @@
+-- What the functions of the comparison answer of the terms at two offsets, of the n terms there, and of two lists.
+use mathlib.Core.List.{List}
+use mathlib.Core.Bool.{Bool, cond}
+use mathlib.Core.Path.{_≡_}
+use Prim.Native.Nat.{ℕ, _≤_, _<_}
+use lib.ListN.{length}
+use Rattle.multisets.specs.Multiset.{every, some, multisetEqual, multisetGreater, rowGreater}
+use Rattle.terms.specs.Signature.{Signature, AcBinary}
+use Rattle.terms.specs.Term.{Term, variableCount, weight}
+use Rattle.terms.specs.Equivalence.{isEquivalent}
+use Rattle.terms.specs.Order.{noneOftener, variables as variablesOf, highPart, lowPart, joinedHigh, flattenedMark, rootMark, decreasingMark, isGreater}
+use Rattle.symbols.specs.Table.{signatureOf}
+use Rattle.equivalence.specs.Parts.{IsTerm, partAt, partsAt, elementsAt}
+use Rattle.equivalence.specs.Keys.{Sides}
+use Rattle.equivalence.specs.Offsets.{Offsets}
+use Rattle.order.specs.Sums.{Summed}
+
+-- What both sides of a comparison by the order are.
+pub record Scales (table s sk sw t tk tw : List ℕ) : Type 0 where
+  pub sides : Sides table s sk t tk
+  pub left : (kind : ℕ) → kind < 3 → Summed (signatureOf table) kind s sw
+  pub right : (kind : ℕ) → kind < 3 → Summed (signatureOf table) kind t tw
+
+-- Two whole terms with their sums.
+pub record Summaries (table s sw t tw : List ℕ) : Type 0 where
+  pub small : length table ≤ 1025
+  pub binary : AcBinary (signatureOf table)
+  pub left : IsTerm (signatureOf table) s
+  pub right : IsTerm (signatureOf table) t
+  pub leftShort : length s ≤ 128
+  pub rightShort : length t ≤ 128
+  pub leftSums : (kind : ℕ) → kind < 3 → Summed (signatureOf table) kind s sw
+  pub rightSums : (kind : ℕ) → kind < 3 → Summed (signatureOf table) kind t tw
+
+-- The offsets of the elements above f, of those below f and of the variables, and how many elements there are.
+pub record Parted (σ : Signature) (f : ℕ) (ws : List ℕ) (ts : List Term) (above below variables : List ℕ)
+    (a b v all : ℕ) : Type 0 where
+  pub high : Offsets σ ws above a (highPart σ f ts)
+  pub low : Offsets σ ws below b (lowPart σ f ts)
+  pub vars : Offsets σ ws variables v (variablesOf ts)
+  pub whole : all ≡ length ts
+
+-- 1: the left is greater. 2: the right is. 3: they are AC-equivalent. 4: none of the three.
+unfoldable pub relation : Signature → Term → Term → ℕ
+relation σ s t = cond (isGreater σ s t) 1 (cond (isGreater σ t s) 2 (cond (isEquivalent σ s t) 3 4))
+
+module _ (table : List ℕ) where
+  abbrev σ : Signature
+  σ = signatureOf table
+
+  abbrev pub weightAt : List ℕ → ℕ → ℕ
+  weightAt s i = weight σ (partAt σ s i)
+
+  abbrev pub noneOftenerAt : List ℕ → ℕ → List ℕ → ℕ → Bool
+  noneOftenerAt s i t j = noneOftener variableCount (partAt σ s i) (partAt σ t j)
+
+  abbrev pub greaterAt : List ℕ → ℕ → List ℕ → ℕ → Bool
+  greaterAt s i t j = isGreater σ (partAt σ s i) (partAt σ t j)
+
+  abbrev pub markAt : List ℕ → ℕ → List ℕ → ℕ → ℕ
+  markAt s i t j = decreasingMark σ (isEquivalent σ) (isGreater σ) (partAt σ s i) (partAt σ t j)
+
+  abbrev pub rootAt : List ℕ → ℕ → List ℕ → ℕ → ℕ
+  rootAt s i t j = rootMark σ (isEquivalent σ) (isGreater σ) (partAt σ s i) (partAt σ t j)
+
+  abbrev pub rowsGreater : List ℕ → ℕ → List ℕ → ℕ → ℕ → Bool
+  rowsGreater s i t j n = rowGreater (isEquivalent σ) (isGreater σ) (partsAt σ s i n) (partsAt σ t j n)
+
+  abbrev pub flattenedAt : ℕ → List ℕ → ℕ → List ℕ → ℕ → ℕ → ℕ
+  flattenedAt f s i t j n = flattenedMark σ (isEquivalent σ) (isGreater σ) f (elementsAt σ f s i n) (elementsAt σ f t j n)
+
+  -- Each of ys has a greater one in xs.
+  unfoldable pub covered : List Term → List Term → Bool
+  covered xs ys = every (λ (y : Term). some (λ (x : Term). isGreater σ x y) xs) ys
+
+  -- 2: xs is above ys as a multiset; 1: they are equivalent; 0: neither.
+  unfoldable pub verdict : List Term → List Term → ℕ
+  verdict xs ys = cond (multisetGreater (isEquivalent σ) (isGreater σ) xs ys) 2 (cond (multisetEqual (isEquivalent σ) xs ys) 1 0)
+
+  -- The verdicts on the high parts and on the low parts of two flattenings for f.
+  abbrev pub highVerdict : ℕ → List Term → List Term → ℕ
+  highVerdict f ss ts = verdict (highPart σ f ss) (joinedHigh σ (isEquivalent σ) f ss ts)
+
+  abbrev pub lowVerdict : ℕ → List Term → List Term → ℕ
+  lowVerdict f ss ts = verdict (lowPart σ f ss) (lowPart σ f ts)

@@ -1,0 +1,3 @@
+-- What the contracts of the comparison by the order say.
+pub mod Sums
+pub mod Compared

@@ -1,0 +1,54 @@
+-- Sums over words that are measures of terms: weights, and the occurrences of eight variables as digits of one number.
+use mathlib.Core.List.{List, [], _∷_}
+use mathlib.Core.Bool.{Bool, true, cond, _&&_}
+use mathlib.Core.Path.{_≡_}
+use Prim.Native.Nat.{ℕ, suc, zero, _+_, _-_, _*_, _/_, _%_, _≤_}
+use lib.Dec.{ltb, eqb, leb}
+use lib.ListN.{length, getD, drop}
+use Rattle.terms.specs.Signature.{Signature, symbolOf}
+use Rattle.terms.specs.Term.{Term, measure}
+use Rattle.terms.specs.Words.{firstVariable}
+
+-- The sum over the words of v at the variables and w at the symbols.
+module _ (v w : ℕ → ℕ) where
+  abbrev pub node : ℕ → ℕ
+  node u = cond (ltb u firstVariable) (w u) (v (u - firstVariable))
+
+  abbrev pub nodes : List ℕ → ℕ
+  nodes [] = 0
+  nodes (u ∷ us) = node u + nodes us
+
+-- The place value of variable x among the n variables from k on: 256 to the power of x - k, and 0 for the others.
+abbrev pub digit : ℕ → ℕ → ℕ → ℕ
+digit k zero x = 0
+digit k (suc n) x = cond (eqb k x) 1 0 + 256 * digit (suc k) n x
+
+-- Each of the n digits of b is at most that of a.
+unfoldable pub digitsWithin : ℕ → ℕ → ℕ → Bool
+digitsWithin zero a b = true
+digitsWithin (suc n) a b = leb (b % 256) (a % 256) && digitsWithin n (a / 256) (b / 256)
+
+module _ (σ : Signature) where
+  -- What is summed up: weights, the occurrences of the variables 0 to 7, those of the variables 8 to 15.
+  abbrev pub atVariable : ℕ → ℕ → ℕ
+  atVariable zero x = σ .w0
+  atVariable (suc zero) x = digit 0 8 x
+  atVariable (suc (suc kind)) x = digit 8 8 x
+
+  abbrev pub atSymbol : ℕ → ℕ → ℕ
+  atSymbol zero f = symbolOf σ f .weight
+  atSymbol (suc kind) f = 0
+
+  abbrev pub nodeSum : ℕ → ℕ → ℕ
+  nodeSum kind = node (atVariable kind) (atSymbol kind)
+
+  abbrev pub wordSum : ℕ → List ℕ → ℕ
+  wordSum kind = nodes (atVariable kind) (atSymbol kind)
+
+  abbrev pub termSum : ℕ → Term → ℕ
+  termSum kind = measure (atVariable kind) (atSymbol kind)
+
+  -- sums has, from 129 times kind on, the sum over all words from each offset on.
+  pub record Summed (kind : ℕ) (ws sums : List ℕ) : Type 0 where
+    pub room : length sums ≡ 387
+    pub sum : (k : ℕ) → k ≤ length ws → getD sums (129 * kind + k) 0 ≡ wordSum kind (drop k ws)

@@ -1,0 +1,149 @@
+// The elements of a flattening, split by their roots, and the high part that is compared.
+use equivalence::cancel::cancel;
+use equivalence::flatten::elements;
+use equivalence::offsets::wide_byte;
+use symbols::precedence;
+ghost use mathlib.Core.Path.{_≡_};
+ghost use mathlib.Core.List.{List, _++_};
+ghost use Prim.Native.Nat.{_+_, _≤_, _<_};
+ghost use lib.ListN.{length};
+ghost use Rattle.terms.specs.Term.{Term};
+ghost use Rattle.symbols.specs.Table.{signatureOf};
+ghost use Rattle.equivalence.specs.Parts.{elementsAt, Stands};
+ghost use Rattle.equivalence.specs.Keys.{Prepared, Sides};
+ghost use Rattle.equivalence.specs.Offsets.{Offsets, termsAt, leftAt};
+ghost use Rattle.order.specs.Compared.{Parted};
+
+pub struct PartCounts {
+    pub above: usize,
+    pub below: usize,
+    pub variables: usize,
+    pub all: usize,
+}
+
+// Splits the m elements by their roots: above f, below f, variables.
+fn split(
+    table: &[u16],
+    f: u16,
+    words: &[u16],
+    offsets: &[u8; 64],
+    m: usize,
+    above: &mut [u8; 64],
+    below: &mut [u8; 64],
+    variables: &mut [u8; 64],
+) -> PartCounts
+    requires { ⌜ Offsets (signatureOf (now table)) (now words) (now offsets) m (termsAt (now table) (now words) (now offsets) m) ⌝ }
+    requires { ⌜ (length (now above) ≡ 64) × (length (now below) ≡ 64) × (length (now variables) ≡ 64) ⌝ }
+    ensures { λ r. ⌜
+        Parted (signatureOf (now (table .entry))) f (now (words .entry))
+        (termsAt (now (table .entry)) (now (words .entry)) (now (offsets .entry)) m)
+        (now (above .exit)) (now (below .exit)) (now (variables .exit)) (r .above) (r .below) (r .variables) (r .all)
+        ⌝ }
+{
+    let rank = precedence(table, f);
+    let mut k = 0;
+    let mut a = 0;
+    let mut b = 0;
+    let mut v = 0;
+    while k < m {
+        let p = offsets[k];
+        let word = words[wide_byte(p)];
+        if word >= 256 {
+            variables[v] = p;
+            v += 1;
+            k += 1;
+        } else {
+            let own = precedence(table, word);
+            if rank < own {
+                above[a] = p;
+                a += 1;
+                k += 1;
+            } else if own < rank {
+                below[b] = p;
+                b += 1;
+                k += 1;
+            } else {
+                k += 1;
+            }
+        }
+    }
+    PartCounts {
+        above: a,
+        below: b,
+        variables: v,
+        all: k,
+    }
+}
+
+// Lists the parts of the flattenings for f of the n terms at i.
+pub fn parts(
+    table: &[u16],
+    f: u16,
+    words: &[u16],
+    keys: &[u64; 128],
+    i: usize,
+    n: usize,
+    above: &mut [u8; 64],
+    below: &mut [u8; 64],
+    variables: &mut [u8; 64],
+) -> PartCounts
+    requires { ⌜ Prepared (signatureOf (now table)) (now words) (now keys) × Stands (signatureOf (now table)) (now words) i n ⌝ }
+    requires { ⌜ (f < 256) × (length (elementsAt (signatureOf (now table)) f (now words) i n) ≤ 64) ⌝ }
+    requires { ⌜ (length (now above) ≡ 64) × (length (now below) ≡ 64) × (length (now variables) ≡ 64) ⌝ }
+    ensures { λ r. ⌜
+        Parted (signatureOf (now (table .entry))) f (now (words .entry))
+        (elementsAt (signatureOf (now (table .entry))) f (now (words .entry)) i n)
+        (now (above .exit)) (now (below .exit)) (now (variables .exit)) (r .above) (r .below) (r .variables) (r .all)
+        ⌝ }
+{
+    let mut offsets = [0u8; 64];
+    let m = elements(table, f, words, keys, i, n, &mut offsets);
+    split(table, f, words, &offsets, m, above, below, variables)
+}
+
+// Puts the first m of qs after the first k of ps.
+fn join(table: &[u16], t: &[u16], ps: &mut [u8; 64], k: usize, qs: &[u8; 64], m: usize)
+    requires { ⌜ k + m ≤ 64 ⌝ }
+    requires { ⌜ Offsets (signatureOf (now table)) (now t) (now qs) m (termsAt (now table) (now t) (now qs) m) ⌝ }
+    ensures { λ r. ⌜ ((l : List Term) →
+        Offsets (signatureOf (now (table .entry))) (now (t .entry)) (now (ps .entry)) k l →
+        Offsets (signatureOf (now (table .entry))) (now (t .entry)) (now (ps .exit)) (k + m)
+        (l ++ termsAt (now (table .entry)) (now (t .entry)) (now (qs .entry)) m)) ⌝ }
+{
+    let mut x = 0;
+    while x < m {
+        ps[k + x] = qs[x];
+        x += 1;
+    }
+}
+
+// Puts what the left's a variables do not cancel of the right's b after the first k of the right's high part.
+pub fn join_surplus(
+    table: &[u16],
+    s: &[u16],
+    sk: &[u64; 128],
+    sv: &mut [u8; 64],
+    a: usize,
+    t: &[u16],
+    tk: &[u64; 128],
+    tv: &mut [u8; 64],
+    b: usize,
+    th: &mut [u8; 64],
+    k: usize,
+) -> usize
+    requires { ⌜ Sides (now table) (now s) (now sk) (now t) (now tk) ⌝ }
+    requires { ⌜ Offsets (signatureOf (now table)) (now s) (now sv) a (termsAt (now table) (now s) (now sv) a) ⌝ }
+    requires { ⌜ Offsets (signatureOf (now table)) (now t) (now tv) b (termsAt (now table) (now t) (now tv) b) ⌝ }
+    requires { ⌜ Offsets (signatureOf (now table)) (now t) (now th) k (termsAt (now table) (now t) (now th) k) ⌝ }
+    requires { ⌜ k + b ≤ 64 ⌝ }
+    ensures { λ r. ⌜
+        Offsets (signatureOf (now (table .entry))) (now (t .entry)) (now (th .exit)) r
+        (termsAt (now (table .entry)) (now (t .entry)) (now (th .entry)) k
+        ++ leftAt (now (table .entry)) (now (s .entry)) (now (sv .entry)) a (now (t .entry)) (now (tv .entry)) b .right)
+        ⌝ }
+{
+    let rest = cancel(table, s, sk, sv, a, t, tk, tv, b);
+    let m = rest.right;
+    join(table, t, th, k, tv, m);
+    k + m
+}

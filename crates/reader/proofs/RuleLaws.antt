@@ -1,0 +1,141 @@
+-- What the code that reads the rules has to show at each of its ends.
+--     side-past                  a side from the nodes still allowed
+--     side-front                 a side at the front of the words
+--     words-known                the words of what is known to be read
+--     left-fault, right-read     a rule
+--     SoFar                      what a loop over the rules has read; so-far-none, so-far-fault, so-far-more, so-far-done
+use mathlib.Core.Path.{_≡_, refl, sym, ap, _∙_}
+use mathlib.Core.List.{List, [], _∷_, _++_, append-assoc, append-nil}
+use Prim.Native.Nat.{ℕ, suc, zero, _+_, _-_, _*_, _≤_, _<_}
+use native.Mathlib.Nat.{add-zero, sub-zero}
+use native.Mathlib.Omega.{arith}
+use lib.ListN.{length, length-append, take, drop}
+use lib.Seq.{sets, sets-eq, take-append-seam}
+use Rattle.terms.specs.Signature.{Signature}
+use Rattle.format.specs.Layout.{maxNodes}
+use Rattle.format.specs.Reading.{Reading, andThen, give, Source}
+use Rattle.format.specs.Reading.Reading.{got, fault}
+use Rattle.format.specs.Format.{Sides, forestReader, rulesReader}
+use Rattle.format.proofs.ReadingLaws.{andThen-give, andThen-assoc, andThen-same}
+use Rattle.reader.specs.declared.cursor.BitCursor.{BitCursor}
+use Rattle.reader.specs.declared.term.Terms.the-variants as terms
+use Rattle.reader.specs.declared.rule.Stored.{Stored}
+use Rattle.reader.specs.declared.rule.Stored.the-variants.{Past, Fault}
+use Rattle.reader.specs.Term.{TermsRead}
+use Rattle.reader.specs.Rule.{WordsRead, sideReading, CountWithin, ruleReader, sideWords, rulesWords}
+use Rattle.reader.proofs.TermLaws.{sets-append}
+
+abbrev pub itself : List ℕ → List ℕ
+itself nodes = nodes
+
+pub side-past : (reading : Reading (List ℕ)) (index left : ℕ) (next : BitCursor) (words after : List ℕ) →
+    TermsRead reading (index + 128) 128 words (terms.Read left next) after →
+    WordsRead itself 128 reading index words (Past (index + 128 - left) next) after
+side-past reading index left next words after (nodes, read, count, stored) =
+    let i : index + 128 - 128 ≡ index = omega arith in
+    (nodes, read, omega arith, omega arith, stored ∙ rw i)
+
+-- A side whose words stand first.
+pub side-front : (reading : Reading (List ℕ)) (words : List ℕ) → 128 ≤ length words → (r : Stored) (after : List ℕ) →
+    WordsRead itself 128 reading 0 words r after → (sideReading after r ≡ reading) × CountWithin 128 r
+side-front reading words room (Past end next) after (nodes, read, long, short, stored) =
+    let e : end ≡ length nodes = omega arith in
+    let front : take (length nodes) after ≡ nodes =
+    rw (stored, sets-eq nodes words 0 (omega arith)) (take-append-seam nodes (drop (0 + length nodes) words)) in
+    (rw (e, front) (sym read), omega arith)
+side-front reading words room (Fault code offset) after read = (sym read, tt)
+
+-- Of what is known to be read.
+pub words-known : {A : Type 0} (wordsOf : A → List ℕ) (most : ℕ) (reading : Reading A) (index : ℕ) (words : List ℕ) (r : Stored)
+    (after : List ℕ) → WordsRead wordsOf most reading index words r after → (a : A) (end : ℕ) → reading ≡ got a end →
+    after ≡ sets words index (wordsOf a)
+words-known wordsOf most reading index words (Past last next) after (b, read, long, short, stored) a end e =
+    let same : b ≡ a = cc in
+    stored ∙ rw same
+words-known wordsOf most reading index words (Fault code offset) after read a end e =
+    let z : _≡_ {A = ℕ} 0 1 = cc in absurd (omega arith)
+
+module _ (source : Source) (σ : Signature) (at index : ℕ) (words : List ℕ) where
+  pub left-fault : (code offset : ℕ) (after : List ℕ) → forestReader source σ maxNodes 1 at ≡ fault code offset →
+      WordsRead sideWords 256 (ruleReader source σ at) index words (Fault code offset) after
+  unfolding ruleReader
+  left-fault code offset after e = rw e
+
+  pub right-read : (middle : ℕ) (next : BitCursor) (between : List ℕ) →
+      WordsRead itself 128 (forestReader source σ maxNodes 1 at) index words (Past middle next) between →
+      (r : Stored) (after : List ℕ) →
+      WordsRead itself 128 (forestReader source σ maxNodes 1 (next .at)) middle between r after →
+      WordsRead sideWords 256 (ruleReader source σ at) index words r after
+  unfolding ruleReader
+  right-read middle next between (left, read, length-left, short, stored) (Past end last) after
+      (right, read', length-right, short', stored') = (
+        record { left = left; right = right },
+        rw (read, read'),
+        simp length-append (omega arith),
+        simp length-append (omega arith),
+        stored' ∙ rw (length-left, stored) (sym (sets-append words index left right)),
+      )
+  right-read middle next between (left, read, length-left, short, stored) (Fault code offset) after read' =
+      rw (read, read')
+
+-- ---- so many rules
+
+-- After that many rules of the count: what was done, and what is to be read.
+abbrev pub SoFar : Source → Signature → ℕ → ℕ → ℕ → ℕ → ℕ → ℕ → List ℕ → List ℕ → Type 0
+SoFar source σ count number start at index₀ index words₀ words =
+    (done : List Sides)
+    × (rulesReader source σ count start ≡ andThen (rulesReader source σ (count - number) at) (λ rest. give (done ++ rest)))
+    × (index ≡ index₀ + length (rulesWords done)) × (length (rulesWords done) ≤ 256 * number)
+    × (words ≡ sets words₀ index₀ (rulesWords done))
+
+pub rules-step : (source : Source) (σ : Signature) (n at : ℕ) → rulesReader source σ (suc n) at ≡
+    andThen (ruleReader source σ at) (λ r next. andThen (rulesReader source σ n next) (λ rest. give (r ∷ rest)))
+unfolding rulesReader ruleReader
+rules-step source σ n at =
+    sym (andThen-assoc (forestReader source σ maxNodes 1 at) _ _
+    ∙ andThen-same (forestReader source σ maxNodes 1 at) _ _ (λ left next. andThen-assoc (forestReader source σ maxNodes 1 next) _ _))
+
+rulesWords-snoc : (rs : List Sides) (r : Sides) → rulesWords (rs ++ (r ∷ [])) ≡ rulesWords rs ++ sideWords r
+rulesWords-snoc [] r = append-nil (sideWords r)
+rulesWords-snoc (t ∷ rs) r =
+    rw (rulesWords-snoc rs r) (sym (append-assoc (sideWords t) (rulesWords rs) (sideWords r)))
+
+module _ (source : Source) (σ : Signature) (count start index₀ : ℕ) (words₀ : List ℕ) where
+  pub so-far-none : SoFar source σ count 0 start start index₀ index₀ words₀ words₀
+  so-far-none =
+      ([], rw sub-zero (sym (andThen-give (rulesReader source σ count start))), sym (add-zero index₀), omega arith, refl)
+
+  module _ (number at index : ℕ) (words : List ℕ) (more : number < count)
+      (so : SoFar source σ count number start at index₀ index words₀ words) where
+    step-at : rulesReader source σ (count - number) at ≡ andThen (ruleReader source σ at)
+        (λ r next. andThen (rulesReader source σ (count - (number + 1)) next) (λ rest. give (r ∷ rest)))
+    step-at =
+        let e : count - number ≡ suc (count - (number + 1)) = omega arith in
+        rw e (rules-step source σ (count - (number + 1)) at)
+
+    pub so-far-fault : (code offset : ℕ) (after : List ℕ) → ruleReader source σ at ≡ fault code offset →
+        WordsRead rulesWords (256 * count) (rulesReader source σ count start) index₀ words₀ (Fault code offset) after
+    so-far-fault code offset after e = so .1 ∙ rw (step-at, e)
+
+    pub so-far-more : (end : ℕ) (next : BitCursor) (after : List ℕ) →
+        WordsRead sideWords 256 (ruleReader source σ at) index words (Past end next) after →
+        SoFar source σ count (number + 1) start (next .at) index₀ end words₀ after
+    so-far-more end next after (r, read, long, short, stored) =
+        let (done, e, i, few, put) = so in
+        let rest = rulesReader source σ (count - (number + 1)) (next .at) in
+        let all : length (rulesWords (done ++ (r ∷ []))) ≡ length (rulesWords done) + length (sideWords r) =
+        ap length (rulesWords-snoc done r) ∙ length-append (rulesWords done) (sideWords r) in (
+          done ++ (r ∷ []),
+          e ∙ rw (step-at, read) (andThen-assoc rest _ _ ∙ andThen-same rest _ _ (λ rs last. ap (λ (l : List Sides). got l last) (sym (append-assoc done (r ∷ []) rs)))),
+          omega arith,
+          omega arith,
+          stored ∙ rw (i, put, rulesWords-snoc done r) (sym (sets-append words₀ index₀ (rulesWords done) (sideWords r))),
+        )
+
+  pub so-far-done : (index : ℕ) (cursor : BitCursor) (words : List ℕ) (number : ℕ) → number ≡ count →
+      SoFar source σ count number start (cursor .at) index₀ index words₀ words →
+      WordsRead rulesWords (256 * count) (rulesReader source σ count start) index₀ words₀ (Past index cursor) words
+  unfolding rulesReader
+  so-far-done index cursor words number h (done, e, i, few, put) =
+      let z : count - number ≡ 0 = omega arith in
+      (done, e ∙ rw (z, append-nil), i, omega arith, put)

@@ -1,0 +1,103 @@
+use native.Mathlib.Omega.{arith}
+use mathlib.Core.Path.{_≡_, refl, sym, ap, _∙_}
+use Prim.Native.Nat.{ℕ, _+_, _*_, _-_, _/_, _%_, _^_, _<_, _≤_}
+use lib.ListN.{length, getD}
+use Rattle.format.specs.Reading.{spelt, bitAt}
+use Rattle.reader.proofs.BitLaws.{field-two}
+use Rattle.reader.proofs.NodeLaws.{symbol-node, variable-node}
+use borrow.Author.Needs.{needs}
+use Rattle.reader.proofs.cursor.BitCursor.node.Statement.{statement}
+use Rattle.reader.proofs.cursor.BitCursor.node.Tie as tie
+use Rattle.reader.proofs.cursor.BitCursor.node.Reads as reads
+use Rattle.reader.proofs.cursor.BitCursor.node.Lts as lts
+use Rattle.reader.proofs.cursor.BitCursor.late_node.Reads as late-node-reads
+use Rattle.reader.proofs.cursor.byte_at.Reads as byte-at-reads
+
+add-if1 : tie.Need-add-if1
+add-if1 c = search needs
+
+late-node-requires : tie.Need-late-node-requires
+late-node-requires c κs = search needs
+
+returns : tie.Need-returns
+returns c = search needs
+
+byte-at-requires : tie.Need-byte-at-requires
+byte-at-requires c κs = search needs
+
+mul-nine : tie.Need-mul-nine
+mul-nine c = search needs
+
+add-byte-at : tie.Need-add-byte-at
+add-byte-at c = search needs
+
+byte-at-requires-2 : tie.Need-byte-at-requires-2
+byte-at-requires-2 c κs = search needs
+
+add-nine : tie.Need-add-nine
+add-nine c = search needs
+
+sub-nine : tie.Need-sub-nine
+sub-nine c = search needs
+
+cast-nine : tie.Need-cast-nine
+cast-nine c = search needs
+
+shr-nine : tie.Need-shr-nine
+shr-nine c = search needs
+
+cast-t17 : tie.Need-cast-t17
+cast-t17 c = search needs
+
+add-t18 : tie.Need-add-t18
+add-t18 c = search needs
+
+add-t21 : tie.Need-add-t21
+add-t21 c = search needs
+
+cast-t22 : tie.Need-cast-t22
+cast-t22 c = search needs
+
+add-t23 : tie.Need-add-t23
+add-t23 c = search needs
+
+returns-2 : tie.Need-returns-2
+returns-2 c =
+    let a = c .before .before .before .before .before .args in
+    let small : (i : ℕ) → getD (a .book .now) i 0 < 256 = λ i. omega (arith, c .before .before .before .before .shared-slice-known .given i) in
+    let two = c .before .before .byte-at .result * 256 + c .before .byte-at2 .result in
+    let nine : spelt (bitAt (a .book .now)) (a .self .at) 9 ≡ two / 2 ^ (7 - a .self .at % 8) % 512 =
+    rw (c .before .before .byte-at .ensures .0, c .before .byte-at2 .ensures .0) (field-two (a .book .now) small (a .self .at)) in
+    sym (symbol-node (a .book .now) (a .self .at) _ (omega arith) nine (c .if2 .taken))
+
+returns-3 : tie.Need-returns-3
+returns-3 c =
+    let a = c .before .before .before .before .before .args in
+    let small : (i : ℕ) → getD (a .book .now) i 0 < 256 = λ i. omega (arith, c .before .before .before .before .shared-slice-known .given i) in
+    let two = c .before .before .byte-at .result * 256 + c .before .byte-at2 .result in
+    let nine : spelt (bitAt (a .book .now)) (a .self .at) 9 ≡ two / 2 ^ (7 - a .self .at % 8) % 512 =
+    rw (c .before .before .byte-at .ensures .0, c .before .byte-at2 .ensures .0) (field-two (a .book .now) small (a .self .at)) in
+    sym (variable-node (a .book .now) (a .self .at) _ (omega arith) nine (c .if2 .left))
+
+pub node-spec : {M : Type 1} → statement M
+node-spec =
+    tie.close
+    (tie.spec
+    add-if1
+    late-node-requires
+    returns
+    byte-at-requires
+    mul-nine
+    add-byte-at
+    byte-at-requires-2
+    add-nine
+    sub-nine
+    cast-nine
+    shr-nine
+    cast-t17
+    add-t18
+    add-t21
+    cast-t22
+    add-t23
+    returns-2
+    returns-3)

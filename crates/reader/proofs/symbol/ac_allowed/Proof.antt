@@ -1,0 +1,15 @@
+use borrow.Author.Needs.{needs}
+use borrow.Author.Tests.{eq-eqb, ne-eqb}
+use Rattle.reader.proofs.symbol.ac_allowed.Statement.{statement}
+use Rattle.reader.proofs.symbol.ac_allowed.Tie as tie
+use Rattle.reader.proofs.symbol.ac_allowed.Reads as reads
+use Rattle.reader.proofs.symbol.ac_allowed.Lts as lts
+
+returns : tie.Need-returns
+returns c = rw (eq-eqb _ _ (c .if1 .taken))
+
+returns-2 : tie.Need-returns-2
+returns-2 c = rw (ne-eqb _ _ (c .if1 .left))
+
+pub ac-allowed-spec : {M : Type 1} → statement M
+ac-allowed-spec = tie.close (tie.spec returns returns-2)

@@ -1,0 +1,203 @@
+use mathlib.Core.Path.{_≡_}
+use mathlib.Core.Bool.{true, false}
+use lib.ListN.{getD}
+use borrow.Author.Tests.{not-true, not-false}
+use native.Mathlib.Omega.{arith}
+use mathlib.Core.Path.{sym, ap, _∙_}
+use Rattle.format.specs.Format.{symbolReader}
+use Rattle.reader.specs.Cursor.{fieldReading}
+use Rattle.reader.proofs.NodeLaws.{field-lt}
+use borrow.Author.Needs.{needs}
+use Rattle.reader.proofs.symbol.read_symbol.Statement.{statement}
+use Rattle.reader.proofs.symbol.read_symbol.Tie as tie
+use Rattle.reader.proofs.symbol.read_symbol.Reads as reads
+use Rattle.reader.proofs.symbol.read_symbol.Lts as lts
+use Rattle.reader.proofs.cursor.BitCursor.field.Reads as field-reads
+use Rattle.reader.proofs.symbol.ac_allowed.Reads as ac-allowed-reads
+use Rattle.reader.proofs.symbol.weighs_enough.Reads as weighs-enough-reads
+use Rattle.symbols.proofs.wide.Reads as wide-reads
+
+field-requires : tie.Need-field-requires
+field-requires c κs = search needs
+
+enum-known-arity : tie.Need-enum-known-arity
+enum-known-arity c = search needs
+
+enum-told : tie.Need-enum-told
+enum-told c = search needs
+
+returns : tie.Need-returns
+unfolding symbolReader
+returns c = (
+  (λ earlier h.
+      rw (sym (c .before .before .field .ensures) ∙ ap (fieldReading _) (c .enum-told .given .1))),
+  tt,
+)
+
+field-requires-2 : tie.Need-field-requires-2
+field-requires-2 c κs = search needs
+
+enum-known-ac : tie.Need-enum-known-ac
+enum-known-ac c = search needs
+
+enum-told-2 : tie.Need-enum-told-2
+enum-told-2 c = search needs
+
+returns-2 : tie.Need-returns-2
+unfolding symbolReader
+returns-2 c = (
+  (λ earlier h.
+      rw (
+        sym (c .before .before .before .before .before .before .field .ensures) ∙ ap (fieldReading _) (c .before .before .before .before .arity .given .1),
+        sym (c .before .before .field2 .ensures) ∙ ap (fieldReading _) (c .enum-told2 .given .1),
+      )),
+  tt,
+)
+
+ac-allowed-requires : tie.Need-ac-allowed-requires
+ac-allowed-requires c κs = search needs
+
+returns-3 : tie.Need-returns-3
+unfolding symbolReader
+returns-3 c = (
+  (λ earlier h.
+      rw (
+        sym (c .before .before .before .before .before .before .before .before .before .field .ensures) ∙ ap (fieldReading _) (c .before .before .before .before .before .before .before .arity .given .1),
+        sym (c .before .before .before .before .before .field2 .ensures) ∙ ap (fieldReading _) (c .before .before .before .ac .given .1),
+        sym (c .before .ac-allowed .ensures) ∙ not-true _ (c .if1 .taken),
+      )),
+  tt,
+)
+
+field-requires-3 : tie.Need-field-requires-3
+field-requires-3 c κs = search needs
+
+enum-known-weight : tie.Need-enum-known-weight
+enum-known-weight c = search needs
+
+enum-told-3 : tie.Need-enum-told-3
+enum-told-3 c = search needs
+
+returns-4 : tie.Need-returns-4
+unfolding symbolReader
+returns-4 c = (
+  (λ earlier h.
+      rw (
+        sym (c .before .before .before .before .before .before .before .before .before .before .before .before .field .ensures) ∙ ap (fieldReading _) (c .before .before .before .before .before .before .before .before .before .before .arity .given .1),
+        sym (c .before .before .before .before .before .before .before .before .field2 .ensures) ∙ ap (fieldReading _) (c .before .before .before .before .before .before .ac .given .1),
+        sym (c .before .before .before .before .ac-allowed .ensures) ∙ not-false _ (c .before .before .before .if1 .left),
+        sym (c .before .before .field3 .ensures) ∙ ap (fieldReading _) (c .enum-told3 .given .1),
+      )),
+  tt,
+)
+
+weighs-enough-requires : tie.Need-weighs-enough-requires
+weighs-enough-requires c κs = search needs
+
+returns-5 : tie.Need-returns-5
+unfolding symbolReader
+returns-5 c = (
+  (λ earlier h.
+      rw (
+        sym (c .before .before .before .before .before .before .before .before .before .before .before .before .before .before .before .field .ensures) ∙ ap (fieldReading _) (c .before .before .before .before .before .before .before .before .before .before .before .before .before .arity .given .1),
+        sym (c .before .before .before .before .before .before .before .before .before .before .before .field2 .ensures) ∙ ap (fieldReading _) (c .before .before .before .before .before .before .before .before .before .ac .given .1),
+        sym (c .before .before .before .before .before .before .before .ac-allowed .ensures) ∙ not-false _ (c .before .before .before .before .before .before .if1 .left),
+        sym (c .before .before .before .before .before .field3 .ensures) ∙ ap (fieldReading _) (c .before .before .before .weight .given .1),
+        sym (c .before .weighs-enough .ensures) ∙ not-true _ (c .if2 .taken),
+      )),
+  tt,
+)
+
+field-requires-4 : tie.Need-field-requires-4
+field-requires-4 c κs = search needs
+
+enum-known-rank : tie.Need-enum-known-rank
+enum-known-rank c = search needs
+
+enum-told-4 : tie.Need-enum-told-4
+enum-told-4 c = search needs
+
+returns-6 : tie.Need-returns-6
+unfolding symbolReader
+returns-6 c = (
+  (λ earlier h.
+      rw (
+        sym (c .before .before .before .before .before .before .before .before .before .before .before .before .before .before .before .before .before .before .field .ensures) ∙ ap (fieldReading _) (c .before .before .before .before .before .before .before .before .before .before .before .before .before .before .before .before .arity .given .1),
+        sym (c .before .before .before .before .before .before .before .before .before .before .before .before .before .before .field2 .ensures) ∙ ap (fieldReading _) (c .before .before .before .before .before .before .before .before .before .before .before .before .ac .given .1),
+        sym (c .before .before .before .before .before .before .before .before .before .before .ac-allowed .ensures) ∙ not-false _ (c .before .before .before .before .before .before .before .before .before .if1 .left),
+        sym (c .before .before .before .before .before .before .before .before .field3 .ensures) ∙ ap (fieldReading _) (c .before .before .before .before .before .before .weight .given .1),
+        sym (c .before .before .before .before .weighs-enough .ensures) ∙ not-false _ (c .before .before .before .if2 .left),
+        sym (c .before .before .field4 .ensures) ∙ ap (fieldReading _) (c .enum-told4 .given .1),
+      )),
+  tt,
+)
+
+wide-requires : tie.Need-wide-requires
+wide-requires c κs = search needs
+
+shared-slice-read-if3 : tie.Need-shared-slice-read-if3
+unfolding symbolReader
+shared-slice-read-if3 c = omega (arith, c .before .before .before .before .before .before .before .before .before .before .before .before .before .before .before .before .before .before .before .before .before .before .before .before .pre .1, c .before .wide .ensures .0, field-lt (c .before .before .before .before .before .before .before .before .before .before .before .before .before .before .before .before .before .before .before .before .before .before .before .before .args .book .now) 8 _ _ _ (sym (c .before .before .before .before .before .field4 .ensures) ∙ ap (fieldReading _) (c .before .before .before .rank .given .1)))
+
+returns-7 : tie.Need-returns-7
+unfolding symbolReader
+returns-7 c = (
+  (λ earlier h.
+      let t : getD (c .before .before .before .before .before .before .before .before .before .before .before .before .before .before .before .before .before .before .before .before .before .before .before .before .before .args .taken .now) (c .before .before .wide .result) false ≡ true = c .if3 .taken in
+      rw (
+        sym (c .before .before .before .before .before .before .before .before .before .before .before .before .before .before .before .before .before .before .before .before .before .before .field .ensures) ∙ ap (fieldReading _) (c .before .before .before .before .before .before .before .before .before .before .before .before .before .before .before .before .before .before .before .before .arity .given .1),
+        sym (c .before .before .before .before .before .before .before .before .before .before .before .before .before .before .before .before .before .before .field2 .ensures) ∙ ap (fieldReading _) (c .before .before .before .before .before .before .before .before .before .before .before .before .before .before .before .before .ac .given .1),
+        sym (c .before .before .before .before .before .before .before .before .before .before .before .before .before .before .ac-allowed .ensures) ∙ not-false _ (c .before .before .before .before .before .before .before .before .before .before .before .before .before .if1 .left),
+        sym (c .before .before .before .before .before .before .before .before .before .before .before .before .field3 .ensures) ∙ ap (fieldReading _) (c .before .before .before .before .before .before .before .before .before .before .weight .given .1),
+        sym (c .before .before .before .before .before .before .before .before .weighs-enough .ensures) ∙ not-false _ (c .before .before .before .before .before .before .before .if2 .left),
+        sym (c .before .before .before .before .before .before .field4 .ensures) ∙ ap (fieldReading _) (c .before .before .before .before .rank .given .1),
+        sym (h (c .before .before .before .before .rank .given .0 .0) (omega (arith, field-lt (c .before .before .before .before .before .before .before .before .before .before .before .before .before .before .before .before .before .before .before .before .before .before .before .before .before .args .book .now) 8 _ _ _ (sym (c .before .before .before .before .before .before .field4 .ensures) ∙ ap (fieldReading _) (c .before .before .before .before .rank .given .1))))) ∙ rw (c .before .before .wide .ensures .0) at t,
+      )),
+  tt,
+)
+
+returns-8 : tie.Need-returns-8
+unfolding symbolReader
+returns-8 c = (
+  (λ earlier h.
+      let t : getD (c .before .before .before .before .before .before .before .before .before .before .before .before .before .before .before .before .before .before .before .before .before .before .before .before .before .args .taken .now) (c .before .before .wide .result) false ≡ false = c .if3 .left in
+      rw (
+        sym (c .before .before .before .before .before .before .before .before .before .before .before .before .before .before .before .before .before .before .before .before .before .before .field .ensures) ∙ ap (fieldReading _) (c .before .before .before .before .before .before .before .before .before .before .before .before .before .before .before .before .before .before .before .before .arity .given .1),
+        sym (c .before .before .before .before .before .before .before .before .before .before .before .before .before .before .before .before .before .before .field2 .ensures) ∙ ap (fieldReading _) (c .before .before .before .before .before .before .before .before .before .before .before .before .before .before .before .before .ac .given .1),
+        sym (c .before .before .before .before .before .before .before .before .before .before .before .before .before .before .ac-allowed .ensures) ∙ not-false _ (c .before .before .before .before .before .before .before .before .before .before .before .before .before .if1 .left),
+        sym (c .before .before .before .before .before .before .before .before .before .before .before .before .field3 .ensures) ∙ ap (fieldReading _) (c .before .before .before .before .before .before .before .before .before .before .weight .given .1),
+        sym (c .before .before .before .before .before .before .before .before .weighs-enough .ensures) ∙ not-false _ (c .before .before .before .before .before .before .before .if2 .left),
+        sym (c .before .before .before .before .before .before .field4 .ensures) ∙ ap (fieldReading _) (c .before .before .before .before .rank .given .1),
+        sym (h (c .before .before .before .before .rank .given .0 .0) (omega (arith, field-lt (c .before .before .before .before .before .before .before .before .before .before .before .before .before .before .before .before .before .before .before .before .before .before .before .before .before .args .book .now) 8 _ _ _ (sym (c .before .before .before .before .before .before .field4 .ensures) ∙ ap (fieldReading _) (c .before .before .before .before .rank .given .1))))) ∙ rw (c .before .before .wide .ensures .0) at t,
+      )),
+  omega (arith, field-lt (c .before .before .before .before .before .before .before .before .before .before .before .before .before .before .before .before .before .before .before .before .before .before .before .before .before .args .book .now) 8 _ _ _ (sym (c .before .before .before .before .before .before .field4 .ensures) ∙ ap (fieldReading _) (c .before .before .before .before .rank .given .1))),
+)
+
+pub read-symbol-spec : {M : Type 1} → statement M
+read-symbol-spec =
+    tie.close
+    (tie.spec
+    field-requires
+    enum-known-arity
+    enum-told
+    returns
+    field-requires-2
+    enum-known-ac
+    enum-told-2
+    returns-2
+    ac-allowed-requires
+    returns-3
+    field-requires-3
+    enum-known-weight
+    enum-told-3
+    returns-4
+    weighs-enough-requires
+    returns-5
+    field-requires-4
+    enum-known-rank
+    enum-told-4
+    returns-6
+    wide-requires
+    shared-slice-read-if3
+    returns-7
+    returns-8)

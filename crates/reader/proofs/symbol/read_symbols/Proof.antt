@@ -1,0 +1,126 @@
+use borrow.Author.Needs.{needs}
+use native.Mathlib.Omega.{arith}
+use mathlib.Core.Path.{_≡_, refl, sym, ap, _∙_}
+use mathlib.Core.List.{List, []}
+use mathlib.Core.Bool.{false}
+use Prim.Native.Nat.{ℕ, suc, _+_, _-_, _*_, _<_, _≤_}
+use lib.ListN.{getD, length, length-set, replicate, length-replicate}
+use native.Mathlib.Nat.{sub-zero}
+use lib.Seq.{getD-set-same}
+use Rattle.format.specs.Reading.{bitSource}
+use Rattle.format.specs.Reading.Reading.{got}
+use Rattle.format.specs.Format.{symbolsReader}
+use Rattle.symbols.specs.Table.{symbolsAt}
+use Rattle.reader.specs.declared.symbol.Step.{Step}
+use Rattle.reader.specs.Symbol.{onward, TakenBy, TakenPast}
+use Rattle.reader.proofs.SymbolLaws.{taken-none, symbols-onward, symbols-done}
+use Rattle.reader.proofs.symbol.read_symbols.Statement.{statement}
+use Rattle.reader.proofs.symbol.read_symbols.Tie as tie
+use Rattle.reader.proofs.symbol.read_symbols.Reads as reads
+use Rattle.reader.proofs.symbol.read_symbols.Lts as lts
+use Rattle.reader.proofs.symbol.next_symbol.Reads as next-symbol-reads
+
+abbrev Inv-loop : tie.InvT-loop
+Inv-loop book table₀ w0 count taken₀ here₀ number₀ table taken here number =
+    (number ≤ count) × (length table ≡ length table₀) × (length taken ≡ 256) × (getD table 0 0 ≡ w0) ×
+    TakenBy (symbolsAt table 0 number) taken ×
+    (symbolsReader (bitSource book) w0 count [] (here₀ .at) ≡
+    symbolsReader (bitSource book) w0 (count - number) (symbolsAt table 0 number) (here .at))
+
+abbrev μ-loop : tie.MeasureT-loop
+μ-loop book table₀ w0 count taken₀ here₀ number₀ table taken here number = count - number
+
+slice-write-table : tie.Need-slice-write-table Inv-loop μ-loop
+slice-write-table c = search needs
+
+loop-holds : tie.Need-loop-holds Inv-loop μ-loop
+loop-holds c =
+    let a = c .before .before .args in
+    let room : 0 < length (a .table .now) = omega arith in
+    (omega arith, refl, refl, getD-set-same (a .table .now) 0 (a .w0) 0 room, taken-none, rw sub-zero)
+
+slice-aggregate-next-symbol : tie.Need-slice-aggregate-next-symbol Inv-loop μ-loop
+slice-aggregate-next-symbol c = search needs
+
+next-symbol-requires : tie.Need-next-symbol-requires Inv-loop μ-loop
+next-symbol-requires c κs =
+    let v = c .before .before .before .loop .inv in
+    let n : length (c .before .before .before .loop .table) ≡ length (c .before .before .before .before .before .before .args .table .now) = v .1 ∙ simp length-set in
+    (omega arith, omega arith, v .2, v .4)
+
+enum-known-code : tie.Need-enum-known-code Inv-loop μ-loop
+enum-known-code c = search needs
+
+same-length : tie.Need-same-length Inv-loop μ-loop
+same-length c =
+    let v = c .before .before .before .before .before .before .before .before .before .before .loop .inv in
+    c .before .before .before .before .before .before .next-symbol .kept .1 .0 ∙ v .1 ∙ length-set (c .before .before .before .before .before .before .before .before .before .before .before .before .before .args .table .now) 0 (c .before .before .before .before .before .before .before .before .before .before .before .before .before .args .w0)
+
+returns : tie.Need-returns Inv-loop μ-loop
+returns c =
+    let v = c .before .before .before .before .before .before .before .before .before .before .loop .inv in
+    let number = c .before .before .before .before .before .before .before .before .before .before .loop .number in (
+      rw (c .before .code .given .1) at (symbols-onward (bitSource (c .before .before .before .before .before .before .before .before .before .before .before .before .before .args .book .now)) (c .before .before .before .before .before .before .before .before .before .before .before .before .before .args .w0) _ (c .before .before .before .before .before .before .before .before .before .before .before .before .before .args .count) number (omega arith) (v .3) _
+          (symbolsAt (c .before .before .before .before .before .before .before .before .before .before .loop .table) 0 number) (symbolsAt (c .before .before .before .before .before .before .next-symbol .last .1 .0) 0 (number + 1)) (c .before .before .before .before .before .before .before .before .before .before .loop .here .at) (c .before .before .before .before .before .before .next-symbol .result) (v .5) (c .before .before .before .before .before .before .next-symbol .ensures .0)),
+      c .before .before .before .before .before .before .next-symbol .ensures .1 .0 ∙ v .3,
+    )
+
+enum-known-next : tie.Need-enum-known-next Inv-loop μ-loop
+enum-known-next c = search needs
+
+add-number : tie.Need-add-number Inv-loop μ-loop
+add-number c = search needs
+
+loop-less : tie.Need-loop-less Inv-loop μ-loop
+loop-less c = search needs
+
+loop-again : tie.Need-loop-again Inv-loop μ-loop
+loop-again c =
+    let v = c .before .before .before .before .before .before .before .before .before .before .loop .inv in
+    let number = c .before .before .before .before .before .before .before .before .before .before .loop .number in
+    let n : length (c .before .before .before .before .before .before .next-symbol .last .1 .0) ≡ length (c .before .before .before .before .before .before .before .before .before .before .loop .table) = c .before .before .before .before .before .before .next-symbol .kept .1 .0 in
+    let m : length (c .before .before .before .before .before .before .next-symbol .last .1 .1 .0) ≡ length (c .before .before .before .before .before .before .before .before .before .before .loop .taken) = c .before .before .before .before .before .before .next-symbol .kept .1 .1 .0 in (
+      omega arith,
+      n ∙ v .1,
+      m ∙ v .2,
+      c .before .before .before .before .before .before .next-symbol .ensures .1 .0 ∙ v .3,
+      rw (c .before .next .given .1) at (c .before .before .before .before .before .before .next-symbol .ensures .1 .1),
+      rw (c .before .next .given .1) at (symbols-onward (bitSource (c .before .before .before .before .before .before .before .before .before .before .before .before .before .args .book .now)) (c .before .before .before .before .before .before .before .before .before .before .before .before .before .args .w0) _ (c .before .before .before .before .before .before .before .before .before .before .before .before .before .args .count) number (omega arith) (v .3) _
+          (symbolsAt (c .before .before .before .before .before .before .before .before .before .before .loop .table) 0 number) (symbolsAt (c .before .before .before .before .before .before .next-symbol .last .1 .0) 0 (number + 1)) (c .before .before .before .before .before .before .before .before .before .before .loop .here .at) (c .before .before .before .before .before .before .next-symbol .result) (v .5) (c .before .before .before .before .before .before .next-symbol .ensures .0)),
+    )
+
+same-length-2 : tie.Need-same-length-2 Inv-loop μ-loop
+same-length-2 c =
+    let v = c .before .loop .inv in
+    v .1 ∙ length-set (c .before .before .before .before .args .table .now) 0 (c .before .before .before .before .args .w0)
+
+returns-2 : tie.Need-returns-2 Inv-loop μ-loop
+returns-2 c =
+    let v = c .before .loop .inv in
+    let number = c .before .loop .number in
+    let e : number ≡ c .before .before .before .before .args .count = omega arith in
+    let z : c .before .before .before .before .args .count - number ≡ 0 = omega arith in (
+      v .5 ∙ symbols-done (bitSource (c .before .before .before .before .args .book .now)) (c .before .before .before .before .args .w0) (c .before .before .before .before .args .count - number) (symbolsAt (c .before .loop .table) 0 number) (c .before .loop .here .at) z ∙
+          ap (λ (n : ℕ). got (symbolsAt (c .before .loop .table) 0 n) (c .before .loop .here .at)) e,
+      v .3,
+    )
+
+pub read-symbols-spec : {M : Type 1} → statement M
+read-symbols-spec =
+    tie.close
+    (tie.spec
+    Inv-loop
+    μ-loop
+    slice-write-table
+    loop-holds
+    slice-aggregate-next-symbol
+    next-symbol-requires
+    enum-known-code
+    same-length
+    returns
+    enum-known-next
+    add-number
+    loop-less
+    loop-again
+    same-length-2
+    returns-2)

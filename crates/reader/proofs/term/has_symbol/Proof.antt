@@ -1,0 +1,27 @@
+use mathlib.Core.Path.{_≡_, sym, ap, _∙_}
+use Prim.Native.Nat.{_+_, _*_, _/_}
+use lib.Dec.{ltb}
+use lib.ListN.{length}
+use Rattle.reader.proofs.TermLaws.{symbol-count, index-count}
+use borrow.Author.Needs.{needs}
+use Rattle.reader.proofs.term.has_symbol.Statement.{statement}
+use Rattle.reader.proofs.term.has_symbol.Tie as tie
+use Rattle.reader.proofs.term.has_symbol.Reads as reads
+use Rattle.reader.proofs.term.has_symbol.Lts as lts
+use Rattle.symbols.proofs.wide.Reads as wide-reads
+
+wide-requires : tie.Need-wide-requires
+wide-requires c κs = search needs
+
+mul-result : tie.Need-mul-result
+mul-result c = search needs
+
+add-result : tie.Need-add-result
+add-result c = search needs
+
+returns : tie.Need-returns
+returns c =
+    rw (symbol-count (c .before .before .args .table .now), c .wide .ensures .0) (index-count (c .before .before .args .symbol) (length (c .before .before .args .table .now)))
+
+pub has-symbol-spec : {M : Type 1} → statement M
+has-symbol-spec = tie.close (tie.spec wide-requires mul-result add-result returns)

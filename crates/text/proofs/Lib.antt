@@ -1,0 +1,2 @@
+-- The laws of text in a buffer.
+pub mod TextLaws

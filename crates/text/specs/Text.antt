@@ -1,0 +1,33 @@
+-- Text as bytes: words, decimal numbers, lines.
+-- Renders: 01, "Sample book and cases": what `marker` prints, "Each ends in byte 10".
+use mathlib.Core.List.{List, [] as []ᴸ, _∷_ as _∷ᴸ_, _++_}
+use mathlib.Core.Bool.{cond}
+use Prim.Native.Nat.{ℕ, suc, zero, _+_, _/_, _%_}
+use Prim.Native.Char.{code}
+use Prim.Native.String.{String, [], _∷_}
+use lib.IntN.{ℤ, pos, negsuc}
+use lib.Dec.{ltb}
+
+-- The codes of the characters.
+abbrev pub ascii : String → List ℕ
+ascii [] = []ᴸ
+ascii (c ∷ s) = code c ∷ᴸ ascii s
+
+-- The decimal digits of n, at most k of them.
+unfoldable pub digits : ℕ → ℕ → List ℕ
+digits zero n = []ᴸ
+digits (suc k) n = cond (ltb n 10) ((48 + n) ∷ᴸ []ᴸ) (digits k (n / 10) ++ ((48 + n % 10) ∷ᴸ []ᴸ))
+
+-- Without leading zeros; n has at most n + 1 digits.
+abbrev pub decimal : ℕ → List ℕ
+decimal n = digits (suc n) n
+
+abbrev pub signedDecimal : ℤ → List ℕ
+signedDecimal (pos n) = decimal n
+signedDecimal (negsuc n) = ascii "-" ++ decimal (suc n)
+
+-- A line of words, with a space between any two.
+abbrev pub line : List (List ℕ) → List ℕ
+line []ᴸ = 10 ∷ᴸ []ᴸ
+line (w ∷ᴸ []ᴸ) = w ++ (10 ∷ᴸ []ᴸ)
+line (w ∷ᴸ v ∷ᴸ ws) = w ++ (32 ∷ᴸ line (v ∷ᴸ ws))

@@ -1,0 +1,73 @@
+// Text in a buffer: each function writes at an index, and answers the index past what it wrote.
+ghost use mathlib.Core.Path.{_≡_};
+ghost use mathlib.Core.List.{[], _∷_, _++_};
+ghost use Prim.Native.Nat.{_+_, _^_, _≤_, _<_};
+ghost use lib.ListN.{length};
+ghost use lib.Seq.{sets};
+ghost use Rattle.text.specs.Text.{decimal, signedDecimal};
+ghost use lib.IntN.{subℕ};
+
+// A byte past the end is left out.
+pub fn put_byte(out: &mut [u8], at: usize, byte: u8) -> usize
+    requires { ⌜ at < 2 ^ 63 ⌝ }
+    ensures { λ r. ⌜ r ≡ at + 1 ⌝ }
+    ensures { λ _. ⌜ now (out .exit) ≡ sets (now (out .entry)) at (byte ∷ []) ⌝ }
+{
+    if at < out.len() {
+        out[at] = byte;
+        return at + 1;
+    }
+    at + 1
+}
+
+// The decimal digits of n.
+pub fn put_decimal(out: &mut [u8], at: usize, n: u64) -> usize
+    requires { ⌜ at < 2 ^ 32 ⌝ }
+    ensures { λ r. ⌜ r ≡ at + length (decimal n) ⌝ }
+    ensures { λ _. ⌜ now (out .exit) ≡ sets (now (out .entry)) at (decimal n) ⌝ }
+{
+    if n < 10 {
+        return put_byte(out, at, (48 + n) as u8);
+    }
+    let next = put_decimal(out, at, n / 10);
+    put_byte(out, next, (48 + n % 10) as u8)
+}
+
+// The decimal digits of n, and a byte after them.
+pub fn put_number(out: &mut [u8], at: usize, n: u64, after: u8) -> usize
+    requires { ⌜ (at < 2 ^ 31) × (n < 10 ^ 9) ⌝ }
+    ensures { λ r. ⌜ r ≡ at + length (decimal n ++ (after ∷ [])) ⌝ }
+    ensures { λ _. ⌜ now (out .exit) ≡ sets (now (out .entry)) at (decimal n ++ (after ∷ [])) ⌝ }
+    ensures { λ r. ⌜ r ≤ at + 10 ⌝ }
+{
+    let next = put_decimal(out, at, n);
+    put_byte(out, next, after)
+}
+
+// All bytes of a text.
+pub fn put_bytes(out: &mut [u8], at: usize, bytes: &[u8]) -> usize
+    requires { ⌜ at + length (now bytes) < 2 ^ 63 ⌝ }
+    ensures { λ r. ⌜ r ≡ at + length (now (bytes .entry)) ⌝ }
+    ensures { λ _. ⌜ now (out .exit) ≡ sets (now (out .entry)) at (now (bytes .entry)) ⌝ }
+{
+    let mut i = 0;
+    while i < bytes.len() {
+        put_byte(out, at + i, bytes[i]);
+        i += 1;
+    }
+    at + i
+}
+
+// The difference of two numbers, with a sign before a negative one.
+pub fn put_difference(out: &mut [u8], at: usize, a: u64, b: u64) -> usize
+    requires { ⌜ (at < 2 ^ 31) × (a < 10 ^ 19) × (b < 10 ^ 19) ⌝ }
+    ensures { λ r. ⌜ r ≡ at + length (signedDecimal (subℕ a b)) ⌝ }
+    ensures { λ _. ⌜ now (out .exit) ≡ sets (now (out .entry)) at (signedDecimal (subℕ a b)) ⌝ }
+    ensures { λ r. ⌜ r ≤ at + 20 ⌝ }
+{
+    if a < b {
+        let next = put_byte(out, at, b'-');
+        return put_decimal(out, next, b - a);
+    }
+    put_decimal(out, at, a - b)
+}

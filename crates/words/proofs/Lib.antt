@@ -1,0 +1,3 @@
+-- Laws of reading words and terms.
+pub mod WordLaws
+pub mod TermLaws

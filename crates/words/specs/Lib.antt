@@ -1,0 +1,3 @@
+-- What reading from words gives back.
+pub mod Cursor
+pub mod Term

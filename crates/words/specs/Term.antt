@@ -1,0 +1,37 @@
+-- What the answers of reading a node, some terms and a term from words stand for.
+-- Renders: 01, "Book layout": "A side is read node by node, each symbol calling for its arguments", "A term is such
+-- node words alone."
+use mathlib.Core.List.{List}
+use mathlib.Core.Bool.{cond}
+use Prim.Native.Nat.{ℕ, _-_}
+use lib.ListN.{length, take}
+use lib.Dec.{leb, ltb}
+use Rattle.terms.specs.Signature.{Signature, symbolOf}
+use Rattle.terms.specs.Words.{firstVariable}
+use Rattle.format.specs.Errors.{noSuchSymbol}
+use Rattle.format.specs.Reading.{Reading, Node}
+use Rattle.format.specs.Reading.Reading.{got, fault}
+use Rattle.words.specs.declared.term.NodeReading.{NodeReading}
+use Rattle.words.specs.declared.term.NodeReading.the-variants as node
+use Rattle.words.specs.declared.term.Walk.{Walk}
+use Rattle.words.specs.declared.term.Walk.the-variants as walk
+use Rattle.words.specs.declared.term.TermReading.{TermReading}
+use Rattle.words.specs.declared.term.TermReading.the-variants as term
+
+-- A variable calls for no argument, a symbol for as many as its arity.
+abbrev pub nodeOf : Signature → Reading Node → NodeReading
+nodeOf σ (got v next) =
+    cond (leb firstVariable (v .word)) (node.Got 0 (record { at = next }))
+    (cond (ltb (v .word) (length (σ .symbols))) (node.Got (symbolOf σ (v .word) .arity) (record { at = next }))
+    (node.Fault noSuchSymbol (v .offset)))
+nodeOf σ (fault code offset) = node.Fault code offset
+
+-- Each node read is one less allowed.
+abbrev pub walkOf : ℕ → Reading (List ℕ) → Walk
+walkOf allowed (got nodes next) = walk.Done (allowed - length nodes) (record { at = next })
+walkOf allowed (fault code offset) = walk.Fault code offset
+
+-- A term's node words stand at the front of the words.
+abbrev pub termReading : List ℕ → TermReading → Reading (List ℕ)
+termReading words (term.Got n) = got (take n words) n
+termReading words (term.Fault code offset) = fault code offset

@@ -1,0 +1,3 @@
+// Reading a term from words.
+pub mod cursor;
+pub mod term;

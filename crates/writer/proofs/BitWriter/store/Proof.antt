@@ -1,0 +1,66 @@
+use native.Mathlib.Omega.{arith}
+use mathlib.Core.Path.{refl}
+use borrow.Author.Tests.{lt-ltb, le-ltb}
+use Rattle.writer.proofs.WriterLaws.{byte-lt}
+use borrow.Author.Needs.{needs}
+use Rattle.writer.proofs.BitWriter.store.Statement.{statement}
+use Rattle.writer.proofs.BitWriter.store.Tie as tie
+use Rattle.writer.proofs.BitWriter.store.Reads as reads
+use Rattle.writer.proofs.BitWriter.store.Lts as lts
+use Rattle.writer.proofs.put_byte.Reads as put-byte-reads
+use Rattle.writer.proofs.two_to.Reads as two-to-reads
+
+returns : tie.Need-returns
+returns c = rw (lt-ltb (c .before .before .before .args .self .count) 8 (c .if1 .taken)) (refl, refl)
+
+cast-put-byte : tie.Need-cast-put-byte
+cast-put-byte c = search needs
+
+shr-put-byte : tie.Need-shr-put-byte
+shr-put-byte c = search needs
+
+cast-put-byte-2 : tie.Need-cast-put-byte-2
+cast-put-byte-2 c = record {
+  fits = byte-lt (c .before .before .before .before .before .before .args .self .pending)
+      (c .before .before .before .before .before .before .args .self .count) (c .before .before .before .if1 .left)
+      (c .before .before .before .before .before .before .pre .2);
+}
+
+put-byte-requires : tie.Need-put-byte-requires
+put-byte-requires c κs = search needs
+
+add-t11 : tie.Need-add-t11
+add-t11 c = search needs
+
+two-to-requires : tie.Need-two-to-requires
+two-to-requires c κs = search needs
+
+rem-t9 : tie.Need-rem-t9
+rem-t9 c = search needs
+
+same-length : tie.Need-same-length
+same-length c = search needs
+
+returns-2 : tie.Need-returns-2
+returns-2 c = rw (
+  le-ltb (c .before .before .before .before .before .before .before .before .before .before .before
+      .before .args .self .count) 8 (c .before .before .before .before .before .before .before .before .before .if1
+      .left),
+  c .before .two-to .ensures .0,
+  c .before .before .before .before .before .put-byte .ensures,
+) (refl, refl)
+
+pub store-spec : {M : Type 1} → statement M
+store-spec =
+    tie.close
+    (tie.spec
+    returns
+    cast-put-byte
+    shr-put-byte
+    cast-put-byte-2
+    put-byte-requires
+    add-t11
+    two-to-requires
+    rem-t9
+    same-length
+    returns-2)

@@ -1,0 +1,3 @@
+-- Laws of bits, and of writing them.
+pub mod BitsLaws
+pub mod WriterLaws

@@ -1,0 +1,2 @@
+-- What a bit writer has written.
+pub mod Writer

@@ -1,0 +1,94 @@
+// Writing fields into bytes, most significant bit first.
+ghost use mathlib.Core.Path.{_≡_};
+ghost use mathlib.Core.List.{List, _++_};
+ghost use Prim.Native.Nat.{ℕ, _+_, _^_, _<_, _≤_};
+ghost use lib.ListN.{set};
+ghost use lib.Seq.{sets};
+ghost use Rattle.format.specs.Packing.{bitsOf, bytesOf};
+ghost use Rattle.writer.specs.Writer.{Writes, pushed, shifted, byteOut};
+
+// The bytes stored so far, and the bits after them: as a number, and how many.
+pub struct BitWriter {
+    pub stored: usize,
+    pub pending: u32,
+    pub count: usize,
+}
+
+// 2 to the k.
+fn two_to(k: usize) -> u32
+    requires { ⌜ k ≤ 24 ⌝ }
+    ensures { λ r. ⌜ (r ≡ 2 ^ k) × (0 < r) ⌝ }
+{
+    1u32 << k
+}
+
+// Sets byte i, where there is one.
+fn put_byte(bytes: &mut [u8], i: usize, b: u8)
+    ensures { λ _. ⌜ now (bytes .exit) ≡ set (now (bytes .entry)) i b ⌝ }
+{
+    if i < bytes.len() {
+        bytes[i] = b;
+    }
+}
+
+impl BitWriter {
+    // The last width bits of a value after those that wait.
+    fn push(self, width: usize, value: u16) -> BitWriter
+        requires { ⌜ (self .count < 8) × (self .pending < 256) × (width ≤ 16) ⌝ }
+        ensures { λ r. ⌜ r ≡ pushed self width value ⌝ }
+    {
+        BitWriter {
+            stored: self.stored,
+            pending: self.pending * two_to(width) + value as u32 % two_to(width),
+            count: self.count + width,
+        }
+    }
+
+    // Stores the first eight of the bits that wait, where there are as many.
+    fn store(self, bytes: &mut [u8]) -> BitWriter
+        requires { ⌜ (self .stored + 1 < 2 ^ 64) × (self .count ≤ 24) × (self .pending < 2 ^ self .count) ⌝ }
+        ensures { λ r. ⌜ r ≡ shifted self ⌝ }
+        ensures { λ _. ⌜ now (bytes .exit) ≡ byteOut self (now (bytes .entry)) ⌝ }
+    {
+        if self.count < 8 {
+            return self;
+        }
+        let left = self.count - 8;
+        put_byte(bytes, self.stored, (self.pending >> left) as u8);
+        BitWriter {
+            stored: self.stored + 1,
+            pending: self.pending % two_to(left),
+            count: left,
+        }
+    }
+
+    // Writes the last width bits of a value.
+    pub fn put(self, bytes: &mut [u8], width: usize, value: u16) -> BitWriter
+        requires { ⌜ (self .stored < 2 ^ 63) × (self .count < 8) × (self .pending < 2 ^ self .count) × (width ≤ 16) ⌝ }
+        ensures { λ r. ⌜ (r .count < 8) × (r .stored ≤ self .stored + 2) ⌝ }
+        ensures { λ r. ⌜
+            ((old bits : List ℕ) → Writes old bits self (now (bytes .entry)) →
+            Writes old (bits ++ bitsOf width value) r (now (bytes .exit)))
+            ⌝ }
+    {
+        self.push(width, value).store(bytes).store(bytes)
+    }
+
+    // Stores the bits that wait, with zeros after them, as the last byte.
+    pub fn finish(self, bytes: &mut [u8])
+        requires { ⌜ (self .count < 8) × (self .pending < 2 ^ self .count) ⌝ }
+        ensures { λ _. ⌜
+            ((old bits : List ℕ) → Writes old bits self (now (bytes .entry)) →
+            now (bytes .exit) ≡ sets old 0 (bytesOf bits))
+            ⌝ }
+    {
+        if self.count == 0 {
+            return;
+        }
+        put_byte(
+            bytes,
+            self.stored,
+            (self.pending * two_to(8 - self.count)) as u8,
+        );
+    }
+}

@@ -10,7 +10,7 @@ ghost use Rattle.comparing.specs.Comparing.{comparison, comparedRight, c
 ghost use Rattle.comparing.specs.Reply.{relationNumbered, replyOf, comparisonOf};
 use order::mark::margin;
 use order::mark::relation;
-use reader::decode::Error;
+use decoder::Error;
 use reader::file::File;
 use reader::file::TABLE_WORDS;
 use reader::file::read_file;

@@ -13,8 +13,8 @@ ghost use Rattle.marking.specs.Marking.{decreasingCount, scoreOf, marked
 ghost use Rattle.marking.specs.Rule.{IsTable, sidesMarks};
 ghost use Rattle.marking.specs.Reply.{replyOf};
 use crate::rule::orient;
-use reader::cursor::BitCursor;
-use reader::decode::Error;
+use bits::BitCursor;
+use decoder::Error;
 use reader::file::File;
 use reader::file::TABLE_WORDS;
 use reader::file::read_file;

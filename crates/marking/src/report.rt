@@ -18,7 +18,7 @@ use crate::lines::put_rule;
 use crate::mark::decreases;
 use crate::mark::score;
 use crate::rule::orient;
-use reader::cursor::BitCursor;
+use bits::BitCursor;
 use reader::file::File;
 use reader::file::TABLE_WORDS;
 use reader::file::read_file;

@@ -13,7 +13,7 @@ ghost use Rattle.reader.specs.Rule.{ruleReader};
 ghost use Rattle.marking.specs.Rule.{IsTable, Orients};
 use order::mark::mark;
 use order::sums::total_weight;
-use reader::cursor::BitCursor;
+use bits::BitCursor;
 use reader::rule::Stored;
 use reader::rule::read_side;
 

@@ -20,13 +20,12 @@ use Rattle.format.specs.Files.{paddingReader}
 use Rattle.format.specs.Packing.{itemWord, symbolItems, ruleItems, items, unpacked}
 use Rattle.format.specs.Packing.Item.{field, node}
 use Rattle.symbols.specs.Table.{symbolAt, symbolsAt, signatureOf}
-use Rattle.reader.specs.declared.cursor.BitCursor.{BitCursor}
+use Rattle.bits.specs.declared.BitCursor.{BitCursor}
 use Rattle.reader.specs.declared.rule.Stored.the-variants.{Past}
 use Rattle.reader.specs.declared.file.File.the-variants.{Read, Fault}
-use Rattle.reader.specs.Cursor.{isPadding}
+use Rattle.bits.specs.Cursor.{isPadding}
 use Rattle.reader.specs.Rule.{WordsRead, ruleReader, sideWords, rulesWords}
-use Rattle.reader.specs.Decode.{symbolsWords}
-use Rattle.reader.specs.File.{bodyReader, FileParts, FileRead}
+use Rattle.reader.specs.File.{bodyReader, FileParts, FileRead, symbolsWords}
 use Rattle.reader.proofs.SymbolLaws.{symbols-same}
 use Rattle.reader.proofs.TermLaws.{length-symbols}
 use Rattle.reader.proofs.RuleLaws.{rules-step}
@@ -60,7 +59,8 @@ long-rules : (source : Source) (σ : Signature) (n at : ℕ) → Long n (rulesRe
 unfolding rulesReader
 long-rules source σ zero at = refl
 long-rules source σ (suc n) at =
-    rw (rules-step source σ n at) (long-rule n (rulesReader source σ n) (long-rules source σ n) (ruleReader source σ at))
+    rw (rules-step source σ n at) (long-rule n (rulesReader source σ n) (long-rules source σ n) (ruleReader source σ
+    at))
 
 pub rules-length : (source : Source) (σ : Signature) (n at : ℕ) (rs : List Sides) (end : ℕ) →
     rulesReader source σ n at ≡ got rs end → length rs ≡ n
@@ -81,7 +81,12 @@ unfolding flatMap
 rules-words [] = refl
 rules-words (r ∷ rs) =
     map-append itemWord (ruleItems r) (flatMap ruleItems rs)
-    ∙ rw (map-append itemWord (map node (r .left)) (map node (r .right)), node-words (r .left), node-words (r .right), rules-words rs)
+    ∙ rw (
+      map-append itemWord (map node (r .left)) (map node (r .right)),
+      node-words (r .left),
+      node-words (r .right),
+      rules-words rs,
+    )
 
 symbols-words : (ss : List Symbol) → map itemWord (flatMap symbolItems ss) ≡ symbolsWords ss
 unfolding flatMap
@@ -120,9 +125,13 @@ module _ (bytes : List ℕ) (w0 symbols rules at : ℕ) where
   unfolding bodyReader
   symbols-fault code offset e = rw e
 
-  module _ (table : List ℕ) (start : ℕ) (read : symbolsReader (bitSource bytes) w0 symbols [] at ≡ got (symbolsAt table 0 symbols) start)
+  module _ (table : List ℕ) (start : ℕ) (read : symbolsReader (bitSource bytes) w0 symbols [] at ≡ got (symbolsAt table
+      0 symbols) start)
       (weight : getD table 0 0 ≡ w0) (room : 1 + 4 * symbols ≤ length table) where
-    front-signature : signatureOf (take (1 + 4 * symbols) table) ≡ record { w0 = w0; symbols = symbolsAt table 0 symbols }
+    front-signature : signatureOf (take (1 + 4 * symbols) table) ≡ record {
+      w0 = w0;
+      symbols = symbolsAt table 0 symbols;
+    }
     front-signature = signature-front table symbols room ∙ rw weight
 
     pub rules-fault : (code offset : ℕ) →
@@ -133,13 +142,15 @@ module _ (bytes : List ℕ) (w0 symbols rules at : ℕ) where
 
     module _ (words : ℕ) (end : BitCursor) (before after : List ℕ)
         (stored : WordsRead rulesWords (256 * rules)
-        (rulesReader (bitSource bytes) (signatureOf (take (1 + 4 * symbols) table)) rules start) (3 + (1 + 4 * symbols)) before
+        (rulesReader (bitSource bytes) (signatureOf (take (1 + 4 * symbols) table)) rules start) (3 + (1 + 4 * symbols))
+        before
         (Past words end) after) where
       rules-read : rulesReader (bitSource bytes) (record { w0 = w0; symbols = symbolsAt table 0 symbols }) rules start ≡
           got (stored .0) (end .at)
       rules-read = rw front-signature at (stored .1)
 
-      pub padding-fault : isPadding bytes (end .at) ≡ false → bodyReader bytes w0 symbols rules at ≡ fault badPadding (end .at)
+      pub padding-fault : isPadding bytes (end .at) ≡ false → bodyReader bytes w0 symbols rules at ≡
+          fault badPadding (end .at)
       unfolding bodyReader paddingReader
       padding-fault e = rw (read, rules-read, e)
 

@@ -1,9 +1,9 @@
 -- What the code that reads the rules has to show at each of its ends.
 --     side-past                  a side from the nodes still allowed
 --     side-front                 a side at the front of the words
---     words-known                the words of what is known to be read
 --     left-fault, right-read     a rule
---     SoFar                      what a loop over the rules has read; so-far-none, so-far-fault, so-far-more, so-far-done
+--     SoFar                      what a loop over the rules has read; so-far-none, so-far-fault, so-far-more,
+-- so-far-done
 use mathlib.Core.Path.{_≡_, refl, sym, ap, _∙_}
 use mathlib.Core.List.{List, [], _∷_, _++_, append-assoc, append-nil}
 use Prim.Native.Nat.{ℕ, suc, zero, _+_, _-_, _*_, _≤_, _<_}
@@ -17,7 +17,7 @@ use Rattle.format.specs.Reading.{Reading, andThen, give, Source}
 use Rattle.format.specs.Reading.Reading.{got, fault}
 use Rattle.format.specs.Format.{Sides, forestReader, rulesReader}
 use Rattle.format.proofs.ReadingLaws.{andThen-give, andThen-assoc, andThen-same}
-use Rattle.reader.specs.declared.cursor.BitCursor.{BitCursor}
+use Rattle.bits.specs.declared.BitCursor.{BitCursor}
 use Rattle.reader.specs.declared.term.Terms.the-variants as terms
 use Rattle.reader.specs.declared.rule.Stored.{Stored}
 use Rattle.reader.specs.declared.rule.Stored.the-variants.{Past, Fault}
@@ -44,16 +44,6 @@ side-front reading words room (Past end next) after (nodes, read, long, short, s
     rw (stored, sets-eq nodes words 0 (omega arith)) (take-append-seam nodes (drop (0 + length nodes) words)) in
     (rw (e, front) (sym read), omega arith)
 side-front reading words room (Fault code offset) after read = (sym read, tt)
-
--- Of what is known to be read.
-pub words-known : {A : Type 0} (wordsOf : A → List ℕ) (most : ℕ) (reading : Reading A) (index : ℕ) (words : List ℕ) (r : Stored)
-    (after : List ℕ) → WordsRead wordsOf most reading index words r after → (a : A) (end : ℕ) → reading ≡ got a end →
-    after ≡ sets words index (wordsOf a)
-words-known wordsOf most reading index words (Past last next) after (b, read, long, short, stored) a end e =
-    let same : b ≡ a = cc in
-    stored ∙ rw same
-words-known wordsOf most reading index words (Fault code offset) after read a end e =
-    let z : _≡_ {A = ℕ} 0 1 = cc in absurd (omega arith)
 
 module _ (source : Source) (σ : Signature) (at index : ℕ) (words : List ℕ) where
   pub left-fault : (code offset : ℕ) (after : List ℕ) → forestReader source σ maxNodes 1 at ≡ fault code offset →
@@ -84,7 +74,8 @@ module _ (source : Source) (σ : Signature) (at index : ℕ) (words : List ℕ) 
 abbrev pub SoFar : Source → Signature → ℕ → ℕ → ℕ → ℕ → ℕ → ℕ → List ℕ → List ℕ → Type 0
 SoFar source σ count number start at index₀ index words₀ words =
     (done : List Sides)
-    × (rulesReader source σ count start ≡ andThen (rulesReader source σ (count - number) at) (λ rest. give (done ++ rest)))
+    × (rulesReader source σ count start ≡ andThen (rulesReader source σ (count - number) at) (λ rest. give (done ++
+    rest)))
     × (index ≡ index₀ + length (rulesWords done)) × (length (rulesWords done) ≤ 256 * number)
     × (words ≡ sets words₀ index₀ (rulesWords done))
 
@@ -93,7 +84,8 @@ pub rules-step : (source : Source) (σ : Signature) (n at : ℕ) → rulesReader
 unfolding rulesReader ruleReader
 rules-step source σ n at =
     sym (andThen-assoc (forestReader source σ maxNodes 1 at) _ _
-    ∙ andThen-same (forestReader source σ maxNodes 1 at) _ _ (λ left next. andThen-assoc (forestReader source σ maxNodes 1 next) _ _))
+    ∙ andThen-same (forestReader source σ maxNodes 1 at) _ _ (λ left next. andThen-assoc (forestReader source σ maxNodes
+    1 next) _ _))
 
 rulesWords-snoc : (rs : List Sides) (r : Sides) → rulesWords (rs ++ (r ∷ [])) ≡ rulesWords rs ++ sideWords r
 rulesWords-snoc [] r = append-nil (sideWords r)
@@ -102,8 +94,13 @@ rulesWords-snoc (t ∷ rs) r =
 
 module _ (source : Source) (σ : Signature) (count start index₀ : ℕ) (words₀ : List ℕ) where
   pub so-far-none : SoFar source σ count 0 start start index₀ index₀ words₀ words₀
-  so-far-none =
-      ([], rw sub-zero (sym (andThen-give (rulesReader source σ count start))), sym (add-zero index₀), omega arith, refl)
+  so-far-none = (
+    [],
+    rw sub-zero (sym (andThen-give (rulesReader source σ count start))),
+    sym (add-zero index₀),
+    omega arith,
+    refl,
+  )
 
   module _ (number at index : ℕ) (words : List ℕ) (more : number < count)
       (so : SoFar source σ count number start at index₀ index words₀ words) where
@@ -126,10 +123,12 @@ module _ (source : Source) (σ : Signature) (count start index₀ : ℕ) (words�
         let all : length (rulesWords (done ++ (r ∷ []))) ≡ length (rulesWords done) + length (sideWords r) =
         ap length (rulesWords-snoc done r) ∙ length-append (rulesWords done) (sideWords r) in (
           done ++ (r ∷ []),
-          e ∙ rw (step-at, read) (andThen-assoc rest _ _ ∙ andThen-same rest _ _ (λ rs last. ap (λ (l : List Sides). got l last) (sym (append-assoc done (r ∷ []) rs)))),
+          e ∙ rw (step-at, read) (andThen-assoc rest _ _ ∙ andThen-same rest _ _ (λ rs last. ap (λ (l : List Sides). got
+              l last) (sym (append-assoc done (r ∷ []) rs)))),
           omega arith,
           omega arith,
-          stored ∙ rw (i, put, rulesWords-snoc done r) (sym (sets-append words₀ index₀ (rulesWords done) (sideWords r))),
+          stored ∙ rw (i, put, rulesWords-snoc done r) (sym (sets-append words₀ index₀ (rulesWords done) (sideWords
+              r))),
         )
 
   pub so-far-done : (index : ℕ) (cursor : BitCursor) (words : List ℕ) (number : ℕ) → number ≡ count →

@@ -135,10 +135,22 @@ pub taken-put : (ss : List Symbol) (s : Symbol) (taken : List Bool) → length t
 taken-put ss s taken n small h rank b =
     byTest (eqb rank (s .precedence))
     (λ e.
-    rw (held-append ss s rank, e, eqb-true rank (s .precedence) e, getD-set-same taken (s .precedence) true false (omega arith))
+    rw (
+      held-append ss s rank,
+      e,
+      eqb-true rank (s .precedence) e,
+      getD-set-same taken (s .precedence) true false (omega
+          arith),
+    )
     (sym (or-true (heldBy ss (s .precedence)))))
     λ e.
-    rw (held-append ss s rank, e, getD-set-other taken (s .precedence) rank true false (eqb-false rank (s .precedence) e), h rank b)
+    rw (
+      held-append ss s rank,
+      e,
+      getD-set-other taken (s .precedence) rank true false (eqb-false rank (s .precedence)
+          e),
+      h rank b,
+    )
     (sym (or-false (heldBy ss rank)))
 
 -- ---- reading
@@ -164,6 +176,7 @@ symbols-onward source w0 w count number h e whole before after at r so step =
     let more : count - number ≡ suc (count - (number + 1)) = omega arith in
     rw (← e) (so ∙ rw (more, ← e) (step (count - (number + 1))))
 
-pub symbols-done : (source : Source) (w0 n : ℕ) (ss : List Symbol) (at : ℕ) → n ≡ 0 → symbolsReader source w0 n ss at ≡ got ss at
+pub symbols-done : (source : Source) (w0 n : ℕ) (ss : List Symbol) (at : ℕ) → n ≡ 0 → symbolsReader source w0 n ss at ≡
+    got ss at
 unfolding symbolsReader
 symbols-done source w0 n ss at e = rw e

@@ -1,6 +1,6 @@
 -- What the code that reads terms has to show at each of its ends.
 --     symbol-count, index-count                            how many symbols a table has
---     none-left, bad-node, no-symbol, variable, arguments  one term
+--     none-left, bad-node, no-symbol, variable, constant, arguments  one term
 --     no-terms, bad-term, more-terms                       some terms
 use mathlib.Core.Path.{_≡_, refl, sym, ap, _∙_}
 use mathlib.Core.List.{List, [], _∷_, _++_}
@@ -18,10 +18,18 @@ use Rattle.format.specs.Errors.{noSuchSymbol, tooManyNodes}
 use Rattle.format.specs.Reading.{Reading, andThen, give, Node, Source}
 use Rattle.format.specs.Reading.Reading.{got, fault}
 use Rattle.format.specs.Format.{forestReader}
-use Rattle.format.proofs.ForestLaws.{before, following, nothing-owed, none-allowed, one-fault, one-unknown, one-variable}
-use Rattle.format.proofs.ForestLaws.{one-symbol, row-more, forest-long}
+use Rattle.format.proofs.ForestLaws.{
+  before,
+  following,
+  nothing-owed,
+  none-allowed,
+  one-fault,
+  one-unknown,
+  one-variable,
+}
+use Rattle.format.proofs.ForestLaws.{one-symbol, row-more, forest-add}
 use Rattle.symbols.specs.Table.{symbolsAt, signatureOf}
-use Rattle.reader.specs.declared.cursor.BitCursor.{BitCursor}
+use Rattle.bits.specs.declared.BitCursor.{BitCursor}
 use Rattle.reader.specs.declared.term.Terms.{Terms}
 use Rattle.reader.specs.declared.term.Terms.the-variants.{Read, Fault}
 use Rattle.reader.specs.Term.{TermsRead}
@@ -45,7 +53,8 @@ sets-append l i [] ys = rw add-zero
 sets-append l i (x ∷ xs) ys = sets-append (set l i x) (suc i) xs ys ∙ rw (suc-add, add-suc)
 
 module _ (source : Source) (σ : Signature) (limit allowed at : ℕ) (words : List ℕ) where
-  pub none-left : allowed ≡ 0 → TermsRead (forestReader source σ allowed 1 at) limit allowed words (Fault tooManyNodes at) words
+  pub none-left : allowed ≡ 0 → TermsRead (forestReader source σ allowed 1 at) limit allowed words (Fault tooManyNodes
+      at) words
   none-left e = rw e (none-allowed source σ 1 at (omega arith))
 
   -- ---- one term
@@ -65,6 +74,20 @@ module _ (source : Source) (σ : Signature) (limit allowed at : ℕ) (words : Li
           (set words (limit - allowed) (v .word))
       variable hv = (v .word ∷ [], one-variable source σ allowed at h v (next .at) e hv, omega arith, refl)
 
+      pub constant : v .word < firstVariable → v .word < length (σ .symbols) → symbolOf σ (v .word) .arity ≡ 0 →
+          TermsRead (forestReader source σ allowed 1 at) limit allowed words (Read (allowed - 1) next)
+          (set words (limit - allowed) (v .word))
+      constant hv hs none = (
+        v .word ∷ [],
+        one-symbol source σ allowed at h v (next .at) e hv hs ∙ rw (
+          none,
+          nothing-owed source σ (allowed - 1) (next
+              .at),
+        ),
+        omega arith,
+        refl,
+      )
+
       pub arguments : v .word < firstVariable → v .word < length (σ .symbols) → (r : Terms) (after : List ℕ) →
           TermsRead (forestReader source σ (allowed - 1) (symbolOf σ (v .word) .arity) (next .at)) limit (allowed - 1)
           (set words (limit - allowed) (v .word)) r after →
@@ -78,33 +101,36 @@ module _ (source : Source) (σ : Signature) (limit allowed at : ℕ) (words : Li
 
   -- ---- some terms
 
-  pub no-terms : (owed : ℕ) (cursor : BitCursor) → owed ≡ 0 → cursor .at ≡ at →
-      TermsRead (forestReader source σ allowed owed at) limit allowed words (Read allowed cursor) words
-  no-terms owed cursor e f = ([], rw (e, f) (nothing-owed source σ allowed at), omega arith, refl)
+  pub no-terms : (cursor : BitCursor) → cursor .at ≡ at →
+      TermsRead (forestReader source σ allowed 0 at) limit allowed words (Read allowed cursor) words
+  no-terms cursor e = ([], rw e (nothing-owed source σ allowed at), omega arith, refl)
 
-  module _ (owed : ℕ) (h : 0 < owed) where
-    pub bad-term : (code offset : ℕ) (after : List ℕ) → forestReader source σ allowed 1 at ≡ fault code offset →
-        TermsRead (forestReader source σ allowed owed at) limit allowed words (Fault code offset) after
-    bad-term code offset after e = row-more source σ allowed owed at h ∙ rw e
-
-    pub more-terms : allowed ≤ limit → (left : ℕ) (next : BitCursor) (middle : List ℕ) →
-        TermsRead (forestReader source σ allowed 1 at) limit allowed words (Read left next) middle →
-        (r : Terms) (after : List ℕ) →
-        TermsRead (forestReader source σ left (owed - 1) (next .at)) limit left middle r after →
-        TermsRead (forestReader source σ allowed owed at) limit allowed words r after
-    more-terms fits left next middle (nodes, read, count, stored) (Read rest end) after (others, read', count', stored') =
+  module _ (fits : allowed ≤ limit) (count left : ℕ) (here : BitCursor) (middle : List ℕ)
+      (so : TermsRead (forestReader source σ allowed count at) limit allowed words (Read left here) middle) where
+    -- What is read after those terms.
+    after-so : (n : ℕ) → forestReader source σ allowed (count + n) at ≡
+        andThen (forestReader source σ left n (here .at)) (λ others. give (so .0 ++ others))
+    after-so n =
+        let (nodes, read, spent, stored) = so in
         let l : allowed - length nodes ≡ left = omega arith in
+        forest-add source σ allowed count n at ∙ rw (read, l)
+
+    pub bad-term : (owed : ℕ) → count < owed → (code offset : ℕ) (after : List ℕ) →
+        forestReader source σ left 1 (here .at) ≡ fault code offset →
+        TermsRead (forestReader source σ allowed owed at) limit allowed words (Fault code offset) after
+    bad-term owed h code offset after e =
+        let n : owed ≡ count + (owed - count) = omega arith in
+        ap (λ (k : ℕ). forestReader source σ allowed k at) n ∙ after-so (owed - count)
+        ∙ rw (row-more source σ left (owed - count) (here .at) (omega arith), e)
+
+    pub more-terms : (rest : ℕ) (next : BitCursor) (after : List ℕ) →
+        TermsRead (forestReader source σ left 1 (here .at)) limit left middle (Read rest next) after →
+        TermsRead (forestReader source σ allowed (count + 1) at) limit allowed words (Read rest next) after
+    more-terms rest next after (others, read', spent', stored') =
+        let (nodes, read, spent, stored) = so in
         let index : limit - left ≡ limit - allowed + length nodes = omega arith in (
           nodes ++ others,
-          row-more source σ allowed owed at h ∙ rw (read, l, read'),
+          after-so 1 ∙ rw read',
           simp length-append (omega arith),
           stored' ∙ rw (index, stored) (sym (sets-append words (limit - allowed) nodes others)),
         )
-    more-terms fits left next middle (nodes, read, count, stored) (Fault code offset) after read' =
-        let l : allowed - length nodes ≡ left = omega arith in
-        row-more source σ allowed owed at h ∙ rw (read, l, read')
-
--- A term that was read took a node.
-pub fewer : (source : Source) (σ : Signature) (allowed at left next : ℕ) (nodes : List ℕ) →
-    forestReader source σ allowed 1 at ≡ got nodes next → left + length nodes ≡ allowed → left < allowed
-fewer source σ allowed at left next nodes e h = omega (arith, forest-long source σ allowed 1 at nodes next e)

@@ -1,7 +1,7 @@
 -- What the answer of reading a whole packed file stands for.
 -- Renders: 01, "Replies and refusals", "Reading a book"; "Book layout", the header, the symbols and the rules.
 use mathlib.Core.Path.{_≡_}
-use mathlib.Core.List.{List, []}
+use mathlib.Core.List.{List, [], _∷_, _++_, map}
 use Prim.Native.Nat.{ℕ, _+_, _*_, _≤_, _<_}
 use lib.ListN.{length, take}
 use Rattle.format.specs.Layout.{maxBytes}
@@ -9,9 +9,10 @@ use Rattle.format.specs.Reading.{Reading, Reader, _>>=_, _>>_, give, bitSource}
 use Rattle.format.specs.Reading.Reading.{got, fault}
 use Rattle.format.specs.Format.{RuleFile, symbolsReader, rulesReader}
 use Rattle.format.specs.Files.{paddingReader}
-use Rattle.format.specs.Packing.{unpacked}
+use Rattle.terms.specs.Signature.{Symbol}
+use Rattle.format.specs.Packing.{itemWord, symbolItems, unpacked}
 use Rattle.symbols.specs.Table.{signatureOf}
-use Rattle.reader.specs.declared.cursor.BitCursor.{BitCursor}
+use Rattle.bits.specs.declared.BitCursor.{BitCursor}
 use Rattle.reader.specs.declared.file.File.{File}
 use Rattle.reader.specs.declared.file.File.the-variants.{Read, Fault}
 
@@ -45,3 +46,8 @@ abbrev pub FileRead : List ℕ → Reading RuleFile → File → List ℕ → Ty
 FileRead bytes reading (Read symbols rules words next) table =
     (file : RuleFile) × (end : ℕ) × (reading ≡ got file end) × FileParts bytes table file symbols rules words (next .at)
 FileRead bytes reading (Fault code offset) table = reading ≡ fault code offset
+
+-- The words of the symbols, four for each.
+abbrev pub symbolsWords : List Symbol → List ℕ
+symbolsWords [] = []
+symbolsWords (s ∷ ss) = map itemWord (symbolItems s) ++ symbolsWords ss

@@ -1,7 +1,5 @@
 -- What the answers of the reader stand for.
-pub mod Cursor
 pub mod Symbol
 pub mod Term
 pub mod Rule
 pub mod File
-pub mod Decode

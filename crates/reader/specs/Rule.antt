@@ -1,5 +1,6 @@
 -- What the answers of reading the rules stand for.
--- Renders: 01, "Book layout": "N rules, each a left side and a right side in prefix order"; "A sheet holds the same fields
+-- Renders: 01, "Book layout": "N rules, each a left side and a right side in prefix order"; "A sheet holds the same
+-- fields
 -- in the same order".
 use mathlib.Core.Path.{_≡_}
 use mathlib.Core.List.{List, [], _∷_, _++_}
@@ -11,11 +12,12 @@ use Rattle.format.specs.Layout.{maxNodes}
 use Rattle.format.specs.Reading.{Reading, Reader, _>>=_, give, Source}
 use Rattle.format.specs.Reading.Reading.{got, fault}
 use Rattle.format.specs.Format.{Sides, forestReader}
-use Rattle.reader.specs.declared.cursor.BitCursor.{BitCursor}
+use Rattle.bits.specs.declared.BitCursor.{BitCursor}
 use Rattle.reader.specs.declared.rule.Stored.{Stored}
 use Rattle.reader.specs.declared.rule.Stored.the-variants.{Past, Fault}
 
--- What was read, the index of its words, the answer, and the words before and after. A fault leaves open which words were
+-- What was read, the index of its words, the answer, and the words before and after. A fault leaves open which words
+-- were
 -- stored before it.
 abbrev pub WordsRead : {A : Type 0} → (A → List ℕ) → ℕ → Reading A → ℕ → List ℕ → Stored → List ℕ → Type 0
 WordsRead {A} wordsOf most reading index before (Past end next) after =

@@ -1,5 +1,6 @@
 -- What the answers of reading terms stand for.
--- Renders: 01, "Book layout": "A side is read node by node, each symbol calling for its arguments"; "Reading a book", 10.
+-- Renders: 01, "Book layout": "A side is read node by node, each symbol calling for its arguments"; "Reading a book",
+-- 10.
 use mathlib.Core.Path.{_≡_}
 use mathlib.Core.List.{List}
 use Prim.Native.Nat.{ℕ, _+_, _-_}
@@ -7,7 +8,7 @@ use lib.ListN.{length}
 use lib.Seq.{sets}
 use Rattle.format.specs.Reading.{Reading}
 use Rattle.format.specs.Reading.Reading.{got, fault}
-use Rattle.reader.specs.declared.cursor.BitCursor.{BitCursor}
+use Rattle.bits.specs.declared.BitCursor.{BitCursor}
 use Rattle.reader.specs.declared.term.Terms.{Terms}
 use Rattle.reader.specs.declared.term.Terms.the-variants.{Read, Fault}
 

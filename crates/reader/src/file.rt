@@ -5,12 +5,12 @@ ghost use lib.ListN.{length};
 ghost use Rattle.format.specs.Layout.{maxBytes};
 ghost use Rattle.format.specs.Files.{readBytes};
 ghost use Rattle.reader.specs.File.{bodyReader, FileRead};
-use crate::cursor::BitCursor;
-use crate::cursor::Field;
 use crate::rule::Stored;
 use crate::rule::put_rules;
 use crate::symbol::Step;
 use crate::symbol::read_symbols;
+use bits::BitCursor;
+use bits::Field;
 
 // How many words a symbol table may have: w0, and four for each of 255 symbols.
 pub const TABLE_WORDS: usize = 1021;
@@ -36,7 +36,8 @@ fn read_body(
         (length (now book) ≤ maxBytes) × (4 * symbols < length (now table)) × (symbols < 256) × (rules < 1024)
         ⌝ }
     ensures { λ r. ⌜
-        FileRead (now (book .entry)) (bodyReader (now (book .entry)) w0 symbols rules (cursor .at)) r (now (table .exit))
+        FileRead (now (book .entry)) (bodyReader (now (book .entry)) w0 symbols rules (cursor .at)) r
+        (now (table .exit))
         ⌝ }
 {
     match read_symbols(book, table, w0, symbols, cursor) {

@@ -8,9 +8,9 @@ ghost use Rattle.format.specs.Reading.{bitSource};
 ghost use Rattle.format.specs.Format.{forestReader, rulesReader};
 ghost use Rattle.symbols.specs.Table.{signatureOf};
 ghost use Rattle.reader.specs.Rule.{WordsRead, sideReading, CountWithin, ruleReader, sideWords, rulesWords};
-use crate::cursor::BitCursor;
 use crate::term::Terms;
-use crate::term::read_term;
+use crate::term::read_row;
+use bits::BitCursor;
 
 // The index past the words that were stored and the cursor past what was read, or an error's code and offset.
 pub enum Stored {
@@ -33,7 +33,7 @@ pub fn put_side(
         index (now (words .entry)) r (now (words .exit))
         ⌝ }
 {
-    match read_term(book, table, words, index + 128, cursor, 128) {
+    match read_row(book, table, words, index + 128, cursor, 128, 1) {
         Terms::Fault(code, offset) => Stored::Fault(code, offset),
         Terms::Read(left, next) => Stored::Past(index + 128 - left, next),
     }

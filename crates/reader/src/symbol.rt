@@ -11,8 +11,8 @@ ghost use Rattle.format.specs.Reading.{bitSource, give};
 ghost use Rattle.format.specs.Format.{symbolReader, symbolsReader};
 ghost use Rattle.symbols.specs.Table.{symbolsAt};
 ghost use Rattle.reader.specs.Symbol.{entryReading, RankFits, onward, TakenBy, TakenPast};
-use crate::cursor::BitCursor;
-use crate::cursor::Field;
+use bits::BitCursor;
+use bits::Field;
 
 // A symbol's arity, AC mark, weight and rank and the cursor past it, or an error's code and offset.
 pub enum Entry {

@@ -8,8 +8,8 @@ ghost use Rattle.format.specs.Reading.{bitSource};
 ghost use Rattle.format.specs.Format.{forestReader};
 ghost use Rattle.symbols.specs.Table.{signatureOf};
 ghost use Rattle.reader.specs.Term.{TermsRead};
-use crate::cursor::BitCursor;
-use crate::cursor::Node;
+use bits::BitCursor;
+use bits::Node;
 
 // The nodes still allowed and the cursor past the terms that were read, or an error's code and offset.
 pub enum Terms {
@@ -33,8 +33,8 @@ fn has_symbol(table: &[u16], symbol: u16) -> bool
     4 * symbols::wide(symbol) + 1 < table.len()
 }
 
-// Reads one term. Its words are stored so that the last node allowed would stand right before the limit.
-pub fn read_term(
+// Reads one term: its node, and then the row of its arguments.
+fn read_term(
     book: &[u8],
     table: &[u16],
     words: &mut [u16],
@@ -44,7 +44,8 @@ pub fn read_term(
 ) -> Terms
     requires { ⌜ (length (now book) ≤ maxBytes) × (allowed ≤ limit) ⌝ }
     ensures { λ r. ⌜
-        TermsRead (forestReader (bitSource (now (book .entry))) (signatureOf (now (table .entry))) allowed 1 (cursor .at))
+        TermsRead
+        (forestReader (bitSource (now (book .entry))) (signatureOf (now (table .entry))) allowed 1 (cursor .at))
         limit allowed (now (words .entry)) r (now (words .exit))
         ⌝ }
 {
@@ -52,7 +53,7 @@ pub fn read_term(
         return Terms::Fault(10, cursor.at);
     }
     match cursor.node(book) {
-        Node::Fault(code, offset) => Terms::Fault(code, offset),
+        Node::Missing(offset) => Terms::Fault(2, offset),
         Node::Got(word, next) => {
             put_word(words, limit - allowed, word);
             if 256 <= word {
@@ -61,21 +62,18 @@ pub fn read_term(
             if !has_symbol(table, word) {
                 return Terms::Fault(9, cursor.at + 1);
             }
-            read_row(
-                book,
-                table,
-                words,
-                limit,
-                next,
-                allowed - 1,
-                symbols::arity(table, word),
-            )
+            let arity = symbols::arity(table, word);
+            if arity == 0 {
+                return Terms::Read(allowed - 1, next);
+            }
+            read_row(book, table, words, limit, next, allowed - 1, arity)
         }
     }
 }
 
-// Reads as many terms as are owed.
-fn read_row(
+// Reads as many terms as are owed. Their words are stored so that the last node allowed would stand right before the
+// limit.
+pub fn read_row(
     book: &[u8],
     table: &[u16],
     words: &mut [u16],
@@ -91,11 +89,18 @@ fn read_row(
         limit allowed (now (words .entry)) r (now (words .exit))
         ⌝ }
 {
-    if owed == 0 {
-        return Terms::Read(allowed, cursor);
+    let mut left = allowed;
+    let mut here = cursor;
+    let mut count = 0;
+    while count < owed {
+        match read_term(book, table, words, limit, here, left) {
+            Terms::Fault(code, offset) => return Terms::Fault(code, offset),
+            Terms::Read(fewer, next) => {
+                left = fewer;
+                here = next;
+            }
+        }
+        count += 1;
     }
-    match read_term(book, table, words, limit, cursor, allowed) {
-        Terms::Fault(code, offset) => Terms::Fault(code, offset),
-        Terms::Read(left, next) => read_row(book, table, words, limit, next, left, owed - 1),
-    }
+    Terms::Read(left, here)
 }

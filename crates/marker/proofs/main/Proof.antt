@@ -5,45 +5,62 @@ use lib.Seq.{length-take-le}
 use borrow.Author.Needs.{needs}
 use Rattle.marker.proofs.main.Statement.{statement}
 use Rattle.marker.proofs.main.Tie as tie
+use Rattle.marker.proofs.main.Reads as reads
+use Rattle.marker.proofs.main.Lts as lts
+use Rattle.io.proofs.large_buffer.Reads as large-buffer-reads
+use Rattle.io.proofs.read_full.Reads as read-full-reads
+use Rattle.io.proofs.write_all.Reads as write-all-reads
+use Rattle.marker.proofs.buffer.Reads as buffer-reads
+use Rattle.marking.proofs.report.report.Reads as report-reads
 
+-- src/main.rt:15:20
 buffer-requires : tie.Need-buffer-requires
 buffer-requires c κs = search needs
 
+-- src/main.rt:16:45
 slice-aggregate-read-full : tie.Need-slice-aggregate-read-full
 slice-aggregate-read-full c = search needs
 
+-- src/main.rt:16:9
 read-full-requires : tie.Need-read-full-requires
 read-full-requires c κs = search needs
 
+-- src/main.rt:17:20
 large-buffer-requires : tie.Need-large-buffer-requires
 large-buffer-requires c κs = search needs
 
+-- src/main.rt:18:39
 array-share-prefix-book : tie.Need-array-share-prefix-book
 array-share-prefix-book c = search needs
 
+-- src/main.rt:18:39
 slice-aggregate-report : tie.Need-slice-aggregate-report
 slice-aggregate-report c = search needs
 
+-- src/main.rt:18:55
 slice-aggregate-report-2 : tie.Need-slice-aggregate-report-2
 slice-aggregate-report-2 c = search needs
 
+-- src/main.rt:18:9
 report-requires : tie.Need-report-requires
 report-requires c κs = search needs
 
+-- src/main.rt:19:34
 array-share-prefix-text : tie.Need-array-share-prefix-text
 array-share-prefix-text c = search needs
 
+-- src/main.rt:19:34
 slice-aggregate-write-all : tie.Need-slice-aggregate-write-all
 slice-aggregate-write-all c =
     let n : length (c .before .before .report .last .1 .0) ≡ 65536 =
-        c .before .before .report .kept .1 .0 ∙ sym (c .before .before .before .before .before .large-buffer .ensures)
-            in
-    sym (length-take-le _ (c .before .before .report .last .1 .0)
-        (omega (arith, c .before .before .report .ensures .1)))
+        c .before .before .report .kept .1 .0 ∙ sym (c .before .before .before .before .before .large-buffer .ensures) in
+    sym (length-take-le _ (c .before .before .report .last .1 .0) (omega (arith, c .before .before .report .ensures .1)))
 
+-- src/main.rt:19:5
 write-all-requires : tie.Need-write-all-requires
 write-all-requires c κs = search needs
 
+-- src/main.rt:14:1
 returns : tie.Need-returns
 returns c = search needs
 

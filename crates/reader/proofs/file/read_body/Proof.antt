@@ -10,7 +10,7 @@ use Rattle.reader.proofs.file.read_body.Statement.{statement}
 use Rattle.reader.proofs.file.read_body.Tie as tie
 use Rattle.reader.proofs.file.read_body.Reads as reads
 use Rattle.reader.proofs.file.read_body.Lts as lts
-use Rattle.reader.proofs.cursor.BitCursor.is_padding.Reads as is-padding-reads
+use Rattle.bits.proofs.BitCursor.is_padding.Reads as is-padding-reads
 use Rattle.reader.proofs.rule.put_rules.Reads as put-rules-reads
 use Rattle.reader.proofs.symbol.read_symbols.Reads as read-symbols-reads
 
@@ -34,8 +34,14 @@ slice-reshare-prefix-put-rules c = search needs
 
 slice-aggregate-put-rules : tie.Need-slice-aggregate-put-rules
 slice-aggregate-put-rules c =
-    let room : 1 + 4 * c .before .before .before .before .before .before .before .before .before .before .args .symbols ≤ length (c .before .before .before .before .before .before .read-symbols .last .1 .0) = omega (arith, c .before .before .before .before .before .before .read-symbols .kept .1 .0) in
-    sym (length-take-le (1 + 4 * c .before .before .before .before .before .before .before .before .before .before .args .symbols) (c .before .before .before .before .before .before .read-symbols .last .1 .0) room)
+    let room : 1 + 4 * c .before .before .before .before .before .before .before .before .before .before .args .symbols
+    ≤ length (c .before .before .before .before .before .before .read-symbols .last .1 .0) = omega (
+      arith,
+      c .before
+          .before .before .before .before .before .read-symbols .kept .1 .0,
+    ) in
+    sym (length-take-le (1 + 4 * c .before .before .before .before .before .before .before .before .before .before .args
+    .symbols) (c .before .before .before .before .before .before .read-symbols .last .1 .0) room)
 
 slice-aggregate-put-rules-2 : tie.Need-slice-aggregate-put-rules-2
 slice-aggregate-put-rules-2 c = search needs
@@ -59,31 +65,97 @@ same-length : tie.Need-same-length
 same-length c = search needs
 
 returns : tie.Need-returns
-returns c = symbols-fault (c .before .before .before .before .before .before .before .before .before .args .book .now) (c .before .before .before .before .before .before .before .before .before .args .w0) (c .before .before .before .before .before .before .before .before .before .args .symbols) (c .before .before .before .before .before .before .before .before .before .args .rules) (c .before .before .before .before .before .before .before .before .before .args .cursor .at) _ _ (rw (c .before .code .given .1) at (c .before .before .before .before .before .read-symbols .ensures .0))
+returns c = symbols-fault (c .before .before .before .before .before .before .before .before .before .args .book .now)
+    (c .before .before .before .before .before .before .before .before .before .args .w0) (c .before .before .before
+    .before .before .before .before .before .before .args .symbols) (c .before .before .before .before .before .before
+    .before .before .before .args .rules) (c .before .before .before .before .before .before .before .before .before
+    .args .cursor .at) _ _ (rw (c .before .code .given .1) at (c .before .before .before .before .before .read-symbols
+    .ensures .0))
 
 same-length-2 : tie.Need-same-length-2
 same-length-2 c = search needs
 
 returns-2 : tie.Need-returns-2
 returns-2 c =
-    let room : 1 + 4 * c .before .before .before .before .before .before .before .before .before .before .before .before .before .before .before .before .args .symbols ≤ length (c .before .before .before .before .before .before .before .before .before .before .before .before .read-symbols .last .1 .0) = omega (arith, c .before .before .before .before .before .before .before .before .before .before .before .before .read-symbols .kept .1 .0) in
-    rules-fault (c .before .before .before .before .before .before .before .before .before .before .before .before .before .before .before .before .args .book .now) (c .before .before .before .before .before .before .before .before .before .before .before .before .before .before .before .before .args .w0) (c .before .before .before .before .before .before .before .before .before .before .before .before .before .before .before .before .args .symbols) (c .before .before .before .before .before .before .before .before .before .before .before .before .before .before .before .before .args .rules) (c .before .before .before .before .before .before .before .before .before .before .before .before .before .before .before .before .args .cursor .at) (c .before .before .before .before .before .before .before .before .before .before .before .before .read-symbols .last .1 .0) _ (rw (c .before .before .before .before .before .before .before .before .start .given .1) at (c .before .before .before .before .before .before .before .before .before .before .before .before .read-symbols .ensures .0)) (c .before .before .before .before .before .before .before .before .before .before .before .before .read-symbols .ensures .1) room _ _ (rw (c .before .code2 .given .1) at (c .before .before .before .before .put-rules .ensures))
+    let room : 1 + 4 * c .before .before .before .before .before .before .before .before .before .before .before .before
+    .before .before .before .before .args .symbols ≤ length (c .before .before .before .before .before .before .before
+    .before .before .before .before .before .read-symbols .last .1 .0) = omega (
+      arith,
+      c .before .before .before .before
+          .before .before .before .before .before .before .before .before .read-symbols .kept .1 .0,
+    ) in
+    rules-fault (c .before .before .before .before .before .before .before .before .before .before .before .before
+    .before .before .before .before .args .book .now) (c .before .before .before .before .before .before .before .before
+    .before .before .before .before .before .before .before .before .args .w0) (c .before .before .before .before
+    .before .before .before .before .before .before .before .before .before .before .before .before .args .symbols) (c
+    .before .before .before .before .before .before .before .before .before .before .before .before .before .before
+    .before .before .args .rules) (c .before .before .before .before .before .before .before .before .before .before
+    .before .before .before .before .before .before .args .cursor .at) (c .before .before .before .before .before
+    .before .before .before .before .before .before .before .read-symbols .last .1 .0) _ (rw (c .before .before .before
+    .before .before .before .before .before .start .given .1) at (c .before .before .before .before .before .before
+    .before .before .before .before .before .before .read-symbols .ensures .0)) (c .before .before .before .before
+    .before .before .before .before .before .before .before .before .read-symbols .ensures .1) room _ _ (rw (c .before
+    .code2 .given .1) at (c .before .before .before .before .put-rules .ensures))
 
 same-length-3 : tie.Need-same-length-3
 same-length-3 c = search needs
 
 returns-3 : tie.Need-returns-3
 returns-3 c =
-    let room : 1 + 4 * c .before .before .before .before .before .before .before .before .before .before .before .before .before .before .before .before .before .before .args .symbols ≤ length (c .before .before .before .before .before .before .before .before .before .before .before .before .before .before .read-symbols .last .1 .0) = omega (arith, c .before .before .before .before .before .before .before .before .before .before .before .before .before .before .read-symbols .kept .1 .0) in
-    body-read (c .before .before .before .before .before .before .before .before .before .before .before .before .before .before .before .before .before .before .args .book .now) (c .before .before .before .before .before .before .before .before .before .before .before .before .before .before .before .before .before .before .args .w0) (c .before .before .before .before .before .before .before .before .before .before .before .before .before .before .before .before .before .before .args .symbols) (c .before .before .before .before .before .before .before .before .before .before .before .before .before .before .before .before .before .before .args .rules) (c .before .before .before .before .before .before .before .before .before .before .before .before .before .before .before .before .before .before .args .cursor .at) (c .before .before .before .before .before .before .before .before .before .before .before .before .before .before .read-symbols .last .1 .0) _ (rw (c .before .before .before .before .before .before .before .before .before .before .start .given .1) at (c .before .before .before .before .before .before .before .before .before .before .before .before .before .before .read-symbols .ensures .0)) (c .before .before .before .before .before .before .before .before .before .before .before .before .before .before .read-symbols .ensures .1) room _ _ (0 ∷ []) (c .before .before .before .before .before .before .put-rules .last .1 .1 .0) (rw (c .before .before .before .words .given .1) at (c .before .before .before .before .before .before .put-rules .ensures)) _ refl (sym (c .before .is-padding .ensures) ∙ c .if1 .taken) (omega arith) (omega arith) (omega arith)
+    let room : 1 + 4 * c .before .before .before .before .before .before .before .before .before .before .before .before
+    .before .before .before .before .before .before .args .symbols ≤ length (c .before .before .before .before .before
+    .before .before .before .before .before .before .before .before .before .read-symbols .last .1 .0) = omega (
+      arith,
+      c
+          .before .before .before .before .before .before .before .before .before .before .before .before
+          .before .before
+          .read-symbols .kept .1 .0,
+    ) in
+    body-read (c .before .before .before .before .before .before .before .before .before .before .before .before .before
+    .before .before .before .before .before .args .book .now) (c .before .before .before .before .before .before .before
+    .before .before .before .before .before .before .before .before .before .before .before .args .w0) (c .before
+    .before .before .before .before .before .before .before .before .before .before .before .before .before .before
+    .before .before .before .args .symbols) (c .before .before .before .before .before .before .before .before .before
+    .before .before .before .before .before .before .before .before .before .args .rules) (c .before .before .before
+    .before .before .before .before .before .before .before .before .before .before .before .before .before .before
+    .before .args .cursor .at) (c .before .before .before .before .before .before .before .before .before .before
+    .before .before .before .before .read-symbols .last .1 .0) _ (rw (c .before .before .before .before .before .before
+    .before .before .before .before .start .given .1) at (c .before .before .before .before .before .before .before
+    .before .before .before .before .before .before .before .read-symbols .ensures .0)) (c .before .before .before
+    .before .before .before .before .before .before .before .before .before .before .before .read-symbols .ensures .1)
+    room _ _ (0 ∷ []) (c .before .before .before .before .before .before .put-rules .last .1 .1 .0) (rw (c .before
+    .before .before .words .given .1) at (c .before .before .before .before .before .before .put-rules .ensures)) _ refl
+    (sym (c .before .is-padding .ensures) ∙ c .if1 .taken) (omega arith) (omega arith) (omega arith)
 
 same-length-4 : tie.Need-same-length-4
 same-length-4 c = search needs
 
 returns-4 : tie.Need-returns-4
 returns-4 c =
-    let room : 1 + 4 * c .before .before .before .before .before .before .before .before .before .before .before .before .before .before .before .before .before .before .args .symbols ≤ length (c .before .before .before .before .before .before .before .before .before .before .before .before .before .before .read-symbols .last .1 .0) = omega (arith, c .before .before .before .before .before .before .before .before .before .before .before .before .before .before .read-symbols .kept .1 .0) in
-    padding-fault (c .before .before .before .before .before .before .before .before .before .before .before .before .before .before .before .before .before .before .args .book .now) (c .before .before .before .before .before .before .before .before .before .before .before .before .before .before .before .before .before .before .args .w0) (c .before .before .before .before .before .before .before .before .before .before .before .before .before .before .before .before .before .before .args .symbols) (c .before .before .before .before .before .before .before .before .before .before .before .before .before .before .before .before .before .before .args .rules) (c .before .before .before .before .before .before .before .before .before .before .before .before .before .before .before .before .before .before .args .cursor .at) (c .before .before .before .before .before .before .before .before .before .before .before .before .before .before .read-symbols .last .1 .0) _ (rw (c .before .before .before .before .before .before .before .before .before .before .start .given .1) at (c .before .before .before .before .before .before .before .before .before .before .before .before .before .before .read-symbols .ensures .0)) (c .before .before .before .before .before .before .before .before .before .before .before .before .before .before .read-symbols .ensures .1) room _ _ (0 ∷ []) (c .before .before .before .before .before .before .put-rules .last .1 .1 .0) (rw (c .before .before .before .words .given .1) at (c .before .before .before .before .before .before .put-rules .ensures)) (sym (c .before .is-padding .ensures) ∙ c .if1 .left)
+    let room : 1 + 4 * c .before .before .before .before .before .before .before .before .before .before .before .before
+    .before .before .before .before .before .before .args .symbols ≤ length (c .before .before .before .before .before
+    .before .before .before .before .before .before .before .before .before .read-symbols .last .1 .0) = omega (
+      arith,
+      c
+          .before .before .before .before .before .before .before .before .before .before .before .before
+          .before .before
+          .read-symbols .kept .1 .0,
+    ) in
+    padding-fault (c .before .before .before .before .before .before .before .before .before .before .before .before
+    .before .before .before .before .before .before .args .book .now) (c .before .before .before .before .before .before
+    .before .before .before .before .before .before .before .before .before .before .before .before .args .w0) (c
+    .before .before .before .before .before .before .before .before .before .before .before .before .before .before
+    .before .before .before .before .args .symbols) (c .before .before .before .before .before .before .before .before
+    .before .before .before .before .before .before .before .before .before .before .args .rules) (c .before .before
+    .before .before .before .before .before .before .before .before .before .before .before .before .before .before
+    .before .before .args .cursor .at) (c .before .before .before .before .before .before .before .before .before
+    .before .before .before .before .before .read-symbols .last .1 .0) _ (rw (c .before .before .before .before .before
+    .before .before .before .before .before .start .given .1) at (c .before .before .before .before .before .before
+    .before .before .before .before .before .before .before .before .read-symbols .ensures .0)) (c .before .before
+    .before .before .before .before .before .before .before .before .before .before .before .before .read-symbols
+    .ensures .1) room _ _ (0 ∷ []) (c .before .before .before .before .before .before .put-rules .last .1 .1 .0) (rw (c
+    .before .before .before .words .given .1) at (c .before .before .before .before .before .before .put-rules
+    .ensures)) (sym (c .before .is-padding .ensures) ∙ c .if1 .left)
 
 pub read-body-spec : {M : Type 1} → statement M
 read-body-spec =

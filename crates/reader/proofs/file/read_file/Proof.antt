@@ -7,14 +7,14 @@ use Rattle.format.specs.Layout.{maxBytes}
 use Rattle.format.specs.Format.{fileReader}
 use Rattle.format.specs.Files.{readBytes}
 use Rattle.reader.specs.File.{bodyReader}
-use Rattle.reader.specs.Cursor.{fieldReading}
-use Rattle.reader.proofs.NodeLaws.{field-lt}
+use Rattle.bits.specs.Cursor.{fieldReading}
+use Rattle.bits.proofs.NodeLaws.{field-lt}
 use borrow.Author.Needs.{needs}
 use Rattle.reader.proofs.file.read_file.Statement.{statement}
 use Rattle.reader.proofs.file.read_file.Tie as tie
 use Rattle.reader.proofs.file.read_file.Reads as reads
 use Rattle.reader.proofs.file.read_file.Lts as lts
-use Rattle.reader.proofs.cursor.BitCursor.field.Reads as field-reads
+use Rattle.bits.proofs.BitCursor.field.Reads as field-reads
 use Rattle.reader.proofs.file.read_body.Reads as read-body-reads
 use Rattle.symbols.proofs.wide.Reads as wide-reads
 
@@ -36,7 +36,8 @@ returns-2 : tie.Need-returns-2
 unfolding readBytes fileReader bodyReader
 returns-2 c =
     rw (
-      le-leb (length (c .before .before .before .before .before .before .args .book .now)) maxBytes (c .before .before .before .if1 .left),
+      le-leb (length (c .before .before .before .before .before .before .args .book .now)) maxBytes (c .before .before
+          .before .if1 .left),
       sym (c .before .before .field .ensures) ∙ ap (fieldReading _) (c .enum-told .given .1),
     )
 
@@ -44,7 +45,8 @@ returns-3 : tie.Need-returns-3
 unfolding readBytes fileReader bodyReader
 returns-3 c =
     rw (
-      le-leb (length (c .before .before .before .before .before .before .before .before .args .book .now)) maxBytes (c .before .before .before .before .before .if1 .left),
+      le-leb (length (c .before .before .before .before .before .before .before .before .args .book .now)) maxBytes (c
+          .before .before .before .before .before .if1 .left),
       sym (c .before .before .before .before .field .ensures) ∙ ap (fieldReading _) (c .before .before .form .given .1),
       ne-eqb _ _ (c .if2 .taken),
     )
@@ -62,8 +64,10 @@ returns-4 : tie.Need-returns-4
 unfolding readBytes fileReader bodyReader
 returns-4 c =
     rw (
-      le-leb (length (c .before .before .before .before .before .before .before .before .before .before .before .args .book .now)) maxBytes (c .before .before .before .before .before .before .before .before .if1 .left),
-      sym (c .before .before .before .before .before .before .before .field .ensures) ∙ ap (fieldReading _) (c .before .before .before .before .before .form .given .1),
+      le-leb (length (c .before .before .before .before .before .before .before .before .before .before .before .args
+          .book .now)) maxBytes (c .before .before .before .before .before .before .before .before .if1 .left),
+      sym (c .before .before .before .before .before .before .before .field .ensures) ∙ ap (fieldReading _) (c .before
+          .before .before .before .before .form .given .1),
       eq-eqb _ _ (c .before .before .before .if2 .left),
       sym (c .before .before .field2 .ensures) ∙ ap (fieldReading _) (c .enum-told2 .given .1),
     )
@@ -72,10 +76,14 @@ returns-5 : tie.Need-returns-5
 unfolding readBytes fileReader bodyReader
 returns-5 c =
     rw (
-      le-leb (length (c .before .before .before .before .before .before .before .before .before .before .before .before .before .args .book .now)) maxBytes (c .before .before .before .before .before .before .before .before .before .before .if1 .left),
-      sym (c .before .before .before .before .before .before .before .before .before .field .ensures) ∙ ap (fieldReading _) (c .before .before .before .before .before .before .before .form .given .1),
+      le-leb (length (c .before .before .before .before .before .before .before .before .before .before .before .before
+          .before .args .book .now)) maxBytes (c .before .before .before .before .before .before .before .before .before
+          .before .if1 .left),
+      sym (c .before .before .before .before .before .before .before .before .before .field .ensures) ∙ ap (fieldReading
+          _) (c .before .before .before .before .before .before .before .form .given .1),
       eq-eqb _ _ (c .before .before .before .before .before .if2 .left),
-      sym (c .before .before .before .before .field2 .ensures) ∙ ap (fieldReading _) (c .before .before .count .given .1),
+      sym (c .before .before .before .before .field2 .ensures) ∙ ap (fieldReading _) (c .before .before .count .given
+          .1),
       le-ltb 0 (c .before .before .count .given .0 .0) (omega arith),
     )
 
@@ -92,10 +100,16 @@ returns-6 : tie.Need-returns-6
 unfolding readBytes fileReader bodyReader
 returns-6 c =
     rw (
-      le-leb (length (c .before .before .before .before .before .before .before .before .before .before .before .before .before .before .before .before .args .book .now)) maxBytes (c .before .before .before .before .before .before .before .before .before .before .before .before .before .if1 .left),
-      sym (c .before .before .before .before .before .before .before .before .before .before .before .before .field .ensures) ∙ ap (fieldReading _) (c .before .before .before .before .before .before .before .before .before .before .form .given .1),
+      le-leb (length (c .before .before .before .before .before .before .before .before .before .before .before .before
+          .before .before .before .before .args .book .now)) maxBytes (c .before .before .before .before .before .before
+          .before .before .before .before .before .before .before .if1 .left),
+      sym (c .before .before .before .before .before .before .before .before .before .before .before .before .field
+          .ensures) ∙ ap (fieldReading _) (c .before .before .before .before .before .before .before .before
+          .before .before
+          .form .given .1),
       eq-eqb _ _ (c .before .before .before .before .before .before .before .before .if2 .left),
-      sym (c .before .before .before .before .before .before .before .field2 .ensures) ∙ ap (fieldReading _) (c .before .before .before .before .before .count .given .1),
+      sym (c .before .before .before .before .before .before .before .field2 .ensures) ∙ ap (fieldReading _) (c .before
+          .before .before .before .before .count .given .1),
       lt-ltb 0 (c .before .before .before .before .before .count .given .0 .0) (omega arith),
       sym (c .before .before .field3 .ensures) ∙ ap (fieldReading _) (c .enum-told3 .given .1),
     )
@@ -104,10 +118,16 @@ returns-7 : tie.Need-returns-7
 unfolding readBytes fileReader bodyReader
 returns-7 c =
     rw (
-      le-leb (length (c .before .before .before .before .before .before .before .before .before .before .before .before .before .before .before .before .before .before .args .book .now)) maxBytes (c .before .before .before .before .before .before .before .before .before .before .before .before .before .before .before .if1 .left),
-      sym (c .before .before .before .before .before .before .before .before .before .before .before .before .before .before .field .ensures) ∙ ap (fieldReading _) (c .before .before .before .before .before .before .before .before .before .before .before .before .form .given .1),
+      le-leb (length (c .before .before .before .before .before .before .before .before .before .before .before .before
+          .before .before .before .before .before .before .args .book .now)) maxBytes (c .before .before .before .before
+          .before .before .before .before .before .before .before .before .before .before .before .if1 .left),
+      sym (c .before .before .before .before .before .before .before .before .before .before .before .before .before
+          .before .field .ensures) ∙ ap (fieldReading _) (c .before .before .before .before .before .before
+          .before .before
+          .before .before .before .before .form .given .1),
       eq-eqb _ _ (c .before .before .before .before .before .before .before .before .before .before .if2 .left),
-      sym (c .before .before .before .before .before .before .before .before .before .field2 .ensures) ∙ ap (fieldReading _) (c .before .before .before .before .before .before .before .count .given .1),
+      sym (c .before .before .before .before .before .before .before .before .before .field2 .ensures) ∙ ap
+          (fieldReading _) (c .before .before .before .before .before .before .before .count .given .1),
       lt-ltb 0 (c .before .before .before .before .before .before .before .count .given .0 .0) (omega arith),
       sym (c .before .before .before .before .field3 .ensures) ∙ ap (fieldReading _) (c .before .before .w0 .given .1),
       le-ltb 0 (c .before .before .w0 .given .0 .0) (omega arith),
@@ -126,12 +146,25 @@ returns-8 : tie.Need-returns-8
 unfolding readBytes fileReader bodyReader
 returns-8 c =
     rw (
-      le-leb (length (c .before .before .before .before .before .before .before .before .before .before .before .before .before .before .before .before .before .before .before .before .before .args .book .now)) maxBytes (c .before .before .before .before .before .before .before .before .before .before .before .before .before .before .before .before .before .before .if1 .left),
-      sym (c .before .before .before .before .before .before .before .before .before .before .before .before .before .before .before .before .before .field .ensures) ∙ ap (fieldReading _) (c .before .before .before .before .before .before .before .before .before .before .before .before .before .before .before .form .given .1),
-      eq-eqb _ _ (c .before .before .before .before .before .before .before .before .before .before .before .before .before .if2 .left),
-      sym (c .before .before .before .before .before .before .before .before .before .before .before .before .field2 .ensures) ∙ ap (fieldReading _) (c .before .before .before .before .before .before .before .before .before .before .count .given .1),
-      lt-ltb 0 (c .before .before .before .before .before .before .before .before .before .before .count .given .0 .0) (omega arith),
-      sym (c .before .before .before .before .before .before .before .field3 .ensures) ∙ ap (fieldReading _) (c .before .before .before .before .before .w0 .given .1),
+      le-leb (length (c .before .before .before .before .before .before .before .before .before .before .before .before
+          .before .before .before .before .before .before .before .before .before .args .book .now)) maxBytes (c .before
+          .before .before .before .before .before .before .before .before .before .before .before .before
+          .before .before
+          .before .before .before .if1 .left),
+      sym (c .before .before .before .before .before .before .before .before .before .before .before .before .before
+          .before .before .before .before .field .ensures) ∙ ap (fieldReading _) (c .before .before .before
+          .before .before
+          .before .before .before .before .before .before .before .before .before .before .form .given .1),
+      eq-eqb _ _ (c .before .before .before .before .before .before .before .before .before .before .before .before
+          .before .if2 .left),
+      sym (c .before .before .before .before .before .before .before .before .before .before .before .before .field2
+          .ensures) ∙ ap (fieldReading _) (c .before .before .before .before .before .before .before .before
+          .before .before
+          .count .given .1),
+      lt-ltb 0 (c .before .before .before .before .before .before .before .before .before .before .count .given .0 .0)
+          (omega arith),
+      sym (c .before .before .before .before .before .before .before .field3 .ensures) ∙ ap (fieldReading _) (c .before
+          .before .before .before .before .w0 .given .1),
       lt-ltb 0 (c .before .before .before .before .before .w0 .given .0 .0) (omega arith),
       sym (c .before .before .field4 .ensures) ∙ ap (fieldReading _) (c .enum-told4 .given .1),
     )
@@ -144,7 +177,24 @@ wide-requires-2 c κs = search needs
 
 read-body-requires : tie.Need-read-body-requires
 unfolding readBytes fileReader bodyReader
-read-body-requires c κs = omega (arith, c .before .before .before .before .before .before .before .before .before .before .before .before .before .before .before .before .before .before .before .before .before .before .before .before .before .pre, c .before .wide .ensures .0, c .wide2 .ensures .0, field-lt (c .before .before .before .before .before .before .before .before .before .before .before .before .before .before .before .before .before .before .before .before .before .before .before .before .before .args .book .now) 8 _ _ _ (sym (c .before .before .before .before .before .before .before .before .before .before .before .before .before .before .before .before .field2 .ensures) ∙ ap (fieldReading _) (c .before .before .before .before .before .before .before .before .before .before .before .before .before .before .count .given .1)), field-lt (c .before .before .before .before .before .before .before .before .before .before .before .before .before .before .before .before .before .before .before .before .before .before .before .before .before .args .book .now) 10 _ _ _ (sym (c .before .before .before .before .before .before .field4 .ensures) ∙ ap (fieldReading _) (c .before .before .before .before .rules .given .1)))
+read-body-requires c κs = omega (
+  arith,
+  c .before .before .before .before .before .before .before .before .before
+      .before .before .before .before .before .before .before .before .before .before .before .before .before .before
+      .before .before .pre,
+  c .before .wide .ensures .0,
+  c .wide2 .ensures .0,
+  field-lt (c .before .before .before .before
+      .before .before .before .before .before .before .before .before .before .before .before .before .before .before
+      .before .before .before .before .before .before .before .args .book .now) 8 _ _ _ (sym (c .before .before .before
+      .before .before .before .before .before .before .before .before .before .before .before .before .before .field2
+      .ensures) ∙ ap (fieldReading _) (c .before .before .before .before .before .before .before .before .before .before
+      .before .before .before .before .count .given .1)),
+  field-lt (c .before .before .before .before .before .before
+      .before .before .before .before .before .before .before .before .before .before .before .before .before .before
+      .before .before .before .before .before .args .book .now) 10 _ _ _ (sym (c .before .before .before .before .before
+      .before .field4 .ensures) ∙ ap (fieldReading _) (c .before .before .before .before .rules .given .1)),
+)
 
 same-length : tie.Need-same-length
 same-length c = search needs
@@ -153,15 +203,37 @@ returns-9 : tie.Need-returns-9
 unfolding readBytes fileReader bodyReader
 returns-9 c =
     rw (
-      le-leb (length (c .before .before .before .before .before .before .before .before .before .before .before .before .before .before .before .before .before .before .before .before .before .before .before .before .before .before .before .before .args .book .now)) maxBytes (c .before .before .before .before .before .before .before .before .before .before .before .before .before .before .before .before .before .before .before .before .before .before .before .before .before .if1 .left),
-      sym (c .before .before .before .before .before .before .before .before .before .before .before .before .before .before .before .before .before .before .before .before .before .before .before .before .field .ensures) ∙ ap (fieldReading _) (c .before .before .before .before .before .before .before .before .before .before .before .before .before .before .before .before .before .before .before .before .before .before .form .given .1),
-      eq-eqb _ _ (c .before .before .before .before .before .before .before .before .before .before .before .before .before .before .before .before .before .before .before .before .if2 .left),
-      sym (c .before .before .before .before .before .before .before .before .before .before .before .before .before .before .before .before .before .before .before .field2 .ensures) ∙ ap (fieldReading _) (c .before .before .before .before .before .before .before .before .before .before .before .before .before .before .before .before .before .count .given .1),
-      lt-ltb 0 (c .before .before .before .before .before .before .before .before .before .before .before .before .before .before .before .before .before .count .given .0 .0) (omega arith),
-      sym (c .before .before .before .before .before .before .before .before .before .before .before .before .before .before .field3 .ensures) ∙ ap (fieldReading _) (c .before .before .before .before .before .before .before .before .before .before .before .before .w0 .given .1),
-      lt-ltb 0 (c .before .before .before .before .before .before .before .before .before .before .before .before .w0 .given .0 .0) (omega arith),
-      sym (c .before .before .before .before .before .before .before .before .before .field4 .ensures) ∙ ap (fieldReading _) (c .before .before .before .before .before .before .before .rules .given .1),
-    ) (rw (c .before .before .before .before .wide .ensures .0, c .before .before .before .wide2 .ensures .0) at (c .before .before .read-body .ensures))
+      le-leb (length (c .before .before .before .before .before .before .before .before .before .before .before .before
+          .before .before .before .before .before .before .before .before .before .before .before .before
+          .before .before
+          .before .before .args .book .now)) maxBytes (c .before .before .before .before .before .before .before .before
+          .before .before .before .before .before .before .before .before .before .before .before .before
+          .before .before
+          .before .before .before .if1 .left),
+      sym (c .before .before .before .before .before .before .before .before .before .before .before .before .before
+          .before .before .before .before .before .before .before .before .before .before .before .field .ensures) ∙ ap
+          (fieldReading _) (c .before .before .before .before .before .before .before .before .before .before .before
+          .before .before .before .before .before .before .before .before .before .before .before .form .given .1),
+      eq-eqb _ _ (c .before .before .before .before .before .before .before .before .before .before .before .before
+          .before .before .before .before .before .before .before .before .if2 .left),
+      sym (c .before .before .before .before .before .before .before .before .before .before .before .before .before
+          .before .before .before .before .before .before .field2 .ensures) ∙ ap (fieldReading _) (c .before
+          .before .before
+          .before .before .before .before .before .before .before .before .before .before .before .before
+          .before .before
+          .count .given .1),
+      lt-ltb 0 (c .before .before .before .before .before .before .before .before .before .before .before .before
+          .before .before .before .before .before .count .given .0 .0) (omega arith),
+      sym (c .before .before .before .before .before .before .before .before .before .before .before .before .before
+          .before .field3 .ensures) ∙ ap (fieldReading _) (c .before .before .before .before .before .before
+          .before .before
+          .before .before .before .before .w0 .given .1),
+      lt-ltb 0 (c .before .before .before .before .before .before .before .before .before .before .before .before .w0
+          .given .0 .0) (omega arith),
+      sym (c .before .before .before .before .before .before .before .before .before .field4 .ensures) ∙ ap
+          (fieldReading _) (c .before .before .before .before .before .before .before .rules .given .1),
+    ) (rw (c .before .before .before .before .wide .ensures .0, c .before .before .before .wide2 .ensures .0) at (c
+    .before .before .read-body .ensures))
 
 pub read-file-spec : {M : Type 1} → statement M
 read-file-spec =

@@ -19,21 +19,37 @@ enum-known-middle : tie.Need-enum-known-middle
 enum-known-middle c = search needs
 
 put-side-requires-2 : tie.Need-put-side-requires-2
-put-side-requires-2 c κs = let read = rw (c .before .before .middle .given .1) at (c .before .before .before .before .before .before .put-side .ensures) in omega (arith, read .2, read .3)
+put-side-requires-2 c κs = let read = rw (c .before .before .middle .given .1) at (c .before .before .before .before
+    .before .before .put-side .ensures) in omega (arith, read .2, read .3)
 
 same-length : tie.Need-same-length
 same-length c = search needs
 
 returns : tie.Need-returns
-returns c = left-fault (bitSource (c .before .before .before .before .before .before .before .before .before .before .args .book .now)) (signatureOf (c .before .before .before .before .before .before .before .before .before .before .args .table .now)) (c .before .before .before .before .before .before .before .before .before .before .args .cursor .at) (c .before .before .before .before .before .before .before .before .before .before .args .index) (c .before .before .before .before .before .before .before .before .before .before .args .words .now) _ _ (c .before .before .before .before .before .put-side .last .1 .1 .0) (rw (c .before .code .given .1) at (c .before .before .before .before .before .put-side .ensures))
+returns c = left-fault (bitSource (c .before .before .before .before .before .before .before .before .before .before
+    .args .book .now)) (signatureOf (c .before .before .before .before .before .before .before .before .before .before
+    .args .table .now)) (c .before .before .before .before .before .before .before .before .before .before .args .cursor
+    .at) (c .before .before .before .before .before .before .before .before .before .before .args .index) (c .before
+    .before .before .before .before .before .before .before .before .before .args .words .now) _ _ (c .before .before
+    .before .before .before .put-side .last .1 .1 .0) (rw (c .before .code .given .1) at (c .before .before .before
+    .before .before .put-side .ensures))
 
 same-length-2 : tie.Need-same-length-2
 same-length-2 c = search needs
 
 returns-2 : tie.Need-returns-2
 returns-2 c =
-    right-read (bitSource (c .before .before .before .before .before .before .before .before .before .before .before .before .before .before .args .book .now)) (signatureOf (c .before .before .before .before .before .before .before .before .before .before .before .before .before .before .args .table .now)) (c .before .before .before .before .before .before .before .before .before .before .before .before .before .before .args .cursor .at) (c .before .before .before .before .before .before .before .before .before .before .before .before .before .before .args .index) (c .before .before .before .before .before .before .before .before .before .before .before .before .before .before .args .words .now) _ _ (c .before .before .before .before .before .before .before .before .before .put-side .last .1 .1 .0) (rw (c .before .before .before .before .before .middle .given .1) at (c .before .before .before .before .before .before .before .before .before .put-side .ensures))
-    (c .before .before .put-side2 .result) (c .before .before .put-side2 .last .1 .1 .0) (c .before .before .put-side2 .ensures)
+    right-read (bitSource (c .before .before .before .before .before .before .before .before .before .before .before
+    .before .before .before .args .book .now)) (signatureOf (c .before .before .before .before .before .before .before
+    .before .before .before .before .before .before .before .args .table .now)) (c .before .before .before .before
+    .before .before .before .before .before .before .before .before .before .before .args .cursor .at) (c .before
+    .before .before .before .before .before .before .before .before .before .before .before .before .before .args
+    .index) (c .before .before .before .before .before .before .before .before .before .before .before .before .before
+    .before .args .words .now) _ _ (c .before .before .before .before .before .before .before .before .before .put-side
+    .last .1 .1 .0) (rw (c .before .before .before .before .before .middle .given .1) at (c .before .before .before
+    .before .before .before .before .before .before .put-side .ensures))
+    (c .before .before .put-side2 .result) (c .before .before .put-side2 .last .1 .1 .0) (c .before .before .put-side2
+    .ensures)
 
 pub put-rule-spec : {M : Type 1} → statement M
 put-rule-spec =

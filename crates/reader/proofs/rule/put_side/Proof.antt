@@ -5,13 +5,13 @@ use Rattle.reader.proofs.rule.put_side.Statement.{statement}
 use Rattle.reader.proofs.rule.put_side.Tie as tie
 use Rattle.reader.proofs.rule.put_side.Reads as reads
 use Rattle.reader.proofs.rule.put_side.Lts as lts
-use Rattle.reader.proofs.term.read_term.Reads as read-term-reads
+use Rattle.reader.proofs.term.read_row.Reads as read-row-reads
 
-add-read-term : tie.Need-add-read-term
-add-read-term c = search needs
+add-read-row : tie.Need-add-read-row
+add-read-row c = search needs
 
-read-term-requires : tie.Need-read-term-requires
-read-term-requires c κs = search needs
+read-row-requires : tie.Need-read-row-requires
+read-row-requires c κs = search needs
 
 enum-known-code : tie.Need-enum-known-code
 enum-known-code c = search needs
@@ -23,27 +23,31 @@ add-t15 : tie.Need-add-t15
 add-t15 c = search needs
 
 sub-t16 : tie.Need-sub-t16
-sub-t16 c = let read = rw (c .before .left .given .1) at (c .before .before .before .before .before .read-term .ensures) in omega (arith, read .2)
+sub-t16 c = let read = rw (c .before .left .given .1) at (c .before .before .before .before .before .read-row .ensures)
+    in omega (arith, read .2)
 
 same-length : tie.Need-same-length
 same-length c = search needs
 
 returns : tie.Need-returns
-returns c = rw (c .before .code .given .1) at (c .before .before .before .before .before .read-term .ensures)
+returns c = rw (c .before .code .given .1) at (c .before .before .before .before .before .read-row .ensures)
 
 same-length-2 : tie.Need-same-length-2
 same-length-2 c = search needs
 
 returns-2 : tie.Need-returns-2
 returns-2 c =
-    side-past _ (c .before .before .before .before .before .before .before .before .before .before .args .index) _ _ (c .before .before .before .before .before .before .before .before .before .before .args .words .now) (c .before .before .before .before .before .read-term .last .1 .1 .0) (rw (c .before .left .given .1) at (c .before .before .before .before .before .read-term .ensures))
+    side-past _ (c .before .before .before .before .before .before .before .before .before .before .args .index) _ _ (c
+    .before .before .before .before .before .before .before .before .before .before .args .words .now) (c .before
+    .before .before .before .before .read-row .last .1 .1 .0) (rw (c .before .left .given .1) at (c .before .before
+    .before .before .before .read-row .ensures))
 
 pub put-side-spec : {M : Type 1} → statement M
 put-side-spec =
     tie.close
     (tie.spec
-    add-read-term
-    read-term-requires
+    add-read-row
+    read-row-requires
     enum-known-code
     enum-known-left
     add-t15

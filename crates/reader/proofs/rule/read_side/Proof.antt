@@ -15,7 +15,9 @@ same-length c = search needs
 
 returns : tie.Need-returns
 returns c =
-    side-front _ (c .before .before .before .before .before .before .before .args .words .now) (c .before .before .before .before .before .before .before .pre .1) (c .before .before .put-side .result) (c .before .before .put-side .last .1 .1 .0) (c .before .before .put-side .ensures)
+    side-front _ (c .before .before .before .before .before .before .before .args .words .now) (c .before .before
+    .before .before .before .before .before .pre .1) (c .before .before .put-side .result) (c .before .before .put-side
+    .last .1 .1 .0) (c .before .before .put-side .ensures)
 
 pub read-side-spec : {M : Type 1} → statement M
 read-side-spec = tie.close (tie.spec put-side-requires same-length returns)

@@ -5,14 +5,14 @@ use borrow.Author.Tests.{not-true, not-false}
 use native.Mathlib.Omega.{arith}
 use mathlib.Core.Path.{sym, ap, _∙_}
 use Rattle.format.specs.Format.{symbolReader}
-use Rattle.reader.specs.Cursor.{fieldReading}
-use Rattle.reader.proofs.NodeLaws.{field-lt}
+use Rattle.bits.specs.Cursor.{fieldReading}
+use Rattle.bits.proofs.NodeLaws.{field-lt}
 use borrow.Author.Needs.{needs}
 use Rattle.reader.proofs.symbol.read_symbol.Statement.{statement}
 use Rattle.reader.proofs.symbol.read_symbol.Tie as tie
 use Rattle.reader.proofs.symbol.read_symbol.Reads as reads
 use Rattle.reader.proofs.symbol.read_symbol.Lts as lts
-use Rattle.reader.proofs.cursor.BitCursor.field.Reads as field-reads
+use Rattle.bits.proofs.BitCursor.field.Reads as field-reads
 use Rattle.reader.proofs.symbol.ac_allowed.Reads as ac-allowed-reads
 use Rattle.reader.proofs.symbol.weighs_enough.Reads as weighs-enough-reads
 use Rattle.symbols.proofs.wide.Reads as wide-reads
@@ -48,7 +48,8 @@ unfolding symbolReader
 returns-2 c = (
   (λ earlier h.
       rw (
-        sym (c .before .before .before .before .before .before .field .ensures) ∙ ap (fieldReading _) (c .before .before .before .before .arity .given .1),
+        sym (c .before .before .before .before .before .before .field .ensures) ∙ ap (fieldReading _) (c .before .before
+            .before .before .arity .given .1),
         sym (c .before .before .field2 .ensures) ∙ ap (fieldReading _) (c .enum-told2 .given .1),
       )),
   tt,
@@ -62,8 +63,10 @@ unfolding symbolReader
 returns-3 c = (
   (λ earlier h.
       rw (
-        sym (c .before .before .before .before .before .before .before .before .before .field .ensures) ∙ ap (fieldReading _) (c .before .before .before .before .before .before .before .arity .given .1),
-        sym (c .before .before .before .before .before .field2 .ensures) ∙ ap (fieldReading _) (c .before .before .before .ac .given .1),
+        sym (c .before .before .before .before .before .before .before .before .before .field .ensures) ∙ ap
+            (fieldReading _) (c .before .before .before .before .before .before .before .arity .given .1),
+        sym (c .before .before .before .before .before .field2 .ensures) ∙ ap (fieldReading _) (c .before .before
+            .before .ac .given .1),
         sym (c .before .ac-allowed .ensures) ∙ not-true _ (c .if1 .taken),
       )),
   tt,
@@ -83,9 +86,13 @@ unfolding symbolReader
 returns-4 c = (
   (λ earlier h.
       rw (
-        sym (c .before .before .before .before .before .before .before .before .before .before .before .before .field .ensures) ∙ ap (fieldReading _) (c .before .before .before .before .before .before .before .before .before .before .arity .given .1),
-        sym (c .before .before .before .before .before .before .before .before .field2 .ensures) ∙ ap (fieldReading _) (c .before .before .before .before .before .before .ac .given .1),
-        sym (c .before .before .before .before .ac-allowed .ensures) ∙ not-false _ (c .before .before .before .if1 .left),
+        sym (c .before .before .before .before .before .before .before .before .before .before .before .before .field
+            .ensures) ∙ ap (fieldReading _) (c .before .before .before .before .before .before .before .before .before
+            .before .arity .given .1),
+        sym (c .before .before .before .before .before .before .before .before .field2 .ensures) ∙ ap (fieldReading _)
+            (c .before .before .before .before .before .before .ac .given .1),
+        sym (c .before .before .before .before .ac-allowed .ensures) ∙ not-false _ (c .before .before .before .if1
+            .left),
         sym (c .before .before .field3 .ensures) ∙ ap (fieldReading _) (c .enum-told3 .given .1),
       )),
   tt,
@@ -99,10 +106,16 @@ unfolding symbolReader
 returns-5 c = (
   (λ earlier h.
       rw (
-        sym (c .before .before .before .before .before .before .before .before .before .before .before .before .before .before .before .field .ensures) ∙ ap (fieldReading _) (c .before .before .before .before .before .before .before .before .before .before .before .before .before .arity .given .1),
-        sym (c .before .before .before .before .before .before .before .before .before .before .before .field2 .ensures) ∙ ap (fieldReading _) (c .before .before .before .before .before .before .before .before .before .ac .given .1),
-        sym (c .before .before .before .before .before .before .before .ac-allowed .ensures) ∙ not-false _ (c .before .before .before .before .before .before .if1 .left),
-        sym (c .before .before .before .before .before .field3 .ensures) ∙ ap (fieldReading _) (c .before .before .before .weight .given .1),
+        sym (c .before .before .before .before .before .before .before .before .before .before .before .before .before
+            .before .before .field .ensures) ∙ ap (fieldReading _) (c .before .before .before .before .before .before
+            .before .before .before .before .before .before .before .arity .given .1),
+        sym (c .before .before .before .before .before .before .before .before .before .before .before .field2 .ensures)
+            ∙ ap (fieldReading _) (c .before .before .before .before .before .before .before .before .before .ac
+            .given .1),
+        sym (c .before .before .before .before .before .before .before .ac-allowed .ensures) ∙ not-false _ (c .before
+            .before .before .before .before .before .if1 .left),
+        sym (c .before .before .before .before .before .field3 .ensures) ∙ ap (fieldReading _) (c .before .before
+            .before .weight .given .1),
         sym (c .before .weighs-enough .ensures) ∙ not-true _ (c .if2 .taken),
       )),
   tt,
@@ -122,11 +135,20 @@ unfolding symbolReader
 returns-6 c = (
   (λ earlier h.
       rw (
-        sym (c .before .before .before .before .before .before .before .before .before .before .before .before .before .before .before .before .before .before .field .ensures) ∙ ap (fieldReading _) (c .before .before .before .before .before .before .before .before .before .before .before .before .before .before .before .before .arity .given .1),
-        sym (c .before .before .before .before .before .before .before .before .before .before .before .before .before .before .field2 .ensures) ∙ ap (fieldReading _) (c .before .before .before .before .before .before .before .before .before .before .before .before .ac .given .1),
-        sym (c .before .before .before .before .before .before .before .before .before .before .ac-allowed .ensures) ∙ not-false _ (c .before .before .before .before .before .before .before .before .before .if1 .left),
-        sym (c .before .before .before .before .before .before .before .before .field3 .ensures) ∙ ap (fieldReading _) (c .before .before .before .before .before .before .weight .given .1),
-        sym (c .before .before .before .before .weighs-enough .ensures) ∙ not-false _ (c .before .before .before .if2 .left),
+        sym (c .before .before .before .before .before .before .before .before .before .before .before .before .before
+            .before .before .before .before .before .field .ensures) ∙ ap (fieldReading _) (c .before .before .before
+            .before .before .before .before .before .before .before .before .before .before .before .before
+            .before .arity
+            .given .1),
+        sym (c .before .before .before .before .before .before .before .before .before .before .before .before .before
+            .before .field2 .ensures) ∙ ap (fieldReading _) (c .before .before .before .before .before .before .before
+            .before .before .before .before .before .ac .given .1),
+        sym (c .before .before .before .before .before .before .before .before .before .before .ac-allowed .ensures) ∙
+            not-false _ (c .before .before .before .before .before .before .before .before .before .if1 .left),
+        sym (c .before .before .before .before .before .before .before .before .field3 .ensures) ∙ ap (fieldReading _)
+            (c .before .before .before .before .before .before .weight .given .1),
+        sym (c .before .before .before .before .weighs-enough .ensures) ∙ not-false _ (c .before .before .before .if2
+            .left),
         sym (c .before .before .field4 .ensures) ∙ ap (fieldReading _) (c .enum-told4 .given .1),
       )),
   tt,
@@ -137,21 +159,56 @@ wide-requires c κs = search needs
 
 shared-slice-read-if3 : tie.Need-shared-slice-read-if3
 unfolding symbolReader
-shared-slice-read-if3 c = omega (arith, c .before .before .before .before .before .before .before .before .before .before .before .before .before .before .before .before .before .before .before .before .before .before .before .before .pre .1, c .before .wide .ensures .0, field-lt (c .before .before .before .before .before .before .before .before .before .before .before .before .before .before .before .before .before .before .before .before .before .before .before .before .args .book .now) 8 _ _ _ (sym (c .before .before .before .before .before .field4 .ensures) ∙ ap (fieldReading _) (c .before .before .before .rank .given .1)))
+shared-slice-read-if3 c = omega (
+  arith,
+  c .before .before .before .before .before .before .before .before .before
+      .before .before .before .before .before .before .before .before .before .before .before .before .before .before
+      .before .pre .1,
+  c .before .wide .ensures .0,
+  field-lt (c .before .before .before .before .before .before .before
+      .before .before .before .before .before .before .before .before .before .before .before .before .before .before
+      .before .before .before .args .book .now) 8 _ _ _ (sym (c .before .before .before .before .before .field4
+      .ensures)
+      ∙ ap (fieldReading _) (c .before .before .before .rank .given .1)),
+)
 
 returns-7 : tie.Need-returns-7
 unfolding symbolReader
 returns-7 c = (
   (λ earlier h.
-      let t : getD (c .before .before .before .before .before .before .before .before .before .before .before .before .before .before .before .before .before .before .before .before .before .before .before .before .before .args .taken .now) (c .before .before .wide .result) false ≡ true = c .if3 .taken in
+      let t : getD (c .before .before .before .before .before .before .before .before .before .before .before .before
+      .before .before .before .before .before .before .before .before .before .before .before .before .before .args
+      .taken .now) (c .before .before .wide .result) false ≡ true = c .if3 .taken in
       rw (
-        sym (c .before .before .before .before .before .before .before .before .before .before .before .before .before .before .before .before .before .before .before .before .before .before .field .ensures) ∙ ap (fieldReading _) (c .before .before .before .before .before .before .before .before .before .before .before .before .before .before .before .before .before .before .before .before .arity .given .1),
-        sym (c .before .before .before .before .before .before .before .before .before .before .before .before .before .before .before .before .before .before .field2 .ensures) ∙ ap (fieldReading _) (c .before .before .before .before .before .before .before .before .before .before .before .before .before .before .before .before .ac .given .1),
-        sym (c .before .before .before .before .before .before .before .before .before .before .before .before .before .before .ac-allowed .ensures) ∙ not-false _ (c .before .before .before .before .before .before .before .before .before .before .before .before .before .if1 .left),
-        sym (c .before .before .before .before .before .before .before .before .before .before .before .before .field3 .ensures) ∙ ap (fieldReading _) (c .before .before .before .before .before .before .before .before .before .before .weight .given .1),
-        sym (c .before .before .before .before .before .before .before .before .weighs-enough .ensures) ∙ not-false _ (c .before .before .before .before .before .before .before .if2 .left),
-        sym (c .before .before .before .before .before .before .field4 .ensures) ∙ ap (fieldReading _) (c .before .before .before .before .rank .given .1),
-        sym (h (c .before .before .before .before .rank .given .0 .0) (omega (arith, field-lt (c .before .before .before .before .before .before .before .before .before .before .before .before .before .before .before .before .before .before .before .before .before .before .before .before .before .args .book .now) 8 _ _ _ (sym (c .before .before .before .before .before .before .field4 .ensures) ∙ ap (fieldReading _) (c .before .before .before .before .rank .given .1))))) ∙ rw (c .before .before .wide .ensures .0) at t,
+        sym (c .before .before .before .before .before .before .before .before .before .before .before .before .before
+            .before .before .before .before .before .before .before .before .before .field .ensures) ∙ ap
+            (fieldReading _)
+            (c .before .before .before .before .before .before .before .before .before .before .before .before .before
+            .before .before .before .before .before .before .before .arity .given .1),
+        sym (c .before .before .before .before .before .before .before .before .before .before .before .before .before
+            .before .before .before .before .before .field2 .ensures) ∙ ap (fieldReading _) (c .before .before .before
+            .before .before .before .before .before .before .before .before .before .before .before .before .before .ac
+            .given .1),
+        sym (c .before .before .before .before .before .before .before .before .before .before .before .before .before
+            .before .ac-allowed .ensures) ∙ not-false _ (c .before .before .before .before .before .before
+            .before .before
+            .before .before .before .before .before .if1 .left),
+        sym (c .before .before .before .before .before .before .before .before .before .before .before .before .field3
+            .ensures) ∙ ap (fieldReading _) (c .before .before .before .before .before .before .before .before .before
+            .before .weight .given .1),
+        sym (c .before .before .before .before .before .before .before .before .weighs-enough .ensures) ∙ not-false _ (c
+            .before .before .before .before .before .before .before .if2 .left),
+        sym (c .before .before .before .before .before .before .field4 .ensures) ∙ ap (fieldReading _) (c .before
+            .before .before .before .rank .given .1),
+        sym (h (c .before .before .before .before .rank .given .0 .0) (omega (
+          arith,
+          field-lt (c .before .before .before
+              .before .before .before .before .before .before .before .before .before .before .before .before
+              .before .before
+              .before .before .before .before .before .before .before .before .args .book .now) 8 _ _ _ (sym (c .before
+              .before .before .before .before .before .field4 .ensures) ∙ ap (fieldReading _) (c .before .before .before
+              .before .rank .given .1)),
+        ))) ∙ rw (c .before .before .wide .ensures .0) at t,
       )),
   tt,
 )
@@ -160,17 +217,47 @@ returns-8 : tie.Need-returns-8
 unfolding symbolReader
 returns-8 c = (
   (λ earlier h.
-      let t : getD (c .before .before .before .before .before .before .before .before .before .before .before .before .before .before .before .before .before .before .before .before .before .before .before .before .before .args .taken .now) (c .before .before .wide .result) false ≡ false = c .if3 .left in
+      let t : getD (c .before .before .before .before .before .before .before .before .before .before .before .before
+      .before .before .before .before .before .before .before .before .before .before .before .before .before .args
+      .taken .now) (c .before .before .wide .result) false ≡ false = c .if3 .left in
       rw (
-        sym (c .before .before .before .before .before .before .before .before .before .before .before .before .before .before .before .before .before .before .before .before .before .before .field .ensures) ∙ ap (fieldReading _) (c .before .before .before .before .before .before .before .before .before .before .before .before .before .before .before .before .before .before .before .before .arity .given .1),
-        sym (c .before .before .before .before .before .before .before .before .before .before .before .before .before .before .before .before .before .before .field2 .ensures) ∙ ap (fieldReading _) (c .before .before .before .before .before .before .before .before .before .before .before .before .before .before .before .before .ac .given .1),
-        sym (c .before .before .before .before .before .before .before .before .before .before .before .before .before .before .ac-allowed .ensures) ∙ not-false _ (c .before .before .before .before .before .before .before .before .before .before .before .before .before .if1 .left),
-        sym (c .before .before .before .before .before .before .before .before .before .before .before .before .field3 .ensures) ∙ ap (fieldReading _) (c .before .before .before .before .before .before .before .before .before .before .weight .given .1),
-        sym (c .before .before .before .before .before .before .before .before .weighs-enough .ensures) ∙ not-false _ (c .before .before .before .before .before .before .before .if2 .left),
-        sym (c .before .before .before .before .before .before .field4 .ensures) ∙ ap (fieldReading _) (c .before .before .before .before .rank .given .1),
-        sym (h (c .before .before .before .before .rank .given .0 .0) (omega (arith, field-lt (c .before .before .before .before .before .before .before .before .before .before .before .before .before .before .before .before .before .before .before .before .before .before .before .before .before .args .book .now) 8 _ _ _ (sym (c .before .before .before .before .before .before .field4 .ensures) ∙ ap (fieldReading _) (c .before .before .before .before .rank .given .1))))) ∙ rw (c .before .before .wide .ensures .0) at t,
+        sym (c .before .before .before .before .before .before .before .before .before .before .before .before .before
+            .before .before .before .before .before .before .before .before .before .field .ensures) ∙ ap
+            (fieldReading _)
+            (c .before .before .before .before .before .before .before .before .before .before .before .before .before
+            .before .before .before .before .before .before .before .arity .given .1),
+        sym (c .before .before .before .before .before .before .before .before .before .before .before .before .before
+            .before .before .before .before .before .field2 .ensures) ∙ ap (fieldReading _) (c .before .before .before
+            .before .before .before .before .before .before .before .before .before .before .before .before .before .ac
+            .given .1),
+        sym (c .before .before .before .before .before .before .before .before .before .before .before .before .before
+            .before .ac-allowed .ensures) ∙ not-false _ (c .before .before .before .before .before .before
+            .before .before
+            .before .before .before .before .before .if1 .left),
+        sym (c .before .before .before .before .before .before .before .before .before .before .before .before .field3
+            .ensures) ∙ ap (fieldReading _) (c .before .before .before .before .before .before .before .before .before
+            .before .weight .given .1),
+        sym (c .before .before .before .before .before .before .before .before .weighs-enough .ensures) ∙ not-false _ (c
+            .before .before .before .before .before .before .before .if2 .left),
+        sym (c .before .before .before .before .before .before .field4 .ensures) ∙ ap (fieldReading _) (c .before
+            .before .before .before .rank .given .1),
+        sym (h (c .before .before .before .before .rank .given .0 .0) (omega (
+          arith,
+          field-lt (c .before .before .before
+              .before .before .before .before .before .before .before .before .before .before .before .before
+              .before .before
+              .before .before .before .before .before .before .before .before .args .book .now) 8 _ _ _ (sym (c .before
+              .before .before .before .before .before .field4 .ensures) ∙ ap (fieldReading _) (c .before .before .before
+              .before .rank .given .1)),
+        ))) ∙ rw (c .before .before .wide .ensures .0) at t,
       )),
-  omega (arith, field-lt (c .before .before .before .before .before .before .before .before .before .before .before .before .before .before .before .before .before .before .before .before .before .before .before .before .before .args .book .now) 8 _ _ _ (sym (c .before .before .before .before .before .before .field4 .ensures) ∙ ap (fieldReading _) (c .before .before .before .before .rank .given .1))),
+  omega (
+    arith,
+    field-lt (c .before .before .before .before .before .before .before .before .before .before .before
+        .before .before .before .before .before .before .before .before .before .before .before .before .before .before
+        .args .book .now) 8 _ _ _ (sym (c .before .before .before .before .before .before .field4 .ensures) ∙ ap
+        (fieldReading _) (c .before .before .before .before .rank .given .1)),
+  ),
 )
 
 pub read-symbol-spec : {M : Type 1} → statement M

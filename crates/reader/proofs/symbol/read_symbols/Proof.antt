@@ -45,7 +45,8 @@ slice-aggregate-next-symbol c = search needs
 next-symbol-requires : tie.Need-next-symbol-requires Inv-loop μ-loop
 next-symbol-requires c κs =
     let v = c .before .before .before .loop .inv in
-    let n : length (c .before .before .before .loop .table) ≡ length (c .before .before .before .before .before .before .args .table .now) = v .1 ∙ simp length-set in
+    let n : length (c .before .before .before .loop .table) ≡ length (c .before .before .before .before .before .before
+    .args .table .now) = v .1 ∙ simp length-set in
     (omega arith, omega arith, v .2, v .4)
 
 enum-known-code : tie.Need-enum-known-code Inv-loop μ-loop
@@ -54,14 +55,26 @@ enum-known-code c = search needs
 same-length : tie.Need-same-length Inv-loop μ-loop
 same-length c =
     let v = c .before .before .before .before .before .before .before .before .before .before .loop .inv in
-    c .before .before .before .before .before .before .next-symbol .kept .1 .0 ∙ v .1 ∙ length-set (c .before .before .before .before .before .before .before .before .before .before .before .before .before .args .table .now) 0 (c .before .before .before .before .before .before .before .before .before .before .before .before .before .args .w0)
+    c .before .before .before .before .before .before .next-symbol .kept .1 .0 ∙ v .1 ∙ length-set (c .before .before
+    .before .before .before .before .before .before .before .before .before .before .before .args .table .now) 0 (c
+    .before .before .before .before .before .before .before .before .before .before .before .before .before .args .w0)
 
 returns : tie.Need-returns Inv-loop μ-loop
 returns c =
     let v = c .before .before .before .before .before .before .before .before .before .before .loop .inv in
     let number = c .before .before .before .before .before .before .before .before .before .before .loop .number in (
-      rw (c .before .code .given .1) at (symbols-onward (bitSource (c .before .before .before .before .before .before .before .before .before .before .before .before .before .args .book .now)) (c .before .before .before .before .before .before .before .before .before .before .before .before .before .args .w0) _ (c .before .before .before .before .before .before .before .before .before .before .before .before .before .args .count) number (omega arith) (v .3) _
-          (symbolsAt (c .before .before .before .before .before .before .before .before .before .before .loop .table) 0 number) (symbolsAt (c .before .before .before .before .before .before .next-symbol .last .1 .0) 0 (number + 1)) (c .before .before .before .before .before .before .before .before .before .before .loop .here .at) (c .before .before .before .before .before .before .next-symbol .result) (v .5) (c .before .before .before .before .before .before .next-symbol .ensures .0)),
+      rw (c .before .code .given .1) at (symbols-onward (bitSource (c .before .before .before .before .before .before
+          .before .before .before .before .before .before .before .args .book .now)) (c .before .before .before .before
+          .before .before .before .before .before .before .before .before .before .args .w0) _ (c .before
+          .before .before
+          .before .before .before .before .before .before .before .before .before .before .args .count) number
+          (omega arith)
+          (v .3) _
+          (symbolsAt (c .before .before .before .before .before .before .before .before .before .before .loop .table) 0
+          number) (symbolsAt (c .before .before .before .before .before .before .next-symbol .last .1 .0) 0 (number +
+          1)) (c .before .before .before .before .before .before .before .before .before .before .loop .here .at) (c
+          .before .before .before .before .before .before .next-symbol .result) (v .5) (c .before .before .before
+          .before .before .before .next-symbol .ensures .0)),
       c .before .before .before .before .before .before .next-symbol .ensures .1 .0 ∙ v .3,
     )
 
@@ -78,21 +91,36 @@ loop-again : tie.Need-loop-again Inv-loop μ-loop
 loop-again c =
     let v = c .before .before .before .before .before .before .before .before .before .before .loop .inv in
     let number = c .before .before .before .before .before .before .before .before .before .before .loop .number in
-    let n : length (c .before .before .before .before .before .before .next-symbol .last .1 .0) ≡ length (c .before .before .before .before .before .before .before .before .before .before .loop .table) = c .before .before .before .before .before .before .next-symbol .kept .1 .0 in
-    let m : length (c .before .before .before .before .before .before .next-symbol .last .1 .1 .0) ≡ length (c .before .before .before .before .before .before .before .before .before .before .loop .taken) = c .before .before .before .before .before .before .next-symbol .kept .1 .1 .0 in (
+    let n : length (c .before .before .before .before .before .before .next-symbol .last .1 .0) ≡ length (c .before
+    .before .before .before .before .before .before .before .before .before .loop .table) = c .before .before .before
+    .before .before .before .next-symbol .kept .1 .0 in
+    let m : length (c .before .before .before .before .before .before .next-symbol .last .1 .1 .0) ≡ length (c .before
+    .before .before .before .before .before .before .before .before .before .loop .taken) = c .before .before .before
+    .before .before .before .next-symbol .kept .1 .1 .0 in (
       omega arith,
       n ∙ v .1,
       m ∙ v .2,
       c .before .before .before .before .before .before .next-symbol .ensures .1 .0 ∙ v .3,
       rw (c .before .next .given .1) at (c .before .before .before .before .before .before .next-symbol .ensures .1 .1),
-      rw (c .before .next .given .1) at (symbols-onward (bitSource (c .before .before .before .before .before .before .before .before .before .before .before .before .before .args .book .now)) (c .before .before .before .before .before .before .before .before .before .before .before .before .before .args .w0) _ (c .before .before .before .before .before .before .before .before .before .before .before .before .before .args .count) number (omega arith) (v .3) _
-          (symbolsAt (c .before .before .before .before .before .before .before .before .before .before .loop .table) 0 number) (symbolsAt (c .before .before .before .before .before .before .next-symbol .last .1 .0) 0 (number + 1)) (c .before .before .before .before .before .before .before .before .before .before .loop .here .at) (c .before .before .before .before .before .before .next-symbol .result) (v .5) (c .before .before .before .before .before .before .next-symbol .ensures .0)),
+      rw (c .before .next .given .1) at (symbols-onward (bitSource (c .before .before .before .before .before .before
+          .before .before .before .before .before .before .before .args .book .now)) (c .before .before .before .before
+          .before .before .before .before .before .before .before .before .before .args .w0) _ (c .before
+          .before .before
+          .before .before .before .before .before .before .before .before .before .before .args .count) number
+          (omega arith)
+          (v .3) _
+          (symbolsAt (c .before .before .before .before .before .before .before .before .before .before .loop .table) 0
+          number) (symbolsAt (c .before .before .before .before .before .before .next-symbol .last .1 .0) 0 (number +
+          1)) (c .before .before .before .before .before .before .before .before .before .before .loop .here .at) (c
+          .before .before .before .before .before .before .next-symbol .result) (v .5) (c .before .before .before
+          .before .before .before .next-symbol .ensures .0)),
     )
 
 same-length-2 : tie.Need-same-length-2 Inv-loop μ-loop
 same-length-2 c =
     let v = c .before .loop .inv in
-    v .1 ∙ length-set (c .before .before .before .before .args .table .now) 0 (c .before .before .before .before .args .w0)
+    v .1 ∙ length-set (c .before .before .before .before .args .table .now) 0 (c .before .before .before .before .args
+    .w0)
 
 returns-2 : tie.Need-returns-2 Inv-loop μ-loop
 returns-2 c =
@@ -100,7 +128,10 @@ returns-2 c =
     let number = c .before .loop .number in
     let e : number ≡ c .before .before .before .before .args .count = omega arith in
     let z : c .before .before .before .before .args .count - number ≡ 0 = omega arith in (
-      v .5 ∙ symbols-done (bitSource (c .before .before .before .before .args .book .now)) (c .before .before .before .before .args .w0) (c .before .before .before .before .args .count - number) (symbolsAt (c .before .loop .table) 0 number) (c .before .loop .here .at) z ∙
+      v .5 ∙ symbols-done (bitSource (c .before .before .before .before .args .book .now)) (c .before .before .before
+          .before .args .w0) (c .before .before .before .before .args .count - number) (symbolsAt (c .before
+          .loop .table) 0
+          number) (c .before .loop .here .at) z ∙
           ap (λ (n : ℕ). got (symbolsAt (c .before .loop .table) 0 n) (c .before .loop .here .at)) e,
       v .3,
     )

@@ -21,7 +21,8 @@ add-result c = search needs
 
 returns : tie.Need-returns
 returns c =
-    rw (symbol-count (c .before .before .args .table .now), c .wide .ensures .0) (index-count (c .before .before .args .symbol) (length (c .before .before .args .table .now)))
+    rw (symbol-count (c .before .before .args .table .now), c .wide .ensures .0) (index-count (c .before .before .args
+    .symbol) (length (c .before .before .args .table .now)))
 
 pub has-symbol-spec : {M : Type 1} → statement M
 has-symbol-spec = tie.close (tie.spec wide-requires mul-result add-result returns)

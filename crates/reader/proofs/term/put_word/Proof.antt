@@ -19,7 +19,8 @@ returns : tie.Need-returns
 returns c = search needs
 
 returns-2 : tie.Need-returns-2
-returns-2 c = sym (set-out (c .before .args .words .now) (c .before .args .index) (c .before .args .word) (c .if1 .left))
+returns-2 c = sym (set-out (c .before .args .words .now) (c .before .args .index) (c .before .args .word) (c .if1
+    .left))
 
 pub put-word-spec : {M : Type 1} → statement M
 put-word-spec = tie.close (tie.spec mul-words slice-write-words same-length returns returns-2)

@@ -1,0 +1,105 @@
+use borrow.Author.Tests.{le-leb, lt-leb}
+use native.Mathlib.Omega.{arith}
+use mathlib.Core.Path.{_≡_}
+use Prim.Native.Nat.{ℕ, _+_, _*_, _%_, _<_, _≤_}
+use lib.ListN.{length, getD}
+use lib.Pow.{pow-pos}
+use Rattle.format.specs.Reading.{bitField}
+use Rattle.bits.proofs.BitLaws.{three, one-shl, rest-fits, field-three}
+use borrow.Author.Needs.{needs}
+use Rattle.bits.proofs.BitCursor.field.Statement.{statement}
+use Rattle.bits.proofs.BitCursor.field.Tie as tie
+use Rattle.bits.proofs.BitCursor.field.Reads as reads
+use Rattle.bits.proofs.BitCursor.field.Lts as lts
+use Rattle.bits.proofs.gather.Reads as gather-reads
+
+add-if1 : tie.Need-add-if1
+add-if1 c = search needs
+
+add-if1-2 : tie.Need-add-if1-2
+add-if1-2 c = search needs
+
+add-if1-3 : tie.Need-add-if1-3
+add-if1-3 c = search needs
+
+returns : tie.Need-returns
+unfolding bitField
+returns c =
+    let a = c .before .before .args in
+    let past : 8 * length (a .book .now) < a .self .at + a .width = omega arith in
+    rw (lt-leb _ _ past)
+
+gather-requires : tie.Need-gather-requires
+gather-requires c κs = search needs
+
+sub-value : tie.Need-sub-value
+sub-value c = search needs
+
+sub-value-2 : tie.Need-sub-value-2
+sub-value-2 c = search needs
+
+cast-value : tie.Need-cast-value
+cast-value c = search needs
+
+shr-value : tie.Need-shr-value
+shr-value c = search needs
+
+cast-value-2 : tie.Need-cast-value-2
+cast-value-2 c = search needs
+
+shl-value : tie.Need-shl-value
+shl-value c = search needs
+
+rem-value : tie.Need-rem-value
+unfolding bitField
+rem-value c = let a = c .before .before .before .args in rw (one-shl (a .width) (omega arith)) (pow-pos (a .width))
+
+cast-t19 : tie.Need-cast-t19
+unfolding bitField
+cast-t19 c = let a = c .before .before .before .args in record {
+  fits = rw (one-shl (a .width) (omega arith)) (rest-fits
+      _ (a .width) (omega arith));
+}
+
+add-t12 : tie.Need-add-t12
+add-t12 c = search needs
+
+returns-2 : tie.Need-returns-2
+unfolding bitField
+returns-2 c =
+    let a = c .before .before .before .args in
+    let w : a .width ≤ 24 = omega arith in
+    let fits : a .self .at + a .width ≤ 8 * length (a .book .now) = omega arith in
+    let small : (i : ℕ) → getD (a .book .now) i 0 < 256 = λ i. omega (
+      arith,
+      c .before .before .shared-slice-known
+          .given i,
+    ) in
+    let room : a .self .at % 8 + a .width ≤ 24 = omega arith in
+    rw (
+      one-shl (a .width),
+      le-leb _ _ fits,
+      field-three (a .book .now) small (a .self .at) (a .width),
+      c .gather
+          .ensures .0,
+    )
+
+pub field-spec : {M : Type 1} → statement M
+field-spec =
+    tie.close
+    (tie.spec
+    add-if1
+    add-if1-2
+    add-if1-3
+    returns
+    gather-requires
+    sub-value
+    sub-value-2
+    cast-value
+    shr-value
+    cast-value-2
+    shl-value
+    rem-value
+    cast-t19
+    add-t12
+    returns-2)

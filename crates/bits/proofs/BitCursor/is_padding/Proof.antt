@@ -1,0 +1,81 @@
+use native.Mathlib.Omega.{arith}
+use borrow.Author.Tests.{lt-ltb, le-ltb}
+use mathlib.Core.Path.{_≡_, refl, sym, ap, _∙_}
+use Prim.Native.Nat.{ℕ, _+_, _*_, _-_, _/_, _%_, _^_, _<_, _≤_}
+use lib.ListN.{length, getD}
+use lib.Pow.{pow-pos}
+use Rattle.bits.proofs.BitLaws.{one-shl, field-last}
+use borrow.Author.Needs.{needs}
+use Rattle.bits.proofs.BitCursor.is_padding.Statement.{statement}
+use Rattle.bits.proofs.BitCursor.is_padding.Tie as tie
+use Rattle.bits.proofs.BitCursor.is_padding.Reads as reads
+use Rattle.bits.proofs.BitCursor.is_padding.Lts as lts
+use Rattle.bits.proofs.byte_at.Reads as byte-at-reads
+
+mul-end : tie.Need-mul-end
+mul-end c = search needs
+
+returns : tie.Need-returns
+returns c =
+    let z : 8 * length (c .before .before .args .book .now) - c .before .before .args .self .at ≡ 0 = omega arith in
+    rw z
+
+sub-if2 : tie.Need-sub-if2
+sub-if2 c = search needs
+
+returns-2 : tie.Need-returns-2
+returns-2 c =
+    rw (le-ltb (8 * length (c .before .before .before .args .book .now) - c .before .before .before .args .self .at) 8
+    (c .if2 .taken))
+
+byte-at-requires : tie.Need-byte-at-requires
+byte-at-requires c κs = search needs
+
+sub-result : tie.Need-sub-result
+sub-result c = search needs
+
+cast-result : tie.Need-cast-result
+cast-result c = search needs
+
+shl-result : tie.Need-shl-result
+shl-result c = search needs
+
+rem-result : tie.Need-rem-result
+rem-result c = let w : 8 * length (c .before .before .before .before .args .book .now) - c .before .before .before
+    .before .args .self .at ≤ 24 = omega arith in rw (one-shl (8 * length (c .before .before .before .before .args .book
+    .now) - c .before .before .before .before .args .self .at) w) (pow-pos (8 * length (c .before .before .before
+    .before .args .book .now) - c .before .before .before .before .args .self .at))
+
+returns-3 : tie.Need-returns-3
+returns-3 c =
+    let left = 8 * length (c .before .before .before .before .args .book .now) - c .before .before .before .before .args
+    .self .at in
+    let w : left ≤ 24 = omega arith in
+    let small : (i : ℕ) → getD (c .before .before .before .before .args .book .now) i 0 < 256 = λ i. omega (
+      arith,
+      c
+          .before .before .before .shared-slice-known .given i,
+    ) in
+    let e : c .before .before .before .before .args .self .at % 8 + left ≡ 8 = omega arith in
+    rw (
+      one-shl left w,
+      lt-ltb left 8 (c .before .if2 .left),
+      field-last (c .before .before .before .before .args .book
+          .now) small (c .before .before .before .before .args .self .at) left e,
+      c .byte-at .ensures .0,
+    )
+
+pub is-padding-spec : {M : Type 1} → statement M
+is-padding-spec =
+    tie.close
+    (tie.spec
+    mul-end
+    returns
+    sub-if2
+    returns-2
+    byte-at-requires
+    sub-result
+    cast-result
+    shl-result
+    rem-result
+    returns-3)

@@ -1,0 +1,102 @@
+use native.Mathlib.Omega.{arith}
+use mathlib.Core.Path.{_≡_, refl, sym, ap, _∙_}
+use Prim.Native.Nat.{ℕ, _+_, _*_, _-_, _/_, _%_, _^_, _<_, _≤_}
+use lib.ListN.{length, getD, List·getD-eq-default}
+use Rattle.format.specs.Reading.{spelt, bitAt}
+use Rattle.bits.specs.Cursor.{nodeWidth}
+use Rattle.bits.proofs.BitLaws.{field-one}
+use Rattle.bits.proofs.NodeLaws.{node-got, node-cut, node-none}
+use borrow.Author.Needs.{needs}
+use Rattle.bits.proofs.BitCursor.late_node.Statement.{statement}
+use Rattle.bits.proofs.BitCursor.late_node.Tie as tie
+use Rattle.bits.proofs.BitCursor.late_node.Reads as reads
+use Rattle.bits.proofs.BitCursor.late_node.Lts as lts
+use Rattle.bits.proofs.byte_at.Reads as byte-at-reads
+use Rattle.bits.proofs.node_width.Reads as node-width-reads
+use Rattle.bits.proofs.node_word.Reads as node-word-reads
+
+mul-end : tie.Need-mul-end
+mul-end c = search needs
+
+returns : tie.Need-returns
+returns c = sym (node-none (c .before .before .args .book .now) (c .before .before .args .self .at) (c .if1 .taken))
+
+byte-at-requires : tie.Need-byte-at-requires
+byte-at-requires c κs = search needs
+
+mul-nine : tie.Need-mul-nine
+mul-nine c = search needs
+
+sub-nine : tie.Need-sub-nine
+sub-nine c = search needs
+
+cast-nine : tie.Need-cast-nine
+cast-nine c = search needs
+
+shr-nine : tie.Need-shr-nine
+shr-nine c = search needs
+
+node-width-requires : tie.Need-node-width-requires
+node-width-requires c κs = search needs
+
+sub-if2 : tie.Need-sub-if2
+sub-if2 c = search needs
+
+add-t15 : tie.Need-add-t15
+add-t15 c = search needs
+
+returns-2 : tie.Need-returns-2
+returns-2 c =
+    let a = c .before .before .before .before .before .args in
+    let small : (i : ℕ) → getD (a .book .now) i 0 < 256 = λ i. omega (
+      arith,
+      c .before .before .before .before
+          .shared-slice-known .given i,
+    ) in
+    let past : getD (a .book .now) (a .self .at / 8 + 1) 0 ≡ 0 = List·getD-eq-default (a .book .now) 0 (c .before
+    .before .before .before .before .pre .1) in
+    let nine : spelt (bitAt (a .book .now)) (a .self .at) 9 ≡ c .before .before .byte-at .result * 256 / 2 ^ (7 - a
+    .self .at % 8) % 512 =
+    rw (c .before .before .byte-at .ensures .0) (field-one (a .book .now) small (a .self .at) past) in
+    sym (node-cut (a .book .now) (a .self .at) _ nine (omega arith) (omega (arith, c .before .node-width .ensures)))
+
+node-word-requires : tie.Need-node-word-requires
+node-word-requires c κs = search needs
+
+add-t11 : tie.Need-add-t11
+add-t11 c = search needs
+
+returns-3 : tie.Need-returns-3
+returns-3 c =
+    let a = c .before .before .before .before .before .before .args in
+    let small : (i : ℕ) → getD (a .book .now) i 0 < 256 = λ i. omega (
+      arith,
+      c .before .before .before .before .before
+          .shared-slice-known .given i,
+    ) in
+    let past : getD (a .book .now) (a .self .at / 8 + 1) 0 ≡ 0 = List·getD-eq-default (a .book .now) 0 (c .before
+    .before .before .before .before .before .pre .1) in
+    let nine : spelt (bitAt (a .book .now)) (a .self .at) 9 ≡ c .before .before .before .byte-at .result * 256 / 2 ^ (7
+    - a .self .at % 8) % 512 =
+    rw (c .before .before .before .byte-at .ensures .0) (field-one (a .book .now) small (a .self .at) past) in
+    rw (c .before .before .node-width .ensures, c .node-word .ensures) (sym (node-got (a .book .now) (a .self .at) _
+    nine (omega (arith, c .before .before .node-width .ensures))))
+
+pub late-node-spec : {M : Type 1} → statement M
+late-node-spec =
+    tie.close
+    (tie.spec
+    mul-end
+    returns
+    byte-at-requires
+    mul-nine
+    sub-nine
+    cast-nine
+    shr-nine
+    node-width-requires
+    sub-if2
+    add-t15
+    returns-2
+    node-word-requires
+    add-t11
+    returns-3)

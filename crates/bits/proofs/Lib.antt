@@ -1,0 +1,3 @@
+-- Laws of the bits of a packed file.
+mod BitLaws
+pub mod NodeLaws

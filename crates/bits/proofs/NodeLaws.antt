@@ -1,0 +1,101 @@
+-- Fields and nodes of a packed file as its reader gets them.
+--     field-got, field-missing      a field that fits, and one that does not
+--     field-lt, field-next          a field that was read is below 2 to its width, and ends that much further on
+--     node-got, node-cut, node-none a node from nine bits, one whose number does not fit, one that has no tag
+--     node-lt                       a node that was read begins before the end
+use mathlib.Core.Path.{_≡_, refl, sym, ap, _∙_}
+use mathlib.Core.List.{List}
+use mathlib.Core.Bool.{Bool, true, false, cond}
+use Prim.Native.Nat.{ℕ, _+_, _*_, _-_, _/_, _^_, _≤_, _<_}
+use native.Mathlib.Nat.{add-assoc}
+use native.Mathlib.Omega.{arith}
+use lib.ListN.{length}
+use lib.Dec.{leb}
+use borrow.Author.Tests.{le-leb, lt-leb, lt-ltb, le-ltb}
+use Rattle.format.specs.Errors.{fieldMissing}
+use Rattle.multisets.proofs.Relations.{byOrder}
+use Rattle.format.specs.Reading.{Reading, Node, spelt, bitAt, bitField, bitSource}
+use Rattle.format.specs.Reading.Reading.{got, fault}
+use Rattle.bits.specs.Cursor.{nodeWidth, nodeWord}
+use Rattle.bits.proofs.BitLaws.{spelt-lt, spelt-add}
+
+pub width-le : (n : ℕ) → nodeWidth n ≤ 9
+width-le n = byOrder n 256 (λ h. rw (lt-ltb n 256 h) (omega arith)) λ h. rw (le-ltb n 256 h) (omega arith)
+
+module _ (bytes : List ℕ) where
+  pub field-got : (width at : ℕ) → at + width ≤ 8 * length bytes →
+      bitField bytes width at ≡ got (spelt (bitAt bytes) at width) (at + width)
+  unfolding bitField
+  field-got width at h = rw (le-leb _ _ h)
+
+  pub field-missing : (width at : ℕ) → 8 * length bytes < at + width → bitField bytes width at ≡ fault fieldMissing at
+  unfolding bitField
+  field-missing width at h = rw (lt-leb _ _ h)
+
+  got-value : (b : Bool) (x y at v next : ℕ) → cond b (got x y) (fault fieldMissing at) ≡ got v next → (v ≡ x) × (next ≡
+      y)
+  got-value true x y at v next e = (cc, cc)
+  got-value false x y at v next e = (cc, cc)
+
+  pub field-lt : (width at v next : ℕ) → bitField bytes width at ≡ got v next → v < 2 ^ width
+  unfolding bitField
+  field-lt width at v next e =
+      rw (got-value (leb (at + width) (8 * length bytes)) (spelt (bitAt bytes) at width) (at + width) at v next e .0)
+      (spelt-lt bytes at width)
+
+  pub field-next : (width at v next : ℕ) → bitField bytes width at ≡ got v next → next ≡ at + width
+  unfolding bitField
+  field-next width at v next e =
+      got-value (leb (at + width) (8 * length bytes)) (spelt (bitAt bytes) at width) (at + width) at v next e .1
+
+  module _ (at n : ℕ) (e : spelt (bitAt bytes) at 9 ≡ n) where
+    halves : n ≡ spelt (bitAt bytes) at 1 * 256 + spelt (bitAt bytes) (at + 1) 8
+    halves = sym e ∙ spelt-add (bitAt bytes) at 1 8
+
+    quarters : spelt (bitAt bytes) (at + 1) 8 ≡ spelt (bitAt bytes) (at + 1) 4 * 16 + spelt (bitAt bytes) (at + 1 + 4) 4
+    quarters = spelt-add (bitAt bytes) (at + 1) 4 4
+
+    -- What the tag and the number are, by the nine bits.
+    symbol-bits : n < 256 → (spelt (bitAt bytes) at 1 ≡ 0) × (spelt (bitAt bytes) (at + 1) 8 ≡ n)
+    symbol-bits h = omega (arith, halves)
+
+    variable-bits : 256 ≤ n → (spelt (bitAt bytes) at 1 ≡ 1) × (256 + spelt (bitAt bytes) (at + 1) 4 ≡ n / 16 + 240)
+    variable-bits h =
+        omega (arith, halves, quarters, spelt-lt bytes at 1, spelt-lt bytes (at + 1) 8, spelt-lt bytes (at + 1 + 4) 4)
+
+    pub node-got : at + nodeWidth n ≤ 8 * length bytes →
+        bitSource bytes .node at ≡ got (record { word = nodeWord n; offset = at + 1 }) (at + nodeWidth n)
+    node-got fits =
+        byOrder n 256
+        (λ h.
+        let f : at + 9 ≤ 8 * length bytes = rw (lt-ltb n 256 h) at fits in
+        let (tag, number) = symbol-bits h in
+        rw (lt-ltb n 256 h, field-got 1 at (omega arith), tag, field-got 8 (at + 1) (omega arith), number, add-assoc))
+        λ h.
+        let f : at + 5 ≤ 8 * length bytes = rw (le-ltb n 256 h) at fits in
+        let (tag, number) = variable-bits h in
+        rw (le-ltb n 256 h, field-got 1 at (omega arith), tag, field-got 4 (at + 1) (omega arith), number, add-assoc)
+
+    pub node-cut : at < 8 * length bytes → 8 * length bytes < at + nodeWidth n →
+        bitSource bytes .node at ≡ fault fieldMissing (at + 1)
+    node-cut begun cut =
+        byOrder n 256
+        (λ h.
+        let f : 8 * length bytes < at + 9 = rw (lt-ltb n 256 h) at cut in
+        rw (field-got 1 at (omega arith), symbol-bits h .0, field-missing 8 (at + 1) (omega arith)))
+        λ h.
+        let f : 8 * length bytes < at + 5 = rw (le-ltb n 256 h) at cut in
+        rw (field-got 1 at (omega arith), variable-bits h .0, field-missing 4 (at + 1) (omega arith))
+
+  pub node-none : (at : ℕ) → 8 * length bytes ≤ at → bitSource bytes .node at ≡ fault fieldMissing at
+  node-none at h = rw (field-missing 1 at (omega arith))
+
+  missing-node : (at : ℕ) → 8 * length bytes < at + 1 → (v : Node) (next : ℕ) → bitSource bytes .node at ≡ got v next →
+      _≡_ {A = ℕ} 0 1
+  missing-node at h v next e = let f = rw (field-missing 1 at h) at e in cc
+
+  pub node-lt : (at : ℕ) (v : Node) (next : ℕ) → bitSource bytes .node at ≡ got v next → at < 8 * length bytes
+  node-lt at v next e =
+      byOrder (8 * length bytes) (at + 1)
+      (λ h. let z : _≡_ {A = ℕ} 0 1 = missing-node at h v next e in absurd (omega arith))
+      λ h. omega arith

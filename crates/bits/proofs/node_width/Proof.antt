@@ -1,0 +1,15 @@
+use borrow.Author.Needs.{needs}
+use borrow.Author.Tests.{lt-ltb, le-ltb}
+use Rattle.bits.proofs.node_width.Statement.{statement}
+use Rattle.bits.proofs.node_width.Tie as tie
+use Rattle.bits.proofs.node_width.Reads as reads
+use Rattle.bits.proofs.node_width.Lts as lts
+
+returns : tie.Need-returns
+returns c = rw (lt-ltb _ _ (c .if1 .taken))
+
+returns-2 : tie.Need-returns-2
+returns-2 c = rw (le-ltb _ _ (c .if1 .left))
+
+pub node-width-spec : {M : Type 1} → statement M
+node-width-spec = tie.close (tie.spec returns returns-2)

@@ -1,0 +1,2 @@
+-- What the bit cursor's answers stand for.
+pub mod Cursor

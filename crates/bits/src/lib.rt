@@ -1,0 +1,137 @@
+// The bit cursor: fields of a packed file, each with the cursor past it.
+ghost use mathlib.Core.Path.{_≡_};
+ghost use Prim.Native.Nat.{_+_, _*_, _/_, _^_, _<_, _≤_};
+ghost use lib.ListN.{length, getD};
+ghost use Rattle.format.specs.Layout.{maxBytes};
+ghost use Rattle.format.specs.Reading.{bitField, bitSource};
+ghost use Rattle.bits.specs.Cursor.{fieldReading, nodeReading, nodeWidth, nodeWord, isPadding};
+
+// An offset in bits.
+pub struct BitCursor {
+    pub at: usize,
+}
+
+// A field's value and the cursor past it, or too few bits for it.
+pub enum Field {
+    Got(u16, BitCursor),
+    Missing,
+}
+
+// A node's word and the cursor past it, or the offset of its field that does not fit.
+pub enum Node {
+    Got(u16, BitCursor),
+    Missing(usize),
+}
+
+// The byte at an index, and 0 past the end.
+fn byte_at(book: &[u8], index: usize) -> u32
+    ensures { λ r. ⌜ (r ≡ getD (now (book .entry)) index 0) × (r < 256) ⌝ }
+{
+    if index < book.len() {
+        book[index] as u32
+    } else {
+        0
+    }
+}
+
+// The three bytes from an index on as one number, those past the end being 0.
+fn gather(book: &[u8], index: usize) -> u32
+    requires { ⌜ index < 2 ^ 62 ⌝ }
+    ensures { λ r. ⌜
+        r
+        ≡ getD (now (book .entry)) index 0 * 65536
+        + getD (now (book .entry)) (index + 1) 0 * 256
+        + getD (now (book .entry)) (index + 2) 0
+        ⌝ }
+    ensures { λ r. ⌜ r < 2 ^ 24 ⌝ }
+{
+    byte_at(book, index) * 65536 + byte_at(book, index + 1) * 256 + byte_at(book, index + 2)
+}
+
+// The width of a node that begins with these nine bits.
+fn node_width(nine: u32) -> usize
+    ensures { λ r. ⌜ r ≡ nodeWidth nine ⌝ }
+{
+    if nine < 256 { 9 } else { 5 }
+}
+
+// The word of a node that begins with these nine bits.
+fn node_word(nine: u32) -> u16
+    requires { ⌜ nine < 512 ⌝ }
+    ensures { λ r. ⌜ r ≡ nodeWord nine ⌝ }
+{
+    if nine < 256 {
+        nine as u16
+    } else {
+        (nine / 16 + 240) as u16
+    }
+}
+
+impl BitCursor {
+    // The field of that width here.
+    pub fn field(self, book: &[u8], width: usize) -> Field
+        requires { ⌜ (length (now book) ≤ maxBytes) × (width ≤ 16) ⌝ }
+        ensures { λ r. ⌜ fieldReading (self .at) r ≡ bitField (now (book .entry)) width (self .at) ⌝ }
+    {
+        let at = self.at;
+        let index = at / 8;
+        let skip = at % 8;
+        if book.len() < index + (skip + width + 7) / 8 {
+            return Field::Missing;
+        }
+        let value = (gather(book, index) >> (24 - skip - width)) % (1u32 << width);
+        Field::Got(value as u16, BitCursor { at: at + width })
+    }
+    // The node here, in the last byte or past it.
+    fn late_node(self, book: &[u8]) -> Node
+        requires { ⌜ (length (now book) ≤ maxBytes) × (length (now book) ≤ self .at / 8 + 1) ⌝ }
+        ensures { λ r. ⌜ nodeReading (self .at) r ≡ bitSource (now (book .entry)) .node (self .at) ⌝ }
+    {
+        let at = self.at;
+        let end = 8 * book.len();
+        if end <= at {
+            return Node::Missing(at);
+        }
+        let nine = ((byte_at(book, at / 8) * 256) >> (7 - at % 8)) % 512;
+        let width = node_width(nine);
+        if end - at < width {
+            return Node::Missing(at + 1);
+        }
+        Node::Got(node_word(nine), BitCursor { at: at + width })
+    }
+
+    // The node here. Before the last byte its bits lie in two bytes, whatever it is.
+    pub fn node(self, book: &[u8]) -> Node
+        requires { ⌜ length (now book) ≤ maxBytes ⌝ }
+        ensures { λ r. ⌜ nodeReading (self .at) r ≡ bitSource (now (book .entry)) .node (self .at) ⌝ }
+    {
+        let at = self.at;
+        let index = at / 8;
+        if book.len() <= index + 1 {
+            return self.late_node(book);
+        }
+        let nine = ((byte_at(book, index) * 256 + byte_at(book, index + 1)) >> (7 - at % 8)) % 512;
+        Node::Got(
+            node_word(nine),
+            BitCursor {
+                at: at + node_width(nine),
+            },
+        )
+    }
+
+    // Whether fewer than eight bits are left here, and all of them zeros.
+    pub fn is_padding(self, book: &[u8]) -> bool
+        requires { ⌜ length (now book) ≤ maxBytes ⌝ }
+        ensures { λ r. ⌜ r ≡ isPadding (now (book .entry)) (self .at) ⌝ }
+    {
+        let at = self.at;
+        let end = 8 * book.len();
+        if end <= at {
+            return true;
+        }
+        if 8 <= end - at {
+            return false;
+        }
+        byte_at(book, at / 8) % (1u32 << (end - at)) == 0
+    }
+}

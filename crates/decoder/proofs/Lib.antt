@@ -1,0 +1,3 @@
+-- What the code of the decoder cites.
+mod NodesLaws
+mod DecodeLaws

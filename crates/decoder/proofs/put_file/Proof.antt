@@ -1,0 +1,131 @@
+use native.Mathlib.Omega.{arith}
+use mathlib.Core.Path.{_≡_, refl, sym, ap, _∙_}
+use Prim.Native.Nat.{_+_, _*_}
+use lib.ListN.{length}
+use Rattle.format.specs.Reading.{bitSource}
+use Rattle.symbols.specs.Table.{signatureOf}
+use Rattle.reader.specs.Rule.{rulesWords}
+use Rattle.decoder.proofs.NodesLaws.{rules-nodes}
+use Rattle.reader.proofs.FileLaws.{rules-length, unpacked-length}
+use Rattle.decoder.proofs.DecodeLaws.{stored-four, stored-file}
+use borrow.Author.Needs.{needs}
+use Rattle.decoder.proofs.put_file.Statement.{statement}
+use Rattle.decoder.proofs.put_file.Tie as tie
+use Rattle.decoder.proofs.put_file.Reads as reads
+use Rattle.decoder.proofs.put_file.Lts as lts
+use Rattle.decoder.proofs.put_nodes.Reads as put-nodes-reads
+use Rattle.decoder.proofs.put_symbols.Reads as put-symbols-reads
+use Rattle.reader.proofs.term.put_word.Reads as put-word-reads
+use Rattle.symbols.proofs.variable_weight.Reads as variable-weight-reads
+
+put-word-requires : tie.Need-put-word-requires
+put-word-requires c κs = search needs
+
+cast-put-word : tie.Need-cast-put-word
+cast-put-word c = search needs
+
+put-word-requires-2 : tie.Need-put-word-requires-2
+put-word-requires-2 c κs = search needs
+
+variable-weight-requires : tie.Need-variable-weight-requires
+variable-weight-requires c κs = search needs
+
+cast-put-word-2 : tie.Need-cast-put-word-2
+cast-put-word-2 c = search needs
+
+put-word-requires-3 : tie.Need-put-word-requires-3
+put-word-requires-3 c κs = search needs
+
+cast-put-word-3 : tie.Need-cast-put-word-3
+cast-put-word-3 c = search needs
+
+put-word-requires-4 : tie.Need-put-word-requires-4
+put-word-requires-4 c κs = search needs
+
+cast-put-symbols : tie.Need-cast-put-symbols
+cast-put-symbols c = search needs
+
+put-symbols-requires : tie.Need-put-symbols-requires
+put-symbols-requires c κs = search needs
+
+mul-put-nodes : tie.Need-mul-put-nodes
+mul-put-nodes c = search needs
+
+add-put-nodes : tie.Need-add-put-nodes
+add-put-nodes c = search needs
+
+put-nodes-requires : tie.Need-put-nodes-requires
+put-nodes-requires c κs = search needs
+
+same-length : tie.Need-same-length
+same-length c = search needs
+
+returns : tie.Need-returns
+returns c = λ read end e all.
+    let a = c .before .before .before .before .before .before .before .before .before .before .before .before .before
+    .before .before .before .before .before .before .before .before .before .before .before .before .before .before
+    .before .args in
+    let header = rw (c .before .before .before .before .before .before .before .before .before .before .before .before
+    .before .before .before .variable-weight .ensures .0) at (stored-four (a .words .now) (c .before .before .before
+    .before .before .before .before .before .before .before .before .before .before .before .before .before .before
+    .before .before .before .before .before .before .put-word .last .0) (c .before .before .before .before .before
+    .before .before .before .before .before .before .before .before .before .before .before .before .before .before
+    .put-word2 .last .0) (c .before .before .before .before .before .before .before .before .before .before .before
+    .before .before .before .put-word3 .last .0) (c .before .before .before .before .before .before .before .before
+    .before .before .put-word4 .last .0)
+    0 1 (a .count) (c .before .before .before .before .before .before .before .before .before .before .before .before
+    .before .before .before .variable-weight .result) (a .rules) (c .before .before .before .before .before .before
+    .before .before .before .before .before .before .before .before .before .before .before .before .before .before
+    .before .before .before .put-word .ensures) (c .before .before .before .before .before .before .before .before
+    .before .before .before .before .before .before .before .before .before .before .before .put-word2 .ensures) (c
+    .before .before .before .before .before .before .before .before .before .before .before .before .before .before
+    .put-word3 .ensures) (c .before .before .before .before .before .before .before .before .before .before .put-word4
+    .ensures)) in
+    let long : 4 + 4 * a .count + length (rulesWords read) ≡ a .total =
+    omega (
+      arith,
+      c .before .before .before .before .before .before .before .before .before .before .before .before
+          .before .before .before .before .before .before .before .before .before .before .before .before
+          .before .before
+          .before .before .pre .1,
+      all,
+      unpacked-length (record { signature = signatureOf (a .table .now); rules = read }),
+    ) in
+    stored-file (a .words .now) (c .before .before .before .before .before .before .before .before .before .before
+    .put-word4 .last .0) (c .before .before .before .before .before .before .put-symbols .last .1 .0) (c .before .before
+    .put-nodes .last .1 .0) (signatureOf (a .table .now)) read (a .count) (a .rules)
+    header (c .before .before .before .before .before .before .put-symbols .ensures)
+    (c .before .before .put-nodes .ensures (rulesWords read) end (rules-nodes (bitSource (c .before .before .before
+    .before .before .before .before .before .before .before .before .before .before .before .before .before .before
+    .before .before .before .before .before .before .before .before .before .before .before .args .book .now))
+    (signatureOf (c .before .before .before .before .before .before .before .before .before .before .before .before
+    .before .before .before .before .before .before .before .before .before .before .before .before .before .before
+    .before .before .args .table .now)) (a .rules) (a .cursor .at) read end e) long)
+    (c .before .before .before .before .before .before .before .before .before .before .before .before .before .before
+    .before .before .before .before .before .before .before .before .before .before .before .before .before .before .pre
+    .1) (sym (rules-length (bitSource (c .before .before .before .before .before .before .before .before .before .before
+    .before .before .before .before .before .before .before .before .before .before .before .before .before .before
+    .before .before .before .before .args .book .now)) (signatureOf (c .before .before .before .before .before .before
+    .before .before .before .before .before .before .before .before .before .before .before .before .before .before
+    .before .before .before .before .before .before .before .before .args .table .now)) (a .rules) (a .cursor .at) read
+    end e))
+
+pub put-file-spec : {M : Type 1} → statement M
+put-file-spec =
+    tie.close
+    (tie.spec
+    put-word-requires
+    cast-put-word
+    put-word-requires-2
+    variable-weight-requires
+    cast-put-word-2
+    put-word-requires-3
+    cast-put-word-3
+    put-word-requires-4
+    cast-put-symbols
+    put-symbols-requires
+    mul-put-nodes
+    add-put-nodes
+    put-nodes-requires
+    same-length
+    returns)

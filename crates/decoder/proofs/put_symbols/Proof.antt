@@ -1,0 +1,75 @@
+use borrow.Author.Needs.{needs}
+use native.Mathlib.Omega.{arith}
+use mathlib.Core.Path.{_≡_, refl, sym, ap, _∙_}
+use mathlib.Core.List.{List, []}
+use Prim.Native.Nat.{ℕ, _+_, _-_, _*_, _<_, _≤_}
+use lib.ListN.{length, take}
+use lib.Seq.{sets, take-length}
+use Rattle.symbols.specs.Table.{signatureOf}
+use Rattle.reader.specs.File.{symbolsWords}
+use Rattle.decoder.proofs.DecodeLaws.{symbols-more}
+use Rattle.decoder.proofs.put_symbols.Statement.{statement}
+use Rattle.decoder.proofs.put_symbols.Tie as tie
+use Rattle.decoder.proofs.put_symbols.Reads as reads
+use Rattle.decoder.proofs.put_symbols.Lts as lts
+use Rattle.decoder.proofs.put_symbol.Reads as put-symbol-reads
+
+abbrev Inv-loop : tie.InvT-loop
+Inv-loop table words₀ count symbol₀ words symbol =
+    (symbol ≤ count) × (length words ≡ length words₀) ×
+    (words ≡ sets words₀ 4 (symbolsWords (take symbol (signatureOf table .symbols))))
+
+abbrev μ-loop : tie.MeasureT-loop
+μ-loop table words₀ count symbol₀ words symbol = count - symbol
+
+loop-holds : tie.Need-loop-holds Inv-loop μ-loop
+loop-holds c = (omega arith, refl, refl)
+
+put-symbol-requires : tie.Need-put-symbol-requires Inv-loop μ-loop
+put-symbol-requires c κs = search needs
+
+add-symbol : tie.Need-add-symbol Inv-loop μ-loop
+add-symbol c = search needs
+
+loop-less : tie.Need-loop-less Inv-loop μ-loop
+loop-less c = search needs
+
+loop-again : tie.Need-loop-again Inv-loop μ-loop
+loop-again c =
+    let v = c .before .before .before .before .before .loop .inv in
+    let n : c .before .before .before .before .before .loop .symbol < length (signatureOf (c .before .before .before
+    .before .before .before .before .before .args .table .now) .symbols) = omega (
+      arith,
+      c .before .before .before
+          .before .before .before .before .before .pre,
+    ) in (
+      omega arith,
+      c .before .before .put-symbol .kept .1 .0 ∙ v .1,
+      c .before .before .put-symbol .ensures ∙ rw (v .2) (symbols-more (signatureOf (c .before .before .before .before
+          .before .before .before .before .args .table .now)) (c .before .before .before .before .before .before .before
+          .before .args .words .now) (c .before .before .before .before .before .loop .symbol) n),
+    )
+
+same-length : tie.Need-same-length Inv-loop μ-loop
+same-length c = c .before .loop .inv .1
+
+returns : tie.Need-returns Inv-loop μ-loop
+returns c =
+    let v = c .before .loop .inv in
+    let e : c .before .loop .symbol ≡ length (signatureOf (c .before .before .before .before .args .table .now)
+    .symbols) = omega (arith, c .before .before .before .before .pre) in
+    v .2 ∙ rw (e, take-length (signatureOf (c .before .before .before .before .args .table .now) .symbols))
+
+pub put-symbols-spec : {M : Type 1} → statement M
+put-symbols-spec =
+    tie.close
+    (tie.spec
+    Inv-loop
+    μ-loop
+    loop-holds
+    put-symbol-requires
+    add-symbol
+    loop-less
+    loop-again
+    same-length
+    returns)

@@ -1,0 +1,2 @@
+-- What decoding's reply stands for.
+pub mod Decode

@@ -11,9 +11,9 @@ ghost use Rattle.format.specs.Statements.{IsTerm};
 ghost use Rattle.symbols.specs.Table.{signatureOf};
 ghost use Rattle.reader.specs.Rule.{ruleReader};
 ghost use Rattle.marking.specs.Rule.{IsTable, Orients};
+use bits::BitCursor;
 use order::mark::mark;
 use order::sums::total_weight;
-use bits::BitCursor;
 use reader::rule::Stored;
 use reader::rule::read_side;
 

@@ -7,18 +7,22 @@
 //! - `Book::random`, `Book::empty` and `Book::largest` make valid rule files; `packed` and `words` write them.
 //! - `damaged_packed`, `damaged_words` and `damaged_term` make inputs that are mostly refused.
 //! - `call` makes a `Call`; `Call::run` gives the `Reply` of this crate.
+//! - `families` are pairs of terms that grow with a count of nodes.
 
 mod book;
 mod calls;
 mod damage;
+mod families;
 mod pairs;
 mod random;
+mod shapes;
 mod signature;
 mod tree;
 
 pub use book::{pack, Book, Field, Role, MAX_RULES};
 pub use calls::{call, Call, Reply, UNTOUCHED};
 pub use damage::{break_field, damaged_packed, damaged_term, damaged_words};
+pub use families::{families, Family};
 pub use random::Random;
 pub use signature::Signature;
 pub use tree::Tree;

@@ -1,0 +1,14 @@
+//! The library `libackbo.a` against the twin: every reply and every lent buffer, on valid and on damaged inputs. The
+//! counts of replies and errors are printed, and none of 01's errors and marks may be missing.
+
+mod check;
+mod comparing;
+mod counts;
+mod decoding;
+mod encoding;
+mod lent;
+mod marking;
+mod slices;
+
+/// The seed of all inputs.
+const SEED: u64 = 1_023;

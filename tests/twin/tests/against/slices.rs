@@ -1,0 +1,64 @@
+//! Slices of no length, without memory behind them, and one slice lent as both terms.
+
+use twin::generate::{families, Family};
+use twin::table::MAX_NODES;
+use twin::Error;
+
+use crate::check::error;
+
+fn rule_books() -> Vec<Vec<u8>> {
+    families().iter().map(|family: &Family| family.rule_book(MAX_NODES)).collect()
+}
+
+/// The code of an error, and 0 for none.
+fn code<T>(result: &Result<T, Error>) -> u8 {
+    result.as_ref().err().map_or(0, |error| error.code)
+}
+
+#[test]
+fn empty_inputs_agree_with_the_twin() {
+    let (mut words, mut bytes) = ([7; 4], [7; 4]);
+    assert_eq!(ackbo::decode(&[], &mut words).map_err(error), twin::decode(&[], &mut [7; 4]));
+    assert_eq!(ackbo::encode(&[], &mut bytes).map_err(error), twin::encode(&[], &mut [7; 4]));
+    assert_eq!(ackbo::mark(&[], &mut bytes).map_err(error).err(), twin::mark(&[], &mut [7; 4]).err());
+    assert_eq!(ackbo::compare(&[], &[], &[]).map_err(error).err(), twin::compare(&[], &[], &[]).err());
+    assert_eq!((words, bytes), ([7; 4], [7; 4]));
+}
+
+#[test]
+fn empty_outputs_agree_with_the_twin() {
+    for book in rule_books() {
+        let mut words = vec![0; book.len() * 8];
+        let len = twin::decode(&book, &mut words).expect("the book is read");
+        let decoded = twin::decode(&book, &mut []);
+        let encoded = twin::encode(&words[..len], &mut []);
+        let marked = twin::mark(&book, &mut []);
+        assert_eq!([code(&decoded), code(&encoded), code(&marked)], [13, 16, 12]);
+        assert_eq!(ackbo::decode(&book, &mut []).map_err(error), decoded);
+        assert_eq!(ackbo::encode(&words[..len], &mut []).map_err(error), encoded);
+        assert_eq!(ackbo::mark(&book, &mut []).map_err(error).err(), marked.err());
+    }
+}
+
+#[test]
+fn empty_terms_agree_with_the_twin() {
+    for family in families() {
+        let (book, (term, _)) = (family.book(), family.pair(MAX_NODES));
+        for (left, right) in [(&[][..], &[][..]), (&[], &term), (&term, &[])] {
+            let refused = twin::compare(&book, left, right);
+            assert_eq!(code(&refused), 2);
+            assert_eq!(ackbo::compare(&book, left, right).map_err(error).err(), refused.err());
+        }
+    }
+}
+
+#[test]
+fn a_term_is_equivalent_to_itself_in_one_memory() {
+    for family in families() {
+        let (left, right) = family.pair(MAX_NODES);
+        for term in [left, right] {
+            let same = ackbo::Comparison { relation: ackbo::Relation::Equivalent, margin: 0 };
+            assert_eq!(ackbo::compare(&family.book(), &term, &term), Ok(same));
+        }
+    }
+}

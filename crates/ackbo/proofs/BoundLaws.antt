@@ -1,0 +1,150 @@
+-- The numbers of every reply are below 2^63, so that they fit the values that cross the boundary.
+--     decoded-small, encoded-small, compared-small     of an answer's count, and of an error's offset
+--     marked-small                                     of the counts and the score, and of an error's offset
+use mathlib.Core.List.{List, [], _∷_}
+use mathlib.Core.Path.{_≡_, refl, sym, ap, _∙_}
+use mathlib.Core.Bool.{Bool, true, false, cond}
+use Prim.Native.Nat.{ℕ, _*_, _/_, _^_, _≤_, _<_}
+use native.Mathlib.Omega.{arith}
+use native.Mathlib.Nat.{div-le-self}
+use lib.ListN.{length, length-map}
+use lib.Dec.{leb, eqb}
+use borrow.Author.Tests.{leb-true}
+use Rattle.multisets.proofs.Relations.{byTest}
+use Rattle.terms.specs.Signature.{Signature}
+use Rattle.terms.specs.Words.{termOf}
+use Rattle.format.specs.Errors.{wordsTooShort, bytesTooShort, fileTooLong, marksTooShort}
+use Rattle.format.specs.Layout.{maxBytes}
+use Rattle.format.specs.Reading.{Reading}
+use Rattle.format.specs.Reading.Reading.{got, fault}
+use Rattle.format.specs.Format.{RuleFile, systemOf}
+use Rattle.format.specs.Files.{readBytes, readWords, readTerm}
+use Rattle.format.specs.Packing.{packed, unpacked}
+use Rattle.format.specs.Replies.{Reply, Written, Error, _>>=_, _>>_, fromInput, demand, outcome}
+use Rattle.format.specs.Replies.Reply.{accepted, refused}
+use Rattle.format.specs.Statements.IsRead.{fromBytes}
+use Rattle.format.specs.Operations.{write, decoded, encoded}
+use Rattle.format.proofs.Theorems.{readable-admissible, faults-within}
+use Rattle.comparing.specs.Comparing.{Comparison, comparison, comparedRight, comparedTerms, compared}
+use Rattle.marking.specs.Marking.{Summary, summaryOf, marksOf, isDecreasing, decreasingCount, marked}
+use Rattle.marking.proofs.MarkLaws.{fault-small}
+
+-- A number of a signed 64-bit value.
+abbrev pub Small : ℕ → Type 0
+Small n = n < 9223372036854775808
+
+-- That number of an answer, or the error's offset.
+abbrev pub measure : {A : Type 0} → (A → ℕ) → Reply A → ℕ
+measure m (accepted a) = m a
+measure m (refused e) = e .offset
+
+abbrev nought : {A : Type 0} → A → ℕ
+nought a = 0
+
+module _ {A : Type 0} (m : A → ℕ) where
+  pub value-small : (r : Reply A) → Small (measure m r) → (a : A) → accepted a ≡ r → Small (m a)
+  value-small r h a e = rw (sym e) at h
+
+  pub offset-small : (r : Reply A) → Small (measure m r) → (e : Error) → refused e ≡ r → Small (e .offset)
+  offset-small r h e d = rw (sym d) at h
+
+  read-small : {B : Type 0} (input : ℕ) (r : Reading B) (k : B → Reply A) →
+      ((code offset : ℕ) → r ≡ fault code offset → Small offset) →
+      ((b : B) (end : ℕ) → r ≡ got b end → Small (measure m (k b))) → Small (measure m (_>>=_ (fromInput input r) k))
+  read-small input (got b end) k h g = g b end refl
+  read-small input (fault code offset) k h g = h code offset refl
+
+  demand-small : (ok : Bool) (code input : ℕ) (r : Reply A) → (ok ≡ true → Small (measure m r)) →
+      Small (measure m (_>>_ (demand ok code input) r))
+  demand-small true code input r h = h refl
+  demand-small false code input r h = omega arith
+
+  outcome-small : (r : Reply (Written A)) (output : List ℕ) → Small (measure (λ w. m (w .value)) r) →
+      Small (measure m (outcome r output .reply))
+  outcome-small (accepted w) output h = h
+  outcome-small (refused e) output h = h
+
+abbrev count : Written ℕ → ℕ
+count w = w .value
+
+write-small : (code : ℕ) (front output : List ℕ) → Small (length output) →
+    Small (measure count (write code front output))
+write-small code front output h =
+    demand-small count (leb (length front) (length output)) code 1
+    (accepted (record { value = length front; front = front }))
+    λ t. omega (arith, leb-true (length front) (length output) t)
+
+book-small : (bytes : List ℕ) (code offset : ℕ) → readBytes bytes ≡ fault code offset → Small offset
+book-small bytes code offset e = omega (arith, fault-small bytes code offset e)
+
+pub decoded-small : (bytes words : List ℕ) → Small (length words) → Small (measure (λ n. n) (decoded bytes words .reply))
+unfolding decoded
+decoded-small bytes words h =
+    let k : RuleFile → Reply (Written ℕ) = λ file. write wordsTooShort (unpacked file) words in
+    outcome-small (λ n. n) (_>>=_ (fromInput 0 (readBytes bytes)) k) words
+    (read-small count 0 (readBytes bytes) k (book-small bytes)
+    λ file end e. write-small wordsTooShort (unpacked file) words h)
+
+pub encoded-small : (words bytes : List ℕ) → Small (length words) → Small (length bytes) →
+    Small (measure (λ n. n) (encoded words bytes .reply))
+unfolding encoded
+encoded-small words bytes h g =
+    let last : RuleFile → Reply (Written ℕ) = λ file. write bytesTooShort (packed file) bytes in
+    let k : RuleFile → Reply (Written ℕ) =
+    λ file. _>>_ (demand (leb (length (packed file)) maxBytes) fileTooLong 0) (last file) in
+    outcome-small (λ n. n) (_>>=_ (fromInput 0 (readWords words)) k) bytes
+    (read-small count 0 (readWords words) k (λ code offset e. omega (arith, faults-within words code offset .1 e))
+    λ file end e. demand-small count (leb (length (packed file)) maxBytes) fileTooLong 0 (last file)
+    λ t. write-small bytesTooShort (packed file) bytes g)
+
+term-small : (σ : Signature) (words : List ℕ) → Small (length words) → (code offset : ℕ) →
+    readTerm σ words ≡ fault code offset → Small offset
+term-small σ words h code offset e = omega (arith, faults-within words code offset .2 σ e)
+
+pub compared-small : (bytes left right : List ℕ) → Small (length left) → Small (length right) →
+    Small (measure nought (compared bytes left right))
+unfolding compared comparedTerms comparedRight
+compared-small bytes left right h g =
+    read-small nought 0 (readBytes bytes) (λ file. comparedTerms (file .signature) left right) (book-small bytes)
+    λ file end e. let σ = file .signature in
+    read-small nought 1 (readTerm σ left) (λ s. comparedRight σ (termOf σ s) right) (term-small σ left h)
+    λ s end e. read-small nought 2 (readTerm σ right) (λ t. accepted (comparison σ (termOf σ s) (termOf σ t)))
+    (term-small σ right g) λ t end e. omega arith
+
+-- A number of the summary is small if it is for every file of at most 1,023 rules.
+pub marked-small : (bytes marks : List ℕ) (m : Summary → ℕ) →
+    ((file : RuleFile) → length (file .rules) < 1024 → Small (m (summaryOf (marksOf (systemOf file))))) →
+    Small (measure m (marked bytes marks .reply))
+unfolding marked
+marked-small bytes marks m h =
+    let value : Written Summary → ℕ = λ w. m (w .value) in
+    let last : RuleFile → Reply (Written Summary) =
+    λ file. accepted (record { value = summaryOf (marksOf (systemOf file)); front = marksOf (systemOf file) }) in
+    let k : RuleFile → Reply (Written Summary) =
+    λ file. _>>_ (demand (leb (length (file .rules)) (length marks)) marksTooShort 1) (last file) in
+    outcome-small m (_>>=_ (fromInput 0 (readBytes bytes)) k) marks
+    (read-small value 0 (readBytes bytes) k (book-small bytes)
+    λ file end e. demand-small value (leb (length (file .rules)) (length marks)) marksTooShort 1 (last file)
+    λ t. h file (readable-admissible file (fromBytes bytes end e) .2 .ruleCount))
+
+rule-marks : (file : RuleFile) → length (marksOf (systemOf file)) ≡ length (file .rules)
+rule-marks file = length-map (systemOf file .rules) _ ∙ length-map (file .rules) _
+
+falling-few : (marks : List ℕ) → decreasingCount marks ≤ length marks
+falling-few [] = omega arith
+falling-few (m ∷ l) =
+    byTest (isDecreasing m) (λ e. rw e (omega (arith, falling-few l))) λ e. rw e (omega (arith, falling-few l))
+
+pub rules-small : (file : RuleFile) → length (file .rules) < 1024 → Small (summaryOf (marksOf (systemOf file)) .rules)
+rules-small file h = omega (arith, rule-marks file)
+
+pub decreasing-small : (file : RuleFile) → length (file .rules) < 1024 →
+    Small (summaryOf (marksOf (systemOf file)) .decreasing)
+decreasing-small file h = omega (arith, rule-marks file, falling-few (marksOf (systemOf file)))
+
+pub score-small : (file : RuleFile) → length (file .rules) < 1024 →
+    Small (summaryOf (marksOf (systemOf file)) .score)
+score-small file h =
+    let marks = marksOf (systemOf file) in
+    byTest (eqb (length marks) 0) (λ e. rw e (omega arith))
+    λ e. rw e (omega (arith, div-le-self (100 * decreasingCount marks) (length marks), rule-marks file, falling-few marks))

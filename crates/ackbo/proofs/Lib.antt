@@ -1,0 +1,3 @@
+-- What the code of the boundary cites.
+pub mod BoundLaws
+pub mod ReplyLaws

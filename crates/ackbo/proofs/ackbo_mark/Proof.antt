@@ -1,0 +1,72 @@
+use Rattle.ackbo.specs.Boundary.{summaryValues}
+use Rattle.ackbo.proofs.BoundLaws.{value-small, offset-small, marked-small}
+use Rattle.ackbo.proofs.BoundLaws.{rules-small, decreasing-small, score-small}
+use Rattle.ackbo.proofs.ReplyLaws.{accepts, refuses}
+use borrow.Author.Needs.{needs}
+use Rattle.ackbo.proofs.ackbo_mark.Statement.{statement}
+use Rattle.ackbo.proofs.ackbo_mark.Tie as tie
+
+mark-requires : tie.Need-mark-requires
+mark-requires c κs = search needs
+
+enum-known-rules : tie.Need-enum-known-rules
+enum-known-rules c = search needs
+
+put-counts-requires : tie.Need-put-counts-requires
+put-counts-requires c κs =
+    let a = c .before .before .before .before .before .before .before .before .before .before .args in
+    let small = marked-small (a .book .now) (a .marks .now) in
+    let gave = c .before .before .before .before .before .before .mark .ensures .0 in
+    let reply = rw (c .before .before .rules .given .1) at gave in (
+      value-small (λ s. s .rules) _ (small (λ s. s .rules) rules-small) _ reply,
+      value-small (λ s. s .decreasing) _ (small (λ s. s .decreasing) decreasing-small) _ reply,
+      value-small (λ s. s .score) _ (small (λ s. s .score) score-small) _ reply,
+    )
+
+enum-known-error : tie.Need-enum-known-error
+enum-known-error c = search needs
+
+put-error-requires : tie.Need-put-error-requires
+put-error-requires c κs =
+    let a = c .before .before .before .before .before .before .before .before .before .before .args in
+    let small = marked-small (a .book .now) (a .marks .now) (λ s. s .rules) rules-small in
+    let gave = c .before .before .before .before .before .before .mark .ensures .0 in
+    offset-small (λ s. s .rules) _ small _ (rw (c .before .before .error .given .1) at gave)
+
+same-length : tie.Need-same-length
+same-length c = search needs
+
+returns : tie.Need-returns
+returns c =
+    let entry = c .before .before .before .before .before .before .before .before .before .before .before .args .reply .now in
+    let gave = c .before .before .before .before .before .before .before .mark .ensures in
+    let reply = rw (c .before .before .before .rules .given .1) at (gave .0) in
+    let (code, values) =
+    accepts summaryValues _ _ entry _ _ reply (c .put-counts .ensures .0) (c .put-counts .ensures .1) in
+    (code, (values, gave .1))
+
+same-length-2 : tie.Need-same-length-2
+same-length-2 c = search needs
+
+returns-2 : tie.Need-returns-2
+returns-2 c =
+    let entry = c .before .before .before .before .before .before .before .before .before .before .before .args .reply .now in
+    let gave = c .before .before .before .before .before .before .before .mark .ensures in
+    let reply = rw (c .before .before .before .error .given .1) at (gave .0) in
+    let (code, values) =
+    refuses summaryValues _ _ entry _ _ _ _ reply (c .put-error .ensures .0) (c .put-error .ensures .1) in
+    (code, (values, gave .1))
+
+pub ackbo-mark-spec : {M : Type 1} → statement M
+ackbo-mark-spec =
+    tie.close
+    (tie.spec
+    mark-requires
+    enum-known-rules
+    put-counts-requires
+    enum-known-error
+    put-error-requires
+    same-length
+    returns
+    same-length-2
+    returns-2)

@@ -1,0 +1,36 @@
+use mir.Syntax.{w64}
+use mathlib.Core.Path.{_∙_}
+use mir.ValLaws.{toZ-ofZ}
+use borrow.Author.Needs.{needs}
+use Rattle.ackbo.proofs.put_counts.Statement.{statement}
+use Rattle.ackbo.proofs.put_counts.Tie as tie
+
+signed-requires : tie.Need-signed-requires
+signed-requires c κs = search needs
+
+signed-requires-2 : tie.Need-signed-requires-2
+signed-requires-2 c κs = search needs
+
+signed-requires-3 : tie.Need-signed-requires-3
+signed-requires-3 c κs = search needs
+
+put-reply-requires : tie.Need-put-reply-requires
+put-reply-requires c κs = search needs
+
+returns : tie.Need-returns
+returns c =
+    let first = c .before .before .before .signed in
+    let second = c .before .before .signed2 in
+    let third = c .before .signed3 in
+    let first-read = toZ-ofZ w64 (first .result) (record { sfits = first .ok }) in
+    let second-read = toZ-ofZ w64 (second .result) (record { sfits = second .ok }) in
+    let third-read = toZ-ofZ w64 (third .result) (record { sfits = third .ok }) in (
+      c .put-reply .ensures .0,
+      c .put-reply .ensures .1 ∙
+          rw (first-read, second-read, third-read, first .ensures, second .ensures, third .ensures),
+    )
+
+pub put-counts-spec : {M : Type 1} → statement M
+put-counts-spec =
+    tie.close
+    (tie.spec signed-requires signed-requires-2 signed-requires-3 put-reply-requires returns)

@@ -1,0 +1,28 @@
+use native.Mathlib.Omega.{arith}
+use mir.Syntax.{w64}
+use mathlib.Core.Path.{_∙_}
+use mir.ValLaws.{toZ-ofZ, toZ-pos}
+use borrow.Author.Needs.{needs}
+use Rattle.ackbo.proofs.put_error.Statement.{statement}
+use Rattle.ackbo.proofs.put_error.Tie as tie
+
+cast-put-reply : tie.Need-cast-put-reply
+cast-put-reply c = search needs
+
+signed-requires : tie.Need-signed-requires
+signed-requires c κs = search needs
+
+put-reply-requires : tie.Need-put-reply-requires
+put-reply-requires c κs = search needs
+
+returns : tie.Need-returns
+returns c =
+    let offset = c .before .signed in
+    let input = toZ-pos w64 (c .before .before .before .args .input) (omega (arith, c .before .before .before .fits .input)) in (
+      c .put-reply .ensures .0,
+      c .put-reply .ensures .1 ∙
+          rw (toZ-ofZ w64 (offset .result) (record { sfits = offset .ok }), offset .ensures, input),
+    )
+
+pub put-error-spec : {M : Type 1} → statement M
+put-error-spec = tie.close (tie.spec cast-put-reply signed-requires put-reply-requires returns)

@@ -1,0 +1,2 @@
+-- The numbers by which a reply crosses the C boundary.
+pub mod Boundary

@@ -1,0 +1,138 @@
+// The operations for callers in C: each gives its code, 0 or that of the error, and stores the values of its reply.
+ghost use mathlib.Core.Path.{_≡_};
+ghost use mathlib.Core.List.{[], _∷_};
+ghost use Prim.Native.Nat.{_<_};
+ghost use lib.IntN.{pos};
+ghost use lib.Seq.{sets};
+ghost use Rattle.format.specs.Operations.{decoded, encoded};
+ghost use Rattle.comparing.specs.Comparing.{compared};
+ghost use Rattle.comparing.specs.Reply.{relationOf};
+ghost use Rattle.marking.specs.Marking.{marked};
+ghost use Rattle.ackbo.specs.Boundary.{codeOf, valuesOf};
+ghost use Rattle.ackbo.specs.Boundary.{countValues, relationValue, comparisonValues, summaryValues};
+use comparing::CompareReply;
+use comparing::Relation;
+use decoder::DecodeReply;
+use encoder::encode::EncodeReply;
+use marking::mark::MarkReply;
+
+// Stores three values, and gives back the code.
+fn put_reply(reply: &mut [i64; 3], code: u8, first: i64, second: i64, third: i64) -> u8
+    ensures { λ r. ⌜ r ≡ code ⌝ }
+    ensures { λ _. ⌜ now (reply .exit) ≡ sets (now (reply .entry)) 0 (first ∷ second ∷ third ∷ []) ⌝ }
+{
+    reply[0] = first;
+    reply[1] = second;
+    reply[2] = third;
+    code
+}
+
+// The number as a signed one.
+fn signed(number: usize) -> i64
+    requires { ⌜ number < 9223372036854775808 ⌝ }
+    ensures { λ r. ⌜ r ≡ pos number ⌝ }
+{
+    number as i64
+}
+
+// Stores the three counts of an answer.
+fn put_counts(reply: &mut [i64; 3], first: usize, second: usize, third: usize) -> u8
+    requires { ⌜ (first < 9223372036854775808) × (second < 9223372036854775808) × (third < 9223372036854775808) ⌝ }
+    ensures { λ r. ⌜ r ≡ 0 ⌝ }
+    ensures { λ _. ⌜ now (reply .exit) ≡ sets (now (reply .entry)) 0 (pos first ∷ pos second ∷ pos third ∷ []) ⌝ }
+{
+    put_reply(reply, 0, signed(first), signed(second), signed(third))
+}
+
+// Stores the input and the offset of an error.
+fn put_error(reply: &mut [i64; 3], code: u8, input: u8, offset: usize) -> u8
+    requires { ⌜ offset < 9223372036854775808 ⌝ }
+    ensures { λ r. ⌜ r ≡ code ⌝ }
+    ensures { λ _. ⌜ now (reply .exit) ≡ sets (now (reply .entry)) 0 (pos input ∷ pos offset ∷ pos 0 ∷ []) ⌝ }
+{
+    put_reply(reply, code, input as i64, signed(offset), 0)
+}
+
+fn relation_value(relation: Relation) -> i64
+    ensures { λ r. ⌜ r ≡ relationValue (relationOf relation) ⌝ }
+{
+    match relation {
+        Relation::Greater => 1,
+        Relation::Less => 2,
+        Relation::Equivalent => 3,
+        Relation::Unrelated => 4,
+    }
+}
+
+#[no_mangle]
+pub extern "C" fn ackbo_decode(book: &[u8], words: &mut [u16], reply: &mut [i64; 3]) -> u8
+    ensures { λ r. ⌜ r ≡ codeOf (decoded (now (book .entry)) (now (words .entry)) .reply) ⌝ }
+    ensures { λ _. ⌜
+        now (reply .exit)
+        ≡ sets (now (reply .entry)) 0 (valuesOf countValues (decoded (now (book .entry)) (now (words .entry)) .reply))
+        ⌝ }
+    ensures { λ _. ⌜ now (words .exit) ≡ decoded (now (book .entry)) (now (words .entry)) .output ⌝ }
+{
+    match decoder::decode(book, words) {
+        DecodeReply::Accepted(count) => put_counts(reply, count, 0, 0),
+        DecodeReply::Refused(error) => put_error(reply, error.code, error.input, error.offset),
+    }
+}
+
+#[no_mangle]
+pub extern "C" fn ackbo_encode(words: &[u16], book: &mut [u8], reply: &mut [i64; 3]) -> u8
+    ensures { λ r. ⌜ r ≡ codeOf (encoded (now (words .entry)) (now (book .entry)) .reply) ⌝ }
+    ensures { λ _. ⌜
+        now (reply .exit)
+        ≡ sets (now (reply .entry)) 0 (valuesOf countValues (encoded (now (words .entry)) (now (book .entry)) .reply))
+        ⌝ }
+    ensures { λ _. ⌜ now (book .exit) ≡ encoded (now (words .entry)) (now (book .entry)) .output ⌝ }
+{
+    match encoder::encode::encode(words, book) {
+        EncodeReply::Accepted(count) => put_counts(reply, count, 0, 0),
+        EncodeReply::Refused(error) => put_error(reply, error.code, error.input, error.offset),
+    }
+}
+
+#[no_mangle]
+pub extern "C" fn ackbo_compare(
+    book: &[u8],
+    left: &[u16],
+    right: &[u16],
+    reply: &mut [i64; 3],
+) -> u8
+    ensures { λ r. ⌜ r ≡ codeOf (compared (now (book .entry)) (now (left .entry)) (now (right .entry))) ⌝ }
+    ensures { λ _. ⌜
+        now (reply .exit)
+        ≡ sets (now (reply .entry)) 0
+        (valuesOf comparisonValues (compared (now (book .entry)) (now (left .entry)) (now (right .entry))))
+        ⌝ }
+{
+    match comparing::compare(book, left, right) {
+        CompareReply::Accepted(comparison) => {
+            let relation = comparison.relation;
+            put_reply(reply, 0, relation_value(relation), comparison.margin, 0)
+        }
+        CompareReply::Refused(error) => put_error(reply, error.code, error.input, error.offset),
+    }
+}
+
+#[no_mangle]
+pub extern "C" fn ackbo_mark(book: &[u8], marks: &mut [u8], reply: &mut [i64; 3]) -> u8
+    ensures { λ r. ⌜ r ≡ codeOf (marked (now (book .entry)) (now (marks .entry)) .reply) ⌝ }
+    ensures { λ _. ⌜
+        now (reply .exit)
+        ≡ sets (now (reply .entry)) 0 (valuesOf summaryValues (marked (now (book .entry)) (now (marks .entry)) .reply))
+        ⌝ }
+    ensures { λ _. ⌜ now (marks .exit) ≡ marked (now (book .entry)) (now (marks .entry)) .output ⌝ }
+{
+    match marking::mark::mark(book, marks) {
+        MarkReply::Accepted(rules, decreasing, score) => put_counts(
+            reply,
+            rules,
+            decreasing,
+            score,
+        ),
+        MarkReply::Refused(error) => put_error(reply, error.code, error.input, error.offset),
+    }
+}

@@ -26,15 +26,22 @@ use Rattle.format.specs.Statements.IsRead.{fromBytes}
 use Rattle.format.proofs.Theorems.{readable-admissible, read-term-well-formed}
 use Rattle.symbols.specs.Table.{signatureOf}
 use Rattle.reader.specs.File.{FileParts}
-use Rattle.equivalence.specs.Parts as parts
 use Rattle.order.specs.Compared as order
 use Rattle.comparing.specs.declared.Relation.{Relation}
 use Rattle.comparing.specs.Comparing.{Comparison, relation, comparison, comparedRight, comparedTerms, compared}
 use Rattle.comparing.specs.Reply.{relationNumbered, relationOf}
 
--- As the order's functions ask it.
-pub whole-term : (σ : Signature) (ws : List ℕ) → IsTerm σ ws → parts.IsTerm σ ws
-whole-term σ ws t = (termOf σ ws, t .wellFormed, t .spelled)
+-- Two terms as the order's functions ask them.
+pub whole-terms : {table s t : List ℕ} → length table ≤ 1021 → Admissible (signatureOf table) →
+    IsTerm (signatureOf table) s → IsTerm (signatureOf table) t → order.Whole table s t
+whole-terms {table} {s} {t} h a p q = record {
+  small = omega arith;
+  binary = a .acBinary;
+  left = (termOf (signatureOf table) s, p .wellFormed, p .spelled);
+  right = (termOf (signatureOf table) t, q .wellFormed, q .spelled);
+  leftShort = p .short;
+  rightShort = q .short;
+}
 
 pub read-whole : (σ : Signature) (ws front : List ℕ) (n : ℕ) → got front n ≡ readTerm σ ws →
     (front ≡ ws) × IsTerm σ ws

@@ -11,6 +11,7 @@ ghost use Rattle.comparing.specs.Reply.{relationNumbered, replyOf, compa
 use decoder::Error;
 use order::mark::margin;
 use order::mark::relation;
+use order::sums::total;
 use reader::file::File;
 use reader::file::TABLE_WORDS;
 use reader::file::read_file;
@@ -63,9 +64,11 @@ fn compare_read(table: &[u16], left: &[u16], right: &[u16]) -> Comparison
         (termOf (signatureOf (now (table .entry))) (now (right .entry)))
         ⌝ }
 {
+    let s = total(table, left);
+    let t = total(table, right);
     Comparison {
-        relation: numbered(relation(table, left, right)),
-        margin: margin(table, left, right),
+        relation: numbered(relation(table, left, s, right, t)),
+        margin: margin(s, t),
     }
 }
 

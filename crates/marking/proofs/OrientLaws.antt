@@ -1,6 +1,6 @@
 -- The sides of a rule that is read are terms, and what orienting it has to show.
 --     side-term        a side that is read from bits is the words of a well-formed term
---     whole-term       as the order asks it
+--     whole-terms      two terms as the order asks them
 --     right-known, left-known, left-unread     what is known of a rule that is read
 use mathlib.Core.List.{List, map}
 use mathlib.Core.Path.{_≡_, refl, sym, ap, _∙_}
@@ -22,10 +22,11 @@ use Rattle.format.proofs.SpellingLaws.Spells.{none, more}
 use Rattle.format.proofs.FormatLaws.{forest-read}
 use Rattle.format.proofs.CodingLaws.{bit-coding}
 use Rattle.format.proofs.SideLaws.{side-formed, forest-le}
-use Rattle.equivalence.specs.Parts as parts
+use Rattle.symbols.specs.Table.{signatureOf}
+use Rattle.order.specs.Compared.{Whole}
 use Rattle.reader.specs.Rule.{ruleReader}
 use Rattle.marking.specs.declared.rule.Oriented.{Oriented}
-use Rattle.marking.specs.Rule.{Orients}
+use Rattle.marking.specs.Rule.{IsTable, Orients}
 use Rattle.marking.proofs.RuleLaws.{then-got, fault-unread, got-same}
 
 spells-fit : (bytes : List ℕ) {is : List Item} {at end : ℕ} → Spells (bitSource bytes) is at end → AllFit is
@@ -39,9 +40,17 @@ module _ (bytes : List ℕ) (σ : Signature) where
       let (s, w) = side-formed σ f (spells-fit bytes p) in
       record { spelled = sym s; wellFormed = w; short = forest-le σ f }
 
--- As the order's functions ask it.
-pub whole-term : (σ : Signature) (ws : List ℕ) → IsTerm σ ws → parts.IsTerm σ ws
-whole-term σ ws t = (termOf σ ws, t .wellFormed, t .spelled)
+-- Two terms as the order's functions ask them.
+pub whole-terms : {table s t : List ℕ} → IsTable table → IsTerm (signatureOf table) s → IsTerm (signatureOf table) t →
+    Whole table s t
+whole-terms {table} {s} {t} T p q = record {
+  small = omega (arith, T .short);
+  binary = T .admissible .acBinary;
+  left = (termOf (signatureOf table) s, p .wellFormed, p .spelled);
+  right = (termOf (signatureOf table) t, q .wellFormed, q .spelled);
+  leftShort = p .short;
+  rightShort = q .short;
+}
 
 -- ---- what is known to be read
 

@@ -13,7 +13,7 @@ ghost use Rattle.reader.specs.Rule.{ruleReader};
 ghost use Rattle.marking.specs.Rule.{IsTable, Orients};
 use bits::BitCursor;
 use order::mark::mark;
-use order::sums::total_weight;
+use order::sums::total;
 use reader::rule::Stored;
 use reader::rule::read_side;
 
@@ -36,10 +36,12 @@ fn orient_sides(table: &[u16], left: &[u16], right: &[u16], next: BitCursor) -> 
         ⌝ }
     ensures { λ o. ⌜ (o .left < 10 ^ 19) × (o .right < 10 ^ 19) ⌝ }
 {
+    let s = total(table, left);
+    let t = total(table, right);
     Oriented {
-        mark: mark(table, left, right),
-        left: total_weight(table, left),
-        right: total_weight(table, right),
+        mark: mark(table, left, s, right, t),
+        left: s.weight,
+        right: t.weight,
         next,
     }
 }

@@ -1,7 +1,8 @@
 -- Sums over words are measures of terms.
 --     nodes-part                  the words from an offset on are those of the part there and those after it
 --     place-below, place-at       the place value of a variable
---     summed-step, part-sum       preparing sums, and the sum of a part
+--     part-sum                    the sum of a part
+--     node-weight, -nothing, -variable, -low, -high     what a node adds
 use mathlib.Core.List.{List, [], _∷_, _++_}
 use mathlib.Core.Path.{_≡_, refl, sym, ap, _∙_}
 use mathlib.Core.Bool.{Bool, true, false, cond}
@@ -101,60 +102,6 @@ power-shift (suc (suc (suc (suc (suc (suc zero)))))) h = (refl, omega arith)
 power-shift (suc (suc (suc (suc (suc (suc (suc zero))))))) h = (refl, omega arith)
 power-shift (suc (suc (suc (suc (suc (suc (suc (suc d)))))))) h = absurd (omega arith)
 
--- ---- preparing
-
-abbrev pub SummedFrom : Signature → ℕ → List ℕ → List ℕ → ℕ → Type 0
-SummedFrom σ kind ws sums i =
-    (k : ℕ) → i ≤ k → k ≤ length ws → getD sums (129 * kind + k) 0 ≡ wordSum σ kind (drop k ws)
-
--- The sums of every other kind stay.
-abbrev pub OthersStay : Signature → ℕ → List ℕ → List ℕ → List ℕ → Type 0
-OthersStay σ kind ws sums₀ sums =
-    (other : ℕ) → other < 3 → (other ≡ kind → ⊥) → Summed σ other ws sums₀ → Summed σ other ws sums
-
-pub sum-more : (σ : Signature) (kind : ℕ) (ws : List ℕ) (i sum v : ℕ) → 0 < i → i ≤ length ws →
-    sum ≡ wordSum σ kind (drop i ws) → v ≡ nodeSum σ kind (getD ws (i - 1) 0) →
-    sum + v ≡ wordSum σ kind (drop (i - 1) ws)
-sum-more σ kind ws i sum v p h e d =
-    let f : i - 1 + 1 ≡ i = omega arith in
-    let n : wordSum σ kind (drop (i - 1) ws) ≡ nodeSum σ kind (getD ws (i - 1) 0) + wordSum σ kind (drop (i - 1 + 1) ws) =
-    rw (drop-cons ws (i - 1) 0 (omega arith), add-one) in
-    omega (arith, rw f at n)
-
-module _ (σ : Signature) (kind : ℕ) (ws sums₀ sums : List ℕ) (three : kind < 3) (short : length ws ≤ 128)
-    (room : length sums ≡ 387) where
-  others-stay : (i v : ℕ) → i ≤ length ws → OthersStay σ kind ws sums₀ sums → OthersStay σ kind ws sums₀ (set sums (129 * kind + i) v)
-  others-stay i v h o other l d S =
-      let T = o other l d S in
-      record {
-        room = length-set sums _ v ∙ room;
-        sum = λ k p. getD-set-other sums (129 * kind + i) (129 * other + k) v 0 (λ e. d (omega arith)) ∙ T .sum k p;
-      }
-
-  pub summed-none : OthersStay σ kind ws sums₀ sums →
-      SummedFrom σ kind ws (set sums (129 * kind + length ws) 0) (length ws)
-      × OthersStay σ kind ws sums₀ (set sums (129 * kind + length ws) 0)
-  summed-none o = (
-    λ k p q. let e : k ≡ length ws = omega arith in
-        rw (e, drop-length, getD-set-same sums (129 * kind + length ws) 0 0 (omega arith)),
-    others-stay (length ws) 0 (omega arith) o,
-  )
-
-  pub summed-more : (i sum v : ℕ) → 0 < i → i ≤ length ws → sum ≡ wordSum σ kind (drop i ws) →
-      v ≡ nodeSum σ kind (getD ws (i - 1) 0) → SummedFrom σ kind ws sums i → OthersStay σ kind ws sums₀ sums →
-      (sum + v ≡ wordSum σ kind (drop (i - 1) ws))
-      × SummedFrom σ kind ws (set sums (129 * kind + (i - 1)) (sum + v)) (i - 1)
-      × OthersStay σ kind ws sums₀ (set sums (129 * kind + (i - 1)) (sum + v))
-  summed-more i sum v p h e d m o =
-      let g = sum-more σ kind ws i sum v p h e d in (
-        g,
-        λ k a b. byOrder (i - 1) k
-            (λ q. getD-set-other sums (129 * kind + (i - 1)) (129 * kind + k) (sum + v) 0 (omega arith) ∙ m k (omega arith) b)
-            λ q. let z : k ≡ i - 1 = omega arith in
-            rw z (getD-set-same sums (129 * kind + (i - 1)) (sum + v) 0 (omega arith) ∙ g),
-        others-stay (i - 1) (sum + v) (omega arith) o,
-      )
-
 -- ---- what a node adds
 
 module _ (table : List ℕ) (kind w : ℕ) where
@@ -184,10 +131,3 @@ module _ (table : List ℕ) (kind w : ℕ) where
       go zero d e = absurd (d refl)
       go (suc zero) d e = absurd (e refl)
       go (suc (suc kind)) d e = refl
-
-pub all-kinds : {σ : Signature} {ws sums : List ℕ} → Summed σ 0 ws sums → Summed σ 1 ws sums → Summed σ 2 ws sums →
-    (kind : ℕ) → kind < 3 → Summed σ kind ws sums
-all-kinds a b c zero h = a
-all-kinds a b c (suc zero) h = b
-all-kinds a b c (suc (suc zero)) h = c
-all-kinds a b c (suc (suc (suc kind))) h = absurd (omega arith)

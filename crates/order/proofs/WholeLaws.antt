@@ -1,14 +1,15 @@
 -- Whole terms: the sums over their words, and what is prepared of them.
 --     whole-sum, whole-small, whole-formed     the words of one term
---     left-total, right-total                  the sums at offset 0
---     none-both, none-low                      the test of occurrences by those sums
---     whole-sides, whole-scales                both sides, prepared
+--     left-some, left-formed, turned, ..       two terms
+--     left-weight, right-weight, totals-margin, within-none     what their totals say
+--     whole-sides                              both sides, prepared
 use mathlib.Core.List.{List, [], _∷_, _++_}
-use mathlib.Core.Path.{_≡_, refl, sym, ap, _∙_}
+use mathlib.Core.Path.{_≡_, refl, sym, ap₂, _∙_}
 use mathlib.Core.Bool.{Bool, true, false}
 use Prim.Native.Nat.{ℕ, _+_, _-_, _*_, _≤_, _<_}
 use native.Mathlib.Omega.{arith}
-use lib.ListN.{length, getD}
+use lib.IntN.{subℕ}
+use lib.ListN.{length}
 use borrow.Author.Tests.{lt-ltb, le-ltb}
 use Rattle.multisets.proofs.Relations.{byTest}
 use Rattle.terms.specs.Signature.{Signature}
@@ -16,14 +17,16 @@ use Rattle.terms.specs.Term.{Term, Terms, size, measure, measures, WellFormed, 
 use Rattle.terms.specs.Term.Term.{var, app}
 use Rattle.terms.specs.Term.Terms.{nil, cons}
 use Rattle.terms.specs.Words.{firstVariable, words, wordsOf, termOf}
+use Rattle.terms.specs.Order.{margin}
 use Rattle.terms.proofs.WordsLaws.{length-words, termOf-words}
 use Rattle.symbols.specs.Table.{signatureOf}
 use Rattle.symbols.proofs.TableLaws.{few-at}
 use Rattle.equivalence.specs.Parts.{IsTerm}
 use Rattle.equivalence.specs.Keys.{Prepared, Sides}
 use Rattle.equivalence.proofs.FormedLaws.{term-some}
-use Rattle.order.specs.Sums.{nodes, atVariable, atSymbol, wordSum, termSum, digitsWithin}
-use Rattle.order.specs.Compared.{Scales, Summaries, noneOftenerAt}
+use Rattle.order.specs.Sums.{nodes, atVariable, atSymbol, wordSum, termSum, digitsWithin, totalsWithin, Totalled}
+use Rattle.order.specs.declared.sums.Totals.{Totals}
+use Rattle.order.specs.Compared.{Whole, weightAt, noneOftenerAt}
 use Rattle.order.proofs.OccurrenceLaws.{none-oftener-of, oftener-low, oftener-high}
 
 module _ (σ : Signature) (few : length (σ .symbols) ≤ 256) (v w : ℕ → ℕ) where
@@ -54,17 +57,11 @@ whole-formed σ few ws (t, h, e) = rw (e, termOf-words σ few t h) h
 pub whole-small : (σ : Signature) → length (σ .symbols) ≤ 256 → (ws : List ℕ) → IsTerm σ ws → size (termOf σ ws) ≡ length ws
 whole-small σ few ws (t, h, e) = rw (e, termOf-words σ few t h) (sym (length-words t))
 
--- ---- two terms with their sums
+-- ---- two terms
 
-module _ {table s sw t tw : List ℕ} (S : Summaries table s sw t tw) where
+module _ {table s t : List ℕ} (S : Whole table s t) where
   few : length (signatureOf table .symbols) ≤ 256
   few = few-at table (S .small)
-
-  pub left-total : (kind : ℕ) → kind < 3 → getD sw (129 * kind + 0) 0 ≡ termSum (signatureOf table) kind (termOf (signatureOf table) s)
-  left-total kind l = S .leftSums kind l .sum 0 (omega arith) ∙ whole-sum (signatureOf table) few kind s (S .left)
-
-  pub right-total : (kind : ℕ) → kind < 3 → getD tw (129 * kind + 0) 0 ≡ termSum (signatureOf table) kind (termOf (signatureOf table) t)
-  right-total kind l = S .rightSums kind l .sum 0 (omega arith) ∙ whole-sum (signatureOf table) few kind t (S .right)
 
   pub left-some : 0 < length s
   left-some = term-some (signatureOf table) few s (S .left)
@@ -72,30 +69,53 @@ module _ {table s sw t tw : List ℕ} (S : Summaries table s sw t tw) where
   pub right-some : 0 < length t
   right-some = term-some (signatureOf table) few t (S .right)
 
-  small-left : size (termOf (signatureOf table) s) < 256
-  small-left = omega (arith, whole-small (signatureOf table) few s (S .left), S .leftShort)
+  pub left-formed : WellFormed (signatureOf table) (termOf (signatureOf table) s)
+  left-formed = whole-formed (signatureOf table) few s (S .left)
 
-  small-right : size (termOf (signatureOf table) t) < 256
-  small-right = omega (arith, whole-small (signatureOf table) few t (S .right), S .rightShort)
+  pub right-formed : WellFormed (signatureOf table) (termOf (signatureOf table) t)
+  right-formed = whole-formed (signatureOf table) few t (S .right)
 
-  pub none-low : digitsWithin 8 (getD sw 129 0) (getD tw 129 0) ≡ false → false ≡ noneOftenerAt table s 0 t 0
-  none-low e =
-      oftener-low (termOf (signatureOf table) s) (termOf (signatureOf table) t) small-left small-right
-      (rw (left-total 1 (omega arith), right-total 1 (omega arith)) at e)
+  pub turned : Whole table t s
+  turned = record {
+    small = S .small;
+    binary = S .binary;
+    left = S .right;
+    right = S .left;
+    leftShort = S .rightShort;
+    rightShort = S .leftShort;
+  }
 
-  pub none-both : digitsWithin 8 (getD sw 129 0) (getD tw 129 0) ≡ true → {r : Bool} →
-      r ≡ digitsWithin 8 (getD sw 258 0) (getD tw 258 0) → r ≡ noneOftenerAt table s 0 t 0
-  none-both e {r} q =
-      let a = termOf (signatureOf table) s in
-      let b = termOf (signatureOf table) t in
-      let low = rw (left-total 1 (omega arith), right-total 1 (omega arith)) at e in
-      let high = rw (left-total 2 (omega arith), right-total 2 (omega arith)) at (sym q) in
-      byTest r (λ z. rw z (none-oftener-of a b small-left small-right low (high ∙ z)))
-      λ z. rw z (oftener-high a b small-left small-right (high ∙ z))
+  module _ {a b : Totals} (A : Totalled (signatureOf table) s a) (B : Totalled (signatureOf table) t b) where
+    pub left-weight : a .weight ≡ weightAt table s 0
+    left-weight = A .weight ∙ whole-sum (signatureOf table) few 0 s (S .left)
+
+    pub right-weight : b .weight ≡ weightAt table t 0
+    right-weight = B .weight ∙ whole-sum (signatureOf table) few 0 t (S .right)
+
+    -- The test of the totals is the one of the occurrences.
+    pub within-none : totalsWithin a b ≡ noneOftenerAt table s 0 t 0
+    within-none =
+        let σ = signatureOf table in
+        let x = termOf σ s in
+        let y = termOf σ t in
+        let p : size x < 256 = omega (arith, whole-small σ few s (S .left), S .leftShort) in
+        let q : size y < 256 = omega (arith, whole-small σ few t (S .right), S .rightShort) in
+        let e = A .low ∙ whole-sum σ few 1 s (S .left) in
+        let f = B .low ∙ whole-sum σ few 1 t (S .right) in
+        let g = A .high ∙ whole-sum σ few 2 s (S .left) in
+        let h = B .high ∙ whole-sum σ few 2 t (S .right) in
+        byTest (digitsWithin 8 (a .low) (b .low))
+        (λ l. byTest (digitsWithin 8 (a .high) (b .high))
+        (λ m. rw (l, m) (none-oftener-of x y p q (rw (e, f) at l) (rw (g, h) at m)))
+        λ m. rw (l, m) (oftener-high x y p q (rw (g, h) at m)))
+        λ l. rw l (oftener-low x y p q (rw (e, f) at l))
 
   module _ {sk tk : List ℕ} (P : Prepared (signatureOf table) s sk) (Q : Prepared (signatureOf table) t tk) where
     pub whole-sides : Sides table s sk t tk
     whole-sides = record { small = S .small; binary = S .binary; left = P; right = Q }
 
-    pub whole-scales : Scales table s sk sw t tk tw
-    whole-scales = record { sides = whole-sides; left = S .leftSums; right = S .rightSums }
+-- The margin by totals.
+pub totals-margin : {table s t : List ℕ} → Whole table s t → {a b : Totals} → Totalled (signatureOf table) s a →
+    Totalled (signatureOf table) t b →
+    subℕ (a .weight) (b .weight) ≡ margin (signatureOf table) (termOf (signatureOf table) s) (termOf (signatureOf table) t)
+totals-margin S A B = ap₂ subℕ (left-weight S A B) (right-weight S A B)

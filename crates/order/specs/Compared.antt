@@ -21,16 +21,14 @@ pub record Scales (table s sk sw t tk tw : List ℕ) : Type 0 where
   pub left : (kind : ℕ) → kind < 3 → Summed (signatureOf table) kind s sw
   pub right : (kind : ℕ) → kind < 3 → Summed (signatureOf table) kind t tw
 
--- Two whole terms with their sums.
-pub record Summaries (table s sw t tw : List ℕ) : Type 0 where
+-- Two whole terms.
+pub record Whole (table s t : List ℕ) : Type 0 where
   pub small : length table ≤ 1025
   pub binary : AcBinary (signatureOf table)
   pub left : IsTerm (signatureOf table) s
   pub right : IsTerm (signatureOf table) t
   pub leftShort : length s ≤ 128
   pub rightShort : length t ≤ 128
-  pub leftSums : (kind : ℕ) → kind < 3 → Summed (signatureOf table) kind s sw
-  pub rightSums : (kind : ℕ) → kind < 3 → Summed (signatureOf table) kind t tw
 
 -- The offsets of the elements above f, of those below f and of the variables, and how many elements there are.
 pub record Parted (σ : Signature) (f : ℕ) (ws : List ℕ) (ts : List Term) (above below variables : List ℕ)

@@ -8,6 +8,7 @@ use lib.ListN.{length, getD, drop}
 use Rattle.terms.specs.Signature.{Signature, symbolOf}
 use Rattle.terms.specs.Term.{Term, measure}
 use Rattle.terms.specs.Words.{firstVariable}
+use Rattle.order.specs.declared.sums.Totals.{Totals}
 
 -- The sum over the words of v at the variables and w at the symbols.
 module _ (v w : ℕ → ℕ) where
@@ -28,6 +29,16 @@ unfoldable pub digitsWithin : ℕ → ℕ → ℕ → Bool
 digitsWithin zero a b = true
 digitsWithin (suc n) a b = leb (b % 256) (a % 256) && digitsWithin n (a / 256) (b / 256)
 
+-- No variable has a higher digit in t than in s.
+abbrev pub totalsWithin : Totals → Totals → Bool
+totalsWithin s t = digitsWithin 8 (s .low) (t .low) && digitsWithin 8 (s .high) (t .high)
+
+-- The sums of n nodes: a weight is below 65,536, a place value at most 256 to the power of 7.
+pub record Bounded (n : ℕ) (r : Totals) : Type 0 where
+  pub weight : r .weight ≤ 65536 * n
+  pub low : r .low ≤ 72057594037927936 * n
+  pub high : r .high ≤ 72057594037927936 * n
+
 module _ (σ : Signature) where
   -- What is summed up: weights, the occurrences of the variables 0 to 7, those of the variables 8 to 15.
   abbrev pub atVariable : ℕ → ℕ → ℕ
@@ -45,8 +56,20 @@ module _ (σ : Signature) where
   abbrev pub wordSum : ℕ → List ℕ → ℕ
   wordSum kind = nodes (atVariable kind) (atSymbol kind)
 
+  -- What a word adds to the sums.
+  pub record Added (word : ℕ) (after r : Totals) : Type 0 where
+    pub weight : r .weight ≡ after .weight + nodeSum 0 word
+    pub low : r .low ≡ after .low + nodeSum 1 word
+    pub high : r .high ≡ after .high + nodeSum 2 word
+
   abbrev pub termSum : ℕ → Term → ℕ
   termSum kind = measure (atVariable kind) (atSymbol kind)
+
+  -- What a term's sums are.
+  pub record Totalled (ws : List ℕ) (r : Totals) : Type 0 where
+    pub weight : r .weight ≡ wordSum 0 ws
+    pub low : r .low ≡ wordSum 1 ws
+    pub high : r .high ≡ wordSum 2 ws
 
   -- sums has, from 129 times kind on, the sum over all words from each offset on.
   pub record Summed (kind : ℕ) (ws sums : List ℕ) : Type 0 where

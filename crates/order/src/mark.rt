@@ -1,30 +1,29 @@
 // The mark, the relation and the margin of two whole terms.
 use crate::compare::root_mark;
+use crate::sums::Totals;
 use crate::sums::digits_within;
 use crate::sums::sum_up;
-use crate::sums::total_weight;
 use equivalence::equivalence::equivalent;
 use equivalence::keys::prepare;
 use symbols::precedence;
 ghost use mathlib.Core.Bool.{true};
 ghost use mathlib.Core.Path.{_≡_};
 ghost use Prim.Native.Nat.{_≤_, _<_};
+ghost use lib.IntN.{subℕ};
 ghost use lib.ListN.{length, getD};
-ghost use Rattle.terms.specs.Signature.{AcBinary};
-ghost use Rattle.terms.specs.Term.{weight, variableCount};
 ghost use Rattle.terms.specs.Words.{termOf};
-ghost use Rattle.terms.specs.Order.{noneOftener, mark as markOf, margin as marginOf};
+ghost use Rattle.terms.specs.Order.{mark as markOf};
 ghost use Rattle.symbols.specs.Table.{signatureOf};
-ghost use Rattle.equivalence.specs.Parts.{IsTerm};
-ghost use Rattle.order.specs.Compared.{Summaries, noneOftenerAt, weightAt, rootAt, relation as relationOf};
+ghost use Rattle.equivalence.specs.Keys.{Sides};
+ghost use Rattle.order.specs.Sums.{Totalled, totalsWithin};
+ghost use Rattle.order.specs.Compared.{Whole, noneOftenerAt, weightAt, rootAt, relation as relationOf};
 
-// Does no variable occur oftener in the right term?
-fn none_oftener_whole(table: &[u16], s: &[u16], sw: &[u64; 387], t: &[u16], tw: &[u64; 387]) -> bool
-    requires { ⌜ Summaries (now table) (now s) (now sw) (now t) (now tw) ⌝ }
-    ensures { λ r. ⌜ r ≡ noneOftenerAt (now (table .entry)) (now (s .entry)) 0 (now (t .entry)) 0 ⌝ }
+// Does no variable occur oftener in the term with the right totals?
+fn within(s: Totals, t: Totals) -> bool
+    ensures { λ r. ⌜ r ≡ totalsWithin s t ⌝ }
 {
-    if digits_within(sw[129], tw[129]) {
-        return digits_within(sw[258], tw[258]);
+    if digits_within(s.low, t.low) {
+        return digits_within(s.high, t.high);
     }
     false
 }
@@ -48,9 +47,22 @@ fn root_mark_differing(table: &[u16], s: &[u16], t: &[u16]) -> u8
     0
 }
 
-// The mark of two terms of equal weight, where no variable occurs oftener in the right one.
-fn mark_prepared(table: &[u16], s: &[u16], sw: &[u64; 387], t: &[u16], tw: &[u64; 387]) -> u8
-    requires { ⌜ Summaries (now table) (now s) (now sw) (now t) (now tw) ⌝ }
+// The mark by the roots of two whole terms that are prepared.
+fn root_mark_whole(table: &[u16], s: &[u16], sk: &[u64; 128], t: &[u16], tk: &[u64; 128]) -> u8
+    requires { ⌜ Sides (now table) (now s) (now sk) (now t) (now tk) ⌝ }
+    requires { ⌜ (0 < length (now s)) × (0 < length (now t)) ⌝ }
+    ensures { λ r. ⌜ r ≡ rootAt (now (table .entry)) (now (s .entry)) 0 (now (t .entry)) 0 ⌝ }
+{
+    let mut sw = [0u64; 387];
+    let mut tw = [0u64; 387];
+    sum_up(table, s, &mut sw);
+    sum_up(table, t, &mut tw);
+    root_mark(table, s, sk, &sw, 0, t, tk, &tw, 0)
+}
+
+// The mark of two terms of equal weight, where no variable occurs oftener in the right one and the roots are the same.
+fn mark_prepared(table: &[u16], s: &[u16], t: &[u16]) -> u8
+    requires { ⌜ Whole (now table) (now s) (now t) ⌝ }
     requires { ⌜
         (true ≡ noneOftenerAt (now table) (now s) 0 (now t) 0) × (weightAt (now table) (now s) 0 ≡ weightAt (now table) (now t) 0)
         ⌝ }
@@ -67,101 +79,85 @@ fn mark_prepared(table: &[u16], s: &[u16], sw: &[u64; 387], t: &[u16], tw: &[u64
     if equivalent(table, s, &sk, 0, t, &tk, 0) {
         return 9;
     }
-    let m = root_mark(table, s, &sk, sw, 0, t, &tk, tw, 0);
+    let m = root_mark_whole(table, s, &sk, t, &tk);
     if m > 0 {
         return m;
     }
     10
 }
 
-// The mark of two terms, by their sums first.
-fn mark_summed(table: &[u16], s: &[u16], sw: &[u64; 387], t: &[u16], tw: &[u64; 387]) -> u8
-    requires { ⌜ Summaries (now table) (now s) (now sw) (now t) (now tw) ⌝ }
+// The mark of two terms of equal weight, where no variable occurs oftener in the right one.
+fn mark_level(table: &[u16], s: &[u16], t: &[u16]) -> u8
+    requires { ⌜ Whole (now table) (now s) (now t) ⌝ }
+    requires { ⌜
+        (true ≡ noneOftenerAt (now table) (now s) 0 (now t) 0) × (weightAt (now table) (now s) 0 ≡ weightAt (now table) (now t) 0)
+        ⌝ }
     ensures { λ r. ⌜
         r
         ≡ markOf (signatureOf (now (table .entry))) (termOf (signatureOf (now (table .entry))) (now (s .entry)))
         (termOf (signatureOf (now (table .entry))) (now (t .entry)))
         ⌝ }
 {
-    if none_oftener_whole(table, s, sw, t, tw) {
-        let x = sw[0];
-        let y = tw[0];
-        if y < x {
+    if s[0] != t[0] {
+        let m = root_mark_differing(table, s, t);
+        if m > 0 {
+            return m;
+        }
+        return 10;
+    }
+    mark_prepared(table, s, t)
+}
+
+// The mark of two terms with these totals, 1 to 10.
+pub fn mark(table: &[u16], s: &[u16], st: Totals, t: &[u16], tt: Totals) -> u8
+    requires { ⌜ Whole (now table) (now s) (now t) ⌝ }
+    requires { ⌜ Totalled (signatureOf (now table)) (now s) st × Totalled (signatureOf (now table)) (now t) tt ⌝ }
+    ensures { λ r. ⌜
+        r
+        ≡ markOf (signatureOf (now (table .entry))) (termOf (signatureOf (now (table .entry))) (now (s .entry)))
+        (termOf (signatureOf (now (table .entry))) (now (t .entry)))
+        ⌝ }
+{
+    if within(st, tt) {
+        if tt.weight < st.weight {
             return 1;
         }
-        if x < y {
+        if st.weight < tt.weight {
             return 8;
         }
-        if s[0] != t[0] {
-            let m = root_mark_differing(table, s, t);
-            if m > 0 {
-                return m;
-            }
-            return 10;
-        }
-        return mark_prepared(table, s, sw, t, tw);
+        return mark_level(table, s, t);
     }
     7
 }
 
-// The mark of two terms, 1 to 10.
-pub fn mark(table: &[u16], s: &[u16], t: &[u16]) -> u8
-    requires { ⌜ (length (now table) ≤ 1025) × (length (now s) ≤ 128) × (length (now t) ≤ 128) ⌝ }
-    requires { ⌜ AcBinary (signatureOf (now table)) ⌝ }
-    requires { ⌜ IsTerm (signatureOf (now table)) (now s) × IsTerm (signatureOf (now table)) (now t) ⌝ }
-    ensures { λ r. ⌜
-        r
-        ≡ markOf (signatureOf (now (table .entry))) (termOf (signatureOf (now (table .entry))) (now (s .entry)))
-        (termOf (signatureOf (now (table .entry))) (now (t .entry)))
-        ⌝ }
-{
-    let mut sw = [0u64; 387];
-    let mut tw = [0u64; 387];
-    sum_up(table, s, &mut sw);
-    sum_up(table, t, &mut tw);
-    mark_summed(table, s, &sw, t, &tw)
-}
-
-// How two terms are related: 1 greater, 2 less, 3 AC-equivalent, 4 unrelated.
-pub fn relation(table: &[u16], s: &[u16], t: &[u16]) -> u8
-    requires { ⌜ (length (now table) ≤ 1025) × (length (now s) ≤ 128) × (length (now t) ≤ 128) ⌝ }
-    requires { ⌜ AcBinary (signatureOf (now table)) ⌝ }
-    requires { ⌜ IsTerm (signatureOf (now table)) (now s) × IsTerm (signatureOf (now table)) (now t) ⌝ }
+// How two terms with these totals are related: 1 greater, 2 less, 3 AC-equivalent, 4 unrelated.
+pub fn relation(table: &[u16], s: &[u16], st: Totals, t: &[u16], tt: Totals) -> u8
+    requires { ⌜ Whole (now table) (now s) (now t) ⌝ }
+    requires { ⌜ Totalled (signatureOf (now table)) (now s) st × Totalled (signatureOf (now table)) (now t) tt ⌝ }
     ensures { λ r. ⌜
         r
         ≡ relationOf (signatureOf (now (table .entry))) (termOf (signatureOf (now (table .entry))) (now (s .entry)))
         (termOf (signatureOf (now (table .entry))) (now (t .entry)))
         ⌝ }
 {
-    let mut sw = [0u64; 387];
-    let mut tw = [0u64; 387];
-    sum_up(table, s, &mut sw);
-    sum_up(table, t, &mut tw);
-    let m = mark_summed(table, s, &sw, t, &tw);
+    let m = mark(table, s, st, t, tt);
     if m <= 6 {
         return 1;
     }
     if m == 9 {
         return 3;
     }
-    let n = mark_summed(table, t, &tw, s, &sw);
+    let n = mark(table, t, tt, s, st);
     if n <= 6 {
         return 2;
     }
     4
 }
 
-// The weight of the left term minus that of the right one.
-pub fn margin(table: &[u16], s: &[u16], t: &[u16]) -> i64
-    requires { ⌜ (length (now table) ≤ 1025) × (length (now s) ≤ 128) × (length (now t) ≤ 128) ⌝ }
-    requires { ⌜ IsTerm (signatureOf (now table)) (now s) × IsTerm (signatureOf (now table)) (now t) ⌝ }
-    ensures { λ r. ⌜
-        r
-        ≡ marginOf (signatureOf (now (table .entry))) (termOf (signatureOf (now (table .entry))) (now (s .entry)))
-        (termOf (signatureOf (now (table .entry))) (now (t .entry)))
-        ⌝ }
+// The left weight minus the right one.
+pub fn margin(s: Totals, t: Totals) -> i64
+    requires { ⌜ (s .weight ≤ 8388608) × (t .weight ≤ 8388608) ⌝ }
+    ensures { λ r. ⌜ r ≡ subℕ (s .weight) (t .weight) ⌝ }
 {
-    let x = total_weight(table, s);
-    let y = total_weight(table, t);
-    x as i64 - y as i64
+    s.weight as i64 - t.weight as i64
 }

@@ -4,12 +4,19 @@ use symbols::variable_weight;
 use symbols::weight;
 use symbols::wide;
 ghost use mathlib.Core.Path.{_≡_};
-ghost use Prim.Native.Nat.{ℕ, _^_, _≤_, _<_};
-ghost use lib.ListN.{length};
+ghost use Prim.Native.Nat.{ℕ, _+_, _^_, _≤_, _<_};
+ghost use lib.ListN.{length, set};
 ghost use Rattle.symbols.specs.Table.{signatureOf};
 ghost use Rattle.equivalence.specs.Parts.{partAt};
 ghost use Rattle.equivalence.specs.Keys.{Prepared};
-ghost use Rattle.order.specs.Sums.{digit, digitsWithin, nodeSum, wordSum, termSum, Summed};
+ghost use Rattle.order.specs.Sums.{digit, digitsWithin, nodeSum, termSum, Bounded, Added, Totalled, Summed};
+
+// The sums over the words of a term: weights, and the occurrences of the variables 0 to 7 and 8 to 15 as digits.
+pub struct Totals {
+    pub weight: u64,
+    pub low: u64,
+    pub high: u64,
+}
 
 // 256 to the power of d.
 fn power(d: usize) -> u64
@@ -55,22 +62,49 @@ fn node_sum(table: &[u16], kind: usize, word: u16) -> u64
     place(8, x)
 }
 
-// Writes the sums of one kind over all words from each offset on.
-fn sum_kind(table: &[u16], kind: usize, words: &[u16], sums: &mut [u64; 387])
-    requires { ⌜ (kind < 3) × (length (now words) ≤ 128) × (length (now sums) ≡ 387) ⌝ }
-    ensures { λ r. ⌜ Summed (signatureOf (now (table .entry))) kind (now (words .entry)) (now (sums .exit)) ⌝ }
-    ensures { λ r. ⌜ ((other : ℕ) → other < 3 → (other ≡ kind → ⊥) →
-        Summed (signatureOf (now (table .entry))) other (now (words .entry)) (now (sums .entry)) →
-        Summed (signatureOf (now (table .entry))) other (now (words .entry)) (now (sums .exit))) ⌝ }
+// The sums with those of one more node.
+fn with_node(table: &[u16], word: u16, after: Totals) -> Totals
+    requires { ⌜ Bounded 127 after ⌝ }
+    ensures { λ r. ⌜ Added (signatureOf (now (table .entry))) word after r ⌝ }
+    ensures { λ r. ⌜ ((n : ℕ) → Bounded n after → Bounded (n + 1) r) ⌝ }
+{
+    Totals {
+        weight: after.weight + node_sum(table, 0, word),
+        low: after.low + node_sum(table, 1, word),
+        high: after.high + node_sum(table, 2, word),
+    }
+}
+
+// The sums over all words.
+pub fn total(table: &[u16], words: &[u16]) -> Totals
+    requires { ⌜ length (now words) ≤ 128 ⌝ }
+    ensures { λ r. ⌜ Totalled (signatureOf (now (table .entry))) (now (words .entry)) r ⌝ }
+    ensures { λ r. ⌜ r .weight ≤ 8388608 ⌝ }
 {
     let mut i = words.len();
-    let mut sum = 0u64;
-    sums[129 * kind + i] = 0;
+    let mut here = Totals {
+        weight: 0,
+        low: 0,
+        high: 0,
+    };
     while i > 0 {
         i -= 1;
-        sum += node_sum(table, kind, words[i]);
-        sums[129 * kind + i] = sum;
+        here = with_node(table, words[i], here);
     }
+    here
+}
+
+// Stores the sums of each kind at an offset.
+fn put_sums(sums: &mut [u64; 387], i: usize, here: Totals)
+    requires { ⌜ i < 129 ⌝ }
+    ensures { λ _. ⌜
+        now (sums .exit)
+        ≡ set (set (set (now (sums .entry)) i (here .weight)) (129 + i) (here .low)) (258 + i) (here .high)
+        ⌝ }
+{
+    sums[i] = here.weight;
+    sums[129 + i] = here.low;
+    sums[258 + i] = here.high;
 }
 
 // Writes the sums of all kinds over all words from each offset on.
@@ -79,9 +113,18 @@ pub fn sum_up(table: &[u16], words: &[u16], sums: &mut [u64; 387])
     ensures { λ r. ⌜ ((kind : ℕ) → kind < 3 →
         Summed (signatureOf (now (table .entry))) kind (now (words .entry)) (now (sums .exit))) ⌝ }
 {
-    sum_kind(table, 0, words, sums);
-    sum_kind(table, 1, words, sums);
-    sum_kind(table, 2, words, sums);
+    let mut i = words.len();
+    let mut here = Totals {
+        weight: 0,
+        low: 0,
+        high: 0,
+    };
+    put_sums(sums, i, here);
+    while i > 0 {
+        i -= 1;
+        here = with_node(table, words[i], here);
+        put_sums(sums, i, here);
+    }
 }
 
 // The sum of one kind over the term at i.
@@ -125,18 +168,4 @@ pub fn digits_within(left: u64, right: u64) -> bool
         n -= 1;
     }
     true
-}
-
-// The weight of all words.
-pub fn total_weight(table: &[u16], words: &[u16]) -> u64
-    requires { ⌜ length (now words) ≤ 128 ⌝ }
-    ensures { λ r. ⌜ (r ≡ wordSum (signatureOf (now (table .entry))) 0 (now (words .entry))) × (r < 9223372036854775808) ⌝ }
-{
-    let mut i = words.len();
-    let mut sum = 0u64;
-    while i > 0 {
-        i -= 1;
-        sum += node_sum(table, 0, words[i]);
-    }
-    sum
 }

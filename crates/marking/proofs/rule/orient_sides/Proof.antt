@@ -1,39 +1,40 @@
-use mathlib.Core.Path.{refl, _∙_}
 use native.Mathlib.Omega.{arith}
-use Rattle.symbols.specs.Table.{signatureOf}
-use Rattle.symbols.proofs.TableLaws.{few-at}
-use Rattle.order.proofs.WholeLaws.{whole-sum}
-use Rattle.marking.proofs.OrientLaws.{whole-term}
+use mathlib.Core.Path.{refl}
+use Rattle.order.proofs.WholeLaws.{left-weight, right-weight}
+use Rattle.marking.proofs.OrientLaws.{whole-terms}
 use borrow.Author.Needs.{needs}
 use Rattle.marking.proofs.rule.orient_sides.Statement.{statement}
 use Rattle.marking.proofs.rule.orient_sides.Tie as tie
+use Rattle.marking.proofs.rule.orient_sides.Reads as reads
+use Rattle.marking.proofs.rule.orient_sides.Lts as lts
+use Rattle.order.proofs.mark.mark.Reads as mark-reads
+use Rattle.order.proofs.sums.total.Reads as total-reads
+
+total-requires : tie.Need-total-requires
+total-requires c κs = search needs
+
+total-requires-2 : tie.Need-total-requires-2
+total-requires-2 c κs = search needs
 
 mark-requires : tie.Need-mark-requires
-mark-requires c κs = search needs
-
-total-weight-requires : tie.Need-total-weight-requires
-total-weight-requires c κs = search needs
-
-total-weight-requires-2 : tie.Need-total-weight-requires-2
-total-weight-requires-2 c κs = search needs
+mark-requires c κs =
+    let (T, left, right) = c .before .before .before .before .before .pre in
+    (whole-terms T left right, (c .before .total .ensures .0, c .total2 .ensures .0))
 
 returns : tie.Need-returns
 returns c =
-    let a = c .before .before .before .before .before .before .args in
-    let σ = signatureOf (a .table .now) in
-    let few = few-at (a .table .now) (omega (arith, c .before .before .before .before .before .before .pre .0 .short))
-    in (
+    let (T, left, right) = c .before .before .before .before .before .before .pre in
+    let S = whole-terms T left right in
+    let (A, few) = c .before .before .total .ensures in
+    let (B, less) = c .before .total2 .ensures in (
       record {
-        mark = c .before .before .mark .ensures;
-        left = c .before .total-weight .ensures .0 ∙ whole-sum σ few 0 (a .left .now)
-            (whole-term σ (a .left .now) (c .before .before .before .before .before .before .pre .1));
-        right = c .total-weight2 .ensures .0 ∙ whole-sum σ few 0 (a .right .now)
-            (whole-term σ (a .right .now) (c .before .before .before .before .before .before .pre .2));
+        mark = c .mark .ensures;
+        left = left-weight S A B;
+        right = right-weight S A B;
         next = refl;
       },
-      (omega (arith, c .before .total-weight .ensures .1), omega (arith, c .total-weight2 .ensures .1)),
+      (omega arith, omega arith),
     )
 
 pub orient-sides-spec : {M : Type 1} → statement M
-orient-sides-spec =
-    tie.close (tie.spec mark-requires total-weight-requires total-weight-requires-2 returns)
+orient-sides-spec = tie.close (tie.spec total-requires total-requires-2 mark-requires returns)

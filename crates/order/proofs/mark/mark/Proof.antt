@@ -1,35 +1,58 @@
-use borrow.Author.Needs.{needs}
 use native.Mathlib.Omega.{arith}
-use mathlib.Core.Path.{refl}
+use mathlib.Core.Path.{sym, _∙_}
+use Rattle.terms.specs.Words.{termOf}
+use Rattle.symbols.specs.Table.{signatureOf}
+use Rattle.order.proofs.MarkLaws.{whole-seven, whole-one, whole-eight}
+use Rattle.order.proofs.WholeLaws.{left-weight, right-weight, within-none}
+use borrow.Author.Needs.{needs}
 use Rattle.order.proofs.mark.mark.Statement.{statement}
 use Rattle.order.proofs.mark.mark.Tie as tie
 use Rattle.order.proofs.mark.mark.Reads as reads
 use Rattle.order.proofs.mark.mark.Lts as lts
-use Rattle.order.proofs.mark.mark_summed.Reads as mark-summed-reads
-use Rattle.order.proofs.sums.sum_up.Reads as sum-up-reads
+use Rattle.order.proofs.mark.mark_level.Reads as mark-level-reads
+use Rattle.order.proofs.mark.within.Reads as within-reads
 
-sum-up-requires : tie.Need-sum-up-requires
-sum-up-requires c κs = (omega arith, refl)
-
-sum-up-requires-2 : tie.Need-sum-up-requires-2
-sum-up-requires-2 c κs = (omega arith, refl)
-
-mark-summed-requires : tie.Need-mark-summed-requires
-mark-summed-requires c κs =
-    let h = c .before .before .before .before .before .before .before .before .before .pre in
-    record {
-      small = h .0 .0;
-      binary = h .1 .0;
-      left = h .1 .1 .0;
-      right = h .1 .1 .1;
-      leftShort = h .0 .1;
-      rightShort = h .0 .2;
-      leftSums = c .before .before .before .before .sum-up .ensures;
-      rightSums = c .before .before .sum-up2 .ensures;
-    }
+within-requires : tie.Need-within-requires
+within-requires c κs = search needs
 
 returns : tie.Need-returns
-returns c = search needs
+returns c =
+    let a = c .before .before .before .before .before .before .before .before .args in
+    let (S, (A, B)) = c .before .before .before .before .before .before .before .before .pre in
+    let σ = signatureOf (a .table .now) in
+    let none = sym (c .before .before .before .if1 .taken) ∙ c .before .before .before .before .within .ensures ∙ within-none S A B in
+    whole-one σ (termOf σ (a .s .now)) (termOf σ (a .t .now)) none (left-weight S A B) (right-weight S A B)
+    (c .if2 .taken)
+
+returns-2 : tie.Need-returns-2
+returns-2 c =
+    let a = c .before .before .before .before .before .before .before .before .before .before .before .args in
+    let (S, (A, B)) = c .before .before .before .before .before .before .before .before .before .before .before .pre in
+    let σ = signatureOf (a .table .now) in
+    let none = sym (c .before .before .before .before .before .before .if1 .taken) ∙ c .before .before .before .before .before .before .before .within .ensures ∙ within-none S A B in
+    whole-eight σ (termOf σ (a .s .now)) (termOf σ (a .t .now)) none (left-weight S A B) (right-weight S A B)
+    (c .if3 .taken)
+
+mark-level-requires : tie.Need-mark-level-requires
+mark-level-requires c κs =
+    let (S, (A, B)) = c .before .before .before .before .before .before .before .before .before .before .before .pre in (
+      S,
+      (
+        sym (c .before .before .before .before .before .before .if1 .taken) ∙ c .before .before .before .before .before .before .before .within .ensures ∙ within-none S A B,
+        omega (arith, left-weight S A B, right-weight S A B),
+      ),
+    )
+
+returns-3 : tie.Need-returns-3
+returns-3 c = search needs
+
+returns-4 : tie.Need-returns-4
+returns-4 c =
+    let a = c .before .before .before .before .before .args in
+    let (S, (A, B)) = c .before .before .before .before .before .pre in
+    let σ = signatureOf (a .table .now) in
+    whole-seven σ (termOf σ (a .s .now)) (termOf σ (a .t .now)) (sym (c .if1 .left) ∙ c .before .within .ensures ∙ within-none S A B)
 
 pub mark-spec : {M : Type 1} → statement M
-mark-spec = tie.close (tie.spec sum-up-requires sum-up-requires-2 mark-summed-requires returns)
+mark-spec =
+    tie.close (tie.spec within-requires returns returns-2 mark-level-requires returns-3 returns-4)

@@ -1,5 +1,3 @@
-use borrow.Author.Needs.{needs}
-use native.Mathlib.Omega.{arith}
 use mathlib.Core.Path.{refl, sym, _∙_}
 use Rattle.terms.specs.Words.{termOf}
 use Rattle.symbols.specs.Table.{signatureOf}
@@ -7,14 +5,14 @@ use Rattle.symbols.proofs.TableLaws.{few-at}
 use Rattle.equivalence.proofs.FormedLaws.{term-complete}
 use Rattle.order.proofs.EquivalentLaws.{mark-of-equivalent}
 use Rattle.order.proofs.MarkLaws.{whole-root, whole-ten}
-use Rattle.order.proofs.WholeLaws.{whole-formed, left-some, right-some, whole-sides, whole-scales}
+use Rattle.order.proofs.WholeLaws.{left-some, right-some, left-formed, right-formed, whole-sides}
 use Rattle.order.proofs.mark.mark_prepared.Statement.{statement}
 use Rattle.order.proofs.mark.mark_prepared.Tie as tie
 use Rattle.order.proofs.mark.mark_prepared.Reads as reads
 use Rattle.order.proofs.mark.mark_prepared.Lts as lts
 use Rattle.equivalence.proofs.equivalence.equivalent.Reads as equivalent-reads
 use Rattle.equivalence.proofs.keys.prepare.Reads as prepare-reads
-use Rattle.order.proofs.compare.root_mark.Reads as root-mark-reads
+use Rattle.order.proofs.mark.root_mark_whole.Reads as root-mark-whole-reads
 
 prepare-requires : tie.Need-prepare-requires
 prepare-requires c κs =
@@ -42,27 +40,30 @@ returns c =
     let a = c .before .before .before .before .before .before .before .before .before .before .before .args in
     let S = c .before .before .before .before .before .before .before .before .before .before .before .pre .0 in
     let σ = signatureOf (a .table .now) in
-    let few = few-at (a .table .now) (S .small) in
-    mark-of-equivalent σ (S .binary) (termOf σ (a .s .now)) (termOf σ (a .t .now)) (whole-formed σ few (a .s .now) (S .left))
-    (whole-formed σ few (a .t .now) (S .right)) (sym (c .before .equivalent .ensures) ∙ c .if1 .taken)
+    mark-of-equivalent σ (S .binary) (termOf σ (a .s .now)) (termOf σ (a .t .now)) (left-formed S) (right-formed S)
+    (sym (c .before .equivalent .ensures) ∙ c .if1 .taken)
 
-root-mark-requires : tie.Need-root-mark-requires
-root-mark-requires c κs =
+root-mark-whole-requires : tie.Need-root-mark-whole-requires
+root-mark-whole-requires c κs =
     let S = c .before .before .before .before .before .before .before .before .before .before .before .before .before .pre .0 in
-    (whole-scales S (c .before .before .before .before .before .before .before .before .prepare .ensures) (c .before .before .before .before .before .before .prepare2 .ensures), (left-some S, right-some S))
+    (whole-sides S (c .before .before .before .before .before .before .before .before .prepare .ensures) (c .before .before .before .before .before .before .prepare2 .ensures), (left-some S, right-some S))
 
 returns-2 : tie.Need-returns-2
 returns-2 c =
     let a = c .before .before .before .before .before .before .before .before .before .before .before .before .before .before .before .args in
+    let h = c .before .before .before .before .before .before .before .before .before .before .before .before .before .before .before .pre .1 in
     let σ = signatureOf (a .table .now) in
-    whole-root σ (termOf σ (a .s .now)) (termOf σ (a .t .now)) (c .before .before .before .before .before .before .before .before .before .before .before .before .before .before .before .pre .1 .0) refl refl (c .before .before .before .before .before .before .before .before .before .before .before .before .before .before .before .pre .1 .1) (c .before .root-mark .ensures) (c .if2 .taken)
+    whole-root σ (termOf σ (a .s .now)) (termOf σ (a .t .now)) (h .0) refl refl (h .1) (c .before .root-mark-whole .ensures)
+    (c .if2 .taken)
 
 returns-3 : tie.Need-returns-3
 returns-3 c =
     let a = c .before .before .before .before .before .before .before .before .before .before .before .before .before .before .before .args in
+    let h = c .before .before .before .before .before .before .before .before .before .before .before .before .before .before .before .pre .1 in
     let σ = signatureOf (a .table .now) in
-    whole-ten σ (termOf σ (a .s .now)) (termOf σ (a .t .now)) (c .before .before .before .before .before .before .before .before .before .before .before .before .before .before .before .pre .1 .0) refl refl (c .before .before .before .before .before .before .before .before .before .before .before .before .before .before .before .pre .1 .1) (c .before .root-mark .ensures) (c .if2 .left)
-    (sym (c .before .before .before .before .if1 .left) ∙ c .before .before .before .before .before .equivalent .ensures)
+    let unlike = sym (c .before .before .before .before .if1 .left) in
+    whole-ten σ (termOf σ (a .s .now)) (termOf σ (a .t .now)) (h .0) refl refl (h .1) (c .before .root-mark-whole .ensures)
+    (c .if2 .left) (unlike ∙ c .before .before .before .before .before .equivalent .ensures)
 
 pub mark-prepared-spec : {M : Type 1} → statement M
 mark-prepared-spec =
@@ -72,6 +73,6 @@ mark-prepared-spec =
     prepare-requires-2
     equivalent-requires
     returns
-    root-mark-requires
+    root-mark-whole-requires
     returns-2
     returns-3)

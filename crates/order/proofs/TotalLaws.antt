@@ -1,0 +1,103 @@
+-- The sums over the words of a term, and those from each offset on, as they are stored.
+--     totalled-none, totalled-more, bounded-more     the sums, node by node from the right
+--     stored-room, stored-from                       storing them
+use mathlib.Core.List.{List}
+use mathlib.Core.Path.{_≡_, refl, _∙_}
+use Prim.Native.Nat.{ℕ, suc, zero, _+_, _-_, _*_, _≤_, _<_}
+use native.Mathlib.Omega.{arith}
+use native.Mathlib.Numerals.{add-one}
+use lib.ListN.{length, getD, drop, set, length-set}
+use lib.Seq.{drop-cons, drop-length, getD-set-same, getD-set-other}
+use Rattle.multisets.proofs.Relations.{byOrder}
+use Rattle.terms.specs.Signature.{Signature}
+use Rattle.order.specs.declared.sums.Totals.{Totals}
+use Rattle.order.specs.Sums.{nodeSum, wordSum, Bounded, Added, Totalled, Summed}
+
+pub bounded-more : {m n : ℕ} {r : Totals} → m ≤ n → Bounded m r → Bounded n r
+bounded-more h b = record {
+  weight = omega (arith, b .weight);
+  low = omega (arith, b .low);
+  high = omega (arith, b .high);
+}
+
+abbrev pub SummedFrom : Signature → ℕ → List ℕ → List ℕ → ℕ → Type 0
+SummedFrom σ kind ws sums i =
+    (k : ℕ) → i ≤ k → k ≤ length ws → getD sums (129 * kind + k) 0 ≡ wordSum σ kind (drop k ws)
+
+pub sum-more : (σ : Signature) (kind : ℕ) (ws : List ℕ) (i sum v : ℕ) → 0 < i → i ≤ length ws →
+    sum ≡ wordSum σ kind (drop i ws) → v ≡ nodeSum σ kind (getD ws (i - 1) 0) →
+    sum + v ≡ wordSum σ kind (drop (i - 1) ws)
+sum-more σ kind ws i sum v p h e d =
+    let f : i - 1 + 1 ≡ i = omega arith in
+    let n : wordSum σ kind (drop (i - 1) ws) ≡ nodeSum σ kind (getD ws (i - 1) 0) + wordSum σ kind (drop (i - 1 + 1) ws) =
+    rw (drop-cons ws (i - 1) 0 (omega arith), add-one) in
+    omega (arith, rw f at n)
+
+module _ (σ : Signature) where
+  pub totalled-none : (ws : List ℕ) → Totalled σ (drop (length ws) ws) (record { weight = 0; low = 0; high = 0 })
+  totalled-none ws = record { weight = rw (drop-length ws); low = rw (drop-length ws); high = rw (drop-length ws) }
+
+  pub totalled-more : (ws : List ℕ) (i : ℕ) (here more : Totals) → 0 < i → i ≤ length ws →
+      Totalled σ (drop i ws) here → Added σ (getD ws (i - 1) 0) here more → Totalled σ (drop (i - 1) ws) more
+  totalled-more ws i here more p h t a = record {
+    weight = a .weight ∙ sum-more σ 0 ws i (here .weight) _ p h (t .weight) refl;
+    low = a .low ∙ sum-more σ 1 ws i (here .low) _ p h (t .low) refl;
+    high = a .high ∙ sum-more σ 2 ws i (here .high) _ p h (t .high) refl;
+  }
+
+-- The sums of all kinds from an offset on.
+abbrev pub AllFrom : Signature → List ℕ → List ℕ → ℕ → Type 0
+AllFrom σ ws sums i = (kind : ℕ) → kind < 3 → SummedFrom σ kind ws sums i
+
+-- What the sums of one kind are.
+abbrev total : ℕ → Totals → ℕ
+total zero r = r .weight
+total (suc zero) r = r .low
+total (suc (suc kind)) r = r .high
+
+-- The sums as they are stored at an offset.
+abbrev pub stored : List ℕ → ℕ → Totals → List ℕ
+stored sums i r = set (set (set sums i (r .weight)) (129 + i) (r .low)) (258 + i) (r .high)
+
+module _ (sums : List ℕ) (i : ℕ) (r : Totals) (h : i < 129) (room : length sums ≡ 387) where
+  -- With one sum stored, and with two.
+  abbrev one : List ℕ
+  one = set sums i (r .weight)
+
+  abbrev two : List ℕ
+  two = set one (129 + i) (r .low)
+
+  stored-same : (kind : ℕ) → kind < 3 → getD (stored sums i r) (129 * kind + i) 0 ≡ total kind r
+  stored-same zero l =
+      let e : 129 * 0 + i ≡ i = omega arith in
+      rw e (getD-set-other two (258 + i) i (r .high) 0 (λ z. omega arith)
+      ∙ getD-set-other one (129 + i) i (r .low) 0 (λ z. omega arith) ∙ getD-set-same sums i (r .weight) 0 (omega arith))
+  stored-same (suc zero) l =
+      getD-set-other two (258 + i) (129 + i) (r .high) 0 (λ z. omega arith)
+      ∙ getD-set-same one (129 + i) (r .low) 0 (omega (arith, length-set sums i (r .weight)))
+  stored-same (suc (suc zero)) l =
+      getD-set-same two (258 + i) (r .high) 0
+      (omega (arith, length-set sums i (r .weight), length-set one (129 + i) (r .low)))
+  stored-same (suc (suc (suc kind))) l = absurd (omega arith)
+
+  stored-other : (kind k : ℕ) → kind < 3 → k < 129 → (k ≡ i → ⊥) →
+      getD (stored sums i r) (129 * kind + k) 0 ≡ getD sums (129 * kind + k) 0
+  stored-other kind k l p d =
+      getD-set-other two (258 + i) (129 * kind + k) (r .high) 0 (λ e. d (omega arith))
+      ∙ getD-set-other one (129 + i) (129 * kind + k) (r .low) 0 (λ e. d (omega arith))
+      ∙ getD-set-other sums i (129 * kind + k) (r .weight) 0 (λ e. d (omega arith))
+
+  pub stored-room : length (stored sums i r) ≡ 387
+  stored-room = simp length-set room
+
+  module _ (σ : Signature) (ws : List ℕ) (short : length ws ≤ 128) (T : Totalled σ (drop i ws) r) where
+    total-kind : (kind : ℕ) → kind < 3 → total kind r ≡ wordSum σ kind (drop i ws)
+    total-kind zero l = T .weight
+    total-kind (suc zero) l = T .low
+    total-kind (suc (suc zero)) l = T .high
+    total-kind (suc (suc (suc kind))) l = absurd (omega arith)
+
+    pub stored-from : AllFrom σ ws sums (i + 1) → AllFrom σ ws (stored sums i r) i
+    stored-from m kind l k p q =
+        byOrder i k (λ a. stored-other kind k l (omega arith) (λ e. omega arith) ∙ m kind l k (omega arith) q)
+        λ a. let e : k ≡ i = omega arith in rw e (stored-same kind l ∙ total-kind kind l)

@@ -1,0 +1,23 @@
+use mathlib.Core.Path.{sym, _∙_}
+use borrow.Author.Needs.{needs}
+use Rattle.order.proofs.mark.within.Statement.{statement}
+use Rattle.order.proofs.mark.within.Tie as tie
+use Rattle.order.proofs.mark.within.Reads as reads
+use Rattle.order.proofs.mark.within.Lts as lts
+use Rattle.order.proofs.sums.digits_within.Reads as digits-within-reads
+
+digits-within-requires : tie.Need-digits-within-requires
+digits-within-requires c κs = search needs
+
+digits-within-requires-2 : tie.Need-digits-within-requires-2
+digits-within-requires-2 c κs = search needs
+
+returns : tie.Need-returns
+returns c = c .digits-within2 .ensures ∙ rw (sym (c .before .before .digits-within .ensures) ∙ c .before .if1 .taken)
+
+returns-2 : tie.Need-returns-2
+returns-2 c = rw (sym (c .before .digits-within .ensures) ∙ c .if1 .left)
+
+pub within-spec : {M : Type 1} → statement M
+within-spec =
+    tie.close (tie.spec digits-within-requires digits-within-requires-2 returns returns-2)

@@ -1,6 +1,6 @@
 -- Laws of reading terms from words.
 --     walk-none, walk-refused, walk-one       no term, no node allowed, one term by its node
---     walk-more, walk-left                    some terms, one after the other; each takes a node
+--     walk-first, walk-left                   some terms by their first node; none is allowed that was not
 --     forest-front                            the nodes read are words in a row
 --     first-term, first-refused, whole-term, first-fits   a term's nodes are the first words
 --     symbol-count                            how many symbols a table has
@@ -33,14 +33,14 @@ use Rattle.format.proofs.ForestLaws.{
   one-symbol,
   row-more,
 }
-use Rattle.format.proofs.ForestLaws.{forest-short, forest-long, before, following}
+use Rattle.format.proofs.ForestLaws.{before, following}
 use Rattle.symbols.specs.Table.{symbolsAt, signatureOf}
 use Rattle.words.specs.declared.cursor.WordCursor.{WordCursor}
 use Rattle.words.specs.declared.term.NodeReading.{NodeReading}
 use Rattle.words.specs.declared.term.NodeReading.the-variants as node
 use Rattle.words.specs.declared.term.Walk.{Walk}
 use Rattle.words.specs.declared.term.Walk.the-variants as walk
-use Rattle.words.specs.Term.{nodeOf, walkOf, termReading}
+use Rattle.words.specs.Term.{nodeOf, walkOf, walked, termReading}
 
 -- What follows a node, and what follows some terms.
 abbrev pub onNode : NodeReading → (ℕ → WordCursor → Walk) → Walk
@@ -75,8 +75,8 @@ module _ (source : Source) (σ : Signature) where
   walk-none a n at e = rw (e, nothing-owed source σ a at) (ap (λ (k : ℕ). walk.Done k (record { at = at }))
       (sub-zero a))
 
-  pub walk-refused : (a at : ℕ) → a ≡ 0 → walkOf a (forestReader source σ a 1 at) ≡ walk.Fault tooManyNodes at
-  walk-refused a at e = rw (e, none-allowed source σ 1 at (omega arith))
+  pub walk-refused : (a n at : ℕ) → a ≡ 0 → 0 < n → walked source σ a n at ≡ walk.Fault tooManyNodes at
+  walk-refused a n at e h = rw (e, none-allowed source σ n at h)
 
   walk-known : (a at : ℕ) → 0 < a → (v : Node) (next : ℕ) → source .node at ≡ got v next →
       walkOf a (forestReader source σ a 1 at) ≡
@@ -102,22 +102,28 @@ module _ (source : Source) (σ : Signature) where
       go (got v next) e = walk-known a at h v next e
       go (fault code offset) e = rw (one-fault source σ a at h code offset e)
 
-  pub walk-more : (a n at : ℕ) → 0 < n → walkOf a (forestReader source σ a n at) ≡
-      onWalk (walkOf a (forestReader source σ a 1 at)) (λ left c. walkOf left
-      (forestReader source σ left (n - 1) (c .at)))
+  walk-more : (a n at : ℕ) → 0 < n → walked source σ a n at ≡
+      onWalk (walked source σ a 1 at) (λ left c. walked source σ left (n - 1) (c .at))
   walk-more a n at h =
       ap (walkOf a) (row-more source σ a n at h)
       ∙ walk-after a (forestReader source σ a 1 at) (λ left. forestReader source σ left (n - 1))
 
-  pub walk-left : (a at left : ℕ) (c : WordCursor) → walkOf a (forestReader source σ a 1 at) ≡ walk.Done left c →
-      left < a
-  walk-left a at left c = go (forestReader source σ a 1 at) refl
+  pub walk-first : (a n at : ℕ) → 0 < a → 0 < n → walked source σ a n at ≡
+      onNode (nodeOf σ (source .node at))
+      (λ k next. onWalk (walked source σ (a - 1) k (next .at)) (λ left c. walked source σ left (n - 1) (c .at)))
+  walk-first a n at h k = walk-more a n at k ∙ rw (walk-one a at h) (go (nodeOf σ (source .node at)))
     where
-      go : (r : Reading (List ℕ)) → forestReader source σ a 1 at ≡ r → walkOf a r ≡ walk.Done left c → left < a
-      go (got xs next) e f =
-          let l : a - length xs ≡ left = cc in
-          omega (arith, forest-short source σ a 1 at xs next e, forest-long source σ a 1 at xs next e)
-      go (fault code offset) e f = let z : _≡_ {A = ℕ} 0 1 = cc in absurd (omega arith)
+      go : (r : NodeReading) →
+          onWalk (onNode r (λ k next. walked source σ (a - 1) k (next .at)))
+          (λ left c. walked source σ left (n - 1) (c .at))
+          ≡ onNode r
+          (λ k next. onWalk (walked source σ (a - 1) k (next .at)) (λ left c. walked source σ left (n - 1) (c .at)))
+      go (node.Got k next) = refl
+      go (node.Fault code offset) = refl
+
+pub walk-left : (a : ℕ) (r : Reading (List ℕ)) (left : ℕ) (c : WordCursor) → walkOf a r ≡ walk.Done left c → left ≤ a
+walk-left a (got xs next) left c e = let l : a - length xs ≡ left = cc in omega arith
+walk-left a (fault code offset) left c e = let z : _≡_ {A = ℕ} 0 1 = cc in absurd (omega arith)
 
 -- ---- the nodes are words in a row
 

@@ -1,12 +1,11 @@
 // Reading a term from words.
 ghost use mathlib.Core.Path.{_≡_};
-ghost use Prim.Native.Nat.{_+_, _/_};
-ghost use lib.ListN.{length};
+ghost use Prim.Native.Nat.{_<_};
 ghost use Rattle.format.specs.Reading.{wordSource};
 ghost use Rattle.format.specs.Format.{forestReader};
 ghost use Rattle.format.specs.Files.{readFirstTerm, readTerm};
 ghost use Rattle.symbols.specs.Table.{signatureOf};
-ghost use Rattle.words.specs.Term.{nodeOf, walkOf, termReading};
+ghost use Rattle.words.specs.Term.{nodeOf, walkOf, walked, Onward, termReading};
 use crate::cursor::WordCursor;
 use crate::cursor::WordReading;
 
@@ -21,6 +20,13 @@ pub enum NodeReading {
 // The nodes still allowed and the cursor past the terms read, or an error's code and offset.
 pub enum Walk {
     Done(usize, WordCursor),
+    Fault(u8, usize),
+}
+
+// The nodes still allowed, the cursor past what was read and how many terms are owed there, or an error's code and
+// offset.
+pub enum Progress {
+    To(usize, WordCursor, usize),
     Fault(u8, usize),
 }
 
@@ -42,7 +48,7 @@ fn node(table: &[u16], words: &[u16], c: WordCursor) -> NodeReading
             let next = word.next;
             if 256 <= word.value {
                 NodeReading::Got(0, next)
-            } else if symbols::wide(word.value) < (table.len() + 2) / 4 {
+            } else if 4 * symbols::wide(word.value) + 1 < table.len() {
                 NodeReading::Got(symbols::arity(table, word.value), next)
             } else {
                 NodeReading::Fault(9, c.at)
@@ -51,7 +57,57 @@ fn node(table: &[u16], words: &[u16], c: WordCursor) -> NodeReading
     }
 }
 
-// Reads one term: its node, then its arguments.
+// Reads on where terms are owed. Of the last one only the node is read, and its arguments are owed in its stead; any
+// other is read whole.
+fn advance(table: &[u16], words: &[u16], c: WordCursor, allowed: usize, owed: usize) -> Progress
+    requires { ⌜ 0 < owed ⌝ }
+    ensures { λ r. ⌜
+        Onward (walked (wordSource (now (words .entry))) (signatureOf (now (table .entry)))) allowed owed (c .at) r
+        ⌝ }
+{
+    if allowed == 0 {
+        return Progress::Fault(10, c.at);
+    }
+    match node(table, words, c) {
+        NodeReading::Fault(code, offset) => Progress::Fault(code, offset),
+        NodeReading::Got(arity, next) => {
+            if owed == 1 {
+                return Progress::To(allowed - 1, next, arity);
+            }
+            if arity == 0 {
+                return Progress::To(allowed - 1, next, owed - 1);
+            }
+            match row(table, words, next, allowed - 1, arity) {
+                Walk::Fault(code, offset) => Progress::Fault(code, offset),
+                Walk::Done(left, after) => Progress::To(left, after, owed - 1),
+            }
+        }
+    }
+}
+
+// Reads as many terms as are owed.
+fn row(table: &[u16], words: &[u16], c: WordCursor, allowed: usize, owed: usize) -> Walk
+    ensures { λ r. ⌜
+        r ≡ walked (wordSource (now (words .entry))) (signatureOf (now (table .entry))) allowed owed (c .at)
+        ⌝ }
+{
+    let mut left = allowed;
+    let mut here = c;
+    let mut still = owed;
+    while 0 < still {
+        match advance(table, words, here, left, still) {
+            Progress::Fault(code, offset) => return Walk::Fault(code, offset),
+            Progress::To(fewer, next, more) => {
+                left = fewer;
+                here = next;
+                still = more;
+            }
+        }
+    }
+    Walk::Done(left, here)
+}
+
+// Reads one term.
 pub fn term(table: &[u16], words: &[u16], c: WordCursor, allowed: usize) -> Walk
     ensures { λ r. ⌜
         r
@@ -59,30 +115,7 @@ pub fn term(table: &[u16], words: &[u16], c: WordCursor, allowed: usize) -> Walk
         (forestReader (wordSource (now (words .entry))) (signatureOf (now (table .entry))) allowed 1 (c .at))
         ⌝ }
 {
-    if allowed == 0 {
-        return Walk::Fault(10, c.at);
-    }
-    match node(table, words, c) {
-        NodeReading::Fault(code, offset) => Walk::Fault(code, offset),
-        NodeReading::Got(arity, next) => row(table, words, next, allowed - 1, arity),
-    }
-}
-
-// Reads as many terms as are owed.
-fn row(table: &[u16], words: &[u16], c: WordCursor, allowed: usize, owed: usize) -> Walk
-    ensures { λ r. ⌜
-        r
-        ≡ walkOf allowed
-        (forestReader (wordSource (now (words .entry))) (signatureOf (now (table .entry))) allowed owed (c .at))
-        ⌝ }
-{
-    if owed == 0 {
-        return Walk::Done(allowed, c);
-    }
-    match term(table, words, c, allowed) {
-        Walk::Fault(code, offset) => Walk::Fault(code, offset),
-        Walk::Done(left, after) => row(table, words, after, left, owed - 1),
-    }
+    row(table, words, c, allowed, 1)
 }
 
 // Reads the term that stands first among the words.

@@ -29,6 +29,9 @@ enum-known-word c = search needs
 wide-requires : tie.Need-wide-requires
 wide-requires c κs = search needs
 
+mul-if2 : tie.Need-mul-if2
+mul-if2 c = search needs
+
 add-if2 : tie.Need-add-if2
 add-if2 c = search needs
 
@@ -96,6 +99,7 @@ node-spec =
     enum-known-code
     enum-known-word
     wide-requires
+    mul-if2
     add-if2
     arity-requires
     returns

@@ -166,3 +166,30 @@ module _ (σ : Signature) (s t : Term) {m n : ℕ} (h : m ≡ mark σ s t) (k : 
   unfolding relation
   relation-none B v w d p =
       rw (not-greater-of-mark σ s t h l, not-greater-of-mark σ t s k p, unlike-of-mark σ s t h B v w d)
+
+-- ---- terms of equal weight
+
+module _ (σ : Signature) (s t : Term) where
+  unfolds : isGreater σ s t ≡ ltb 0 (byNone (noneOftener variableCount s t) (weight σ s) (weight σ t) (root σ s t))
+  unfolding decreasingMark
+  unfolds = isGreater-unfolds σ s t
+
+  pub level-greater : weight σ s ≡ weight σ t → true ≡ noneOftener variableCount s t → {m : ℕ} → m ≡ root σ s t →
+      {r : Bool} → r ≡ ltb 0 m → r ≡ isGreater σ s t
+  level-greater l e h q =
+      q ∙ rw (unfolds, ← e, h, le-ltb (weight σ t) (weight σ s) (omega arith), eq-eqb (weight σ t) (weight σ s) (sym l))
+
+  pub level-oftener : false ≡ noneOftener variableCount s t → false ≡ isGreater σ s t
+  level-oftener e = rw (unfolds, ← e)
+
+  pub level-one : true ≡ isGreater σ s t → 1 ≡ relation σ s t
+  unfolding relation
+  level-one e = rw (← e)
+
+  pub level-two : false ≡ isGreater σ s t → true ≡ isGreater σ t s → 2 ≡ relation σ s t
+  unfolding relation
+  level-two e d = rw (← e, ← d)
+
+  pub level-four : false ≡ isGreater σ s t → false ≡ isGreater σ t s → false ≡ isEquivalent σ s t → 4 ≡ relation σ s t
+  unfolding relation
+  level-four e d c = rw (← e, ← d, ← c)

@@ -21,12 +21,12 @@ use Rattle.terms.specs.Order.{margin}
 use Rattle.terms.proofs.WordsLaws.{length-words, termOf-words}
 use Rattle.symbols.specs.Table.{signatureOf}
 use Rattle.symbols.proofs.TableLaws.{few-at}
-use Rattle.equivalence.specs.Parts.{IsTerm}
+use Rattle.equivalence.specs.Parts.{IsTerm, Complete}
 use Rattle.equivalence.specs.Keys.{Prepared, Sides}
-use Rattle.equivalence.proofs.FormedLaws.{term-some}
+use Rattle.equivalence.proofs.FormedLaws.{term-some, term-complete}
 use Rattle.order.specs.Sums.{nodes, atVariable, atSymbol, wordSum, termSum, digitsWithin, totalsWithin, Totalled}
 use Rattle.order.specs.declared.sums.Totals.{Totals}
-use Rattle.order.specs.Compared.{Whole, weightAt, noneOftenerAt}
+use Rattle.order.specs.Compared.{Whole, Level, weightAt, noneOftenerAt}
 use Rattle.order.proofs.OccurrenceLaws.{none-oftener-of, oftener-low, oftener-high}
 
 module _ (σ : Signature) (few : length (σ .symbols) ≤ 256) (v w : ℕ → ℕ) where
@@ -68,6 +68,12 @@ module _ {table s t : List ℕ} (S : Whole table s t) where
 
   pub right-some : 0 < length t
   right-some = term-some (signatureOf table) few t (S .right)
+
+  pub left-complete : Complete (signatureOf table) s
+  left-complete = term-complete (signatureOf table) few s (S .left)
+
+  pub right-complete : Complete (signatureOf table) t
+  right-complete = term-complete (signatureOf table) few t (S .right)
 
   pub left-formed : WellFormed (signatureOf table) (termOf (signatureOf table) s)
   left-formed = whole-formed (signatureOf table) few s (S .left)
@@ -113,6 +119,21 @@ module _ {table s t : List ℕ} (S : Whole table s t) where
   module _ {sk tk : List ℕ} (P : Prepared (signatureOf table) s sk) (Q : Prepared (signatureOf table) t tk) where
     pub whole-sides : Sides table s sk t tk
     whole-sides = record { small = S .small; binary = S .binary; left = P; right = Q }
+
+pub sides-turned : {table s sk t tk : List ℕ} → Sides table s sk t tk → Sides table t tk s sk
+sides-turned S = record { small = S .small; binary = S .binary; left = S .right; right = S .left }
+
+pub level-turned : {table s t : List ℕ} {a b : Totals} → Level table s a t b → Level table t b s a
+level-turned L = record {
+  whole = turned (L .whole);
+  left = L .right;
+  right = L .left;
+  level = sym (L .level);
+}
+
+pub level-weights : {table s t : List ℕ} {a b : Totals} → Level table s a t b → weightAt table s 0 ≡ weightAt table t 0
+level-weights L =
+    omega (arith, L .level, left-weight (L .whole) (L .left) (L .right), right-weight (L .whole) (L .left) (L .right))
 
 -- The margin by totals.
 pub totals-margin : {table s t : List ℕ} → Whole table s t → {a b : Totals} → Totalled (signatureOf table) s a →

@@ -13,7 +13,8 @@ use Rattle.symbols.specs.Table.{signatureOf}
 use Rattle.equivalence.specs.Parts.{IsTerm, partAt, partsAt, elementsAt}
 use Rattle.equivalence.specs.Keys.{Sides}
 use Rattle.equivalence.specs.Offsets.{Offsets}
-use Rattle.order.specs.Sums.{Summed}
+use Rattle.order.specs.declared.sums.Totals.{Totals}
+use Rattle.order.specs.Sums.{Summed, Totalled}
 
 -- What both sides of a comparison by the order are.
 pub record Scales (table s sk sw t tk tw : List ℕ) : Type 0 where
@@ -29,6 +30,13 @@ pub record Whole (table s t : List ℕ) : Type 0 where
   pub right : IsTerm (signatureOf table) t
   pub leftShort : length s ≤ 128
   pub rightShort : length t ≤ 128
+
+-- Two whole terms of equal weight, with their totals.
+pub record Level (table s : List ℕ) (a : Totals) (t : List ℕ) (b : Totals) : Type 0 where
+  pub whole : Whole table s t
+  pub left : Totalled (signatureOf table) s a
+  pub right : Totalled (signatureOf table) t b
+  pub level : a .weight ≡ b .weight
 
 -- The offsets of the elements above f, of those below f and of the variables, and how many elements there are.
 pub record Parted (σ : Signature) (f : ℕ) (ws : List ℕ) (ts : List Term) (above below variables : List ℕ)

@@ -6,7 +6,7 @@ use crate::sums::sum_up;
 use equivalence::equivalence::equivalent;
 use equivalence::keys::prepare;
 use symbols::precedence;
-ghost use mathlib.Core.Bool.{true};
+ghost use mathlib.Core.Bool.{true, false};
 ghost use mathlib.Core.Path.{_≡_};
 ghost use Prim.Native.Nat.{_≤_, _<_};
 ghost use lib.IntN.{subℕ};
@@ -15,8 +15,10 @@ ghost use Rattle.terms.specs.Words.{termOf};
 ghost use Rattle.terms.specs.Order.{mark as markOf};
 ghost use Rattle.symbols.specs.Table.{signatureOf};
 ghost use Rattle.equivalence.specs.Keys.{Sides};
+ghost use Rattle.equivalence.specs.Offsets.{alikeAt};
 ghost use Rattle.order.specs.Sums.{Totalled, totalsWithin};
-ghost use Rattle.order.specs.Compared.{Whole, noneOftenerAt, weightAt, rootAt, relation as relationOf};
+ghost use Rattle.order.specs.Compared.{Whole, Level, Scales, noneOftenerAt, weightAt, greaterAt, rootAt};
+ghost use Rattle.order.specs.Compared.{relation as relationOf};
 
 // Does no variable occur oftener in the term with the right totals?
 fn within(s: Totals, t: Totals) -> bool
@@ -130,8 +132,80 @@ pub fn mark(table: &[u16], s: &[u16], st: Totals, t: &[u16], tt: Totals) -> u8
     7
 }
 
-// How two terms with these totals are related: 1 greater, 2 less, 3 AC-equivalent, 4 unrelated.
-pub fn relation(table: &[u16], s: &[u16], st: Totals, t: &[u16], tt: Totals) -> u8
+// Is the first of two terms of equal weight greater?
+fn greater_level(
+    table: &[u16],
+    s: &[u16],
+    sk: &[u64; 128],
+    sw: &[u64; 387],
+    st: Totals,
+    t: &[u16],
+    tk: &[u64; 128],
+    tw: &[u64; 387],
+    tt: Totals,
+) -> bool
+    requires { ⌜ Scales (now table) (now s) (now sk) (now sw) (now t) (now tk) (now tw) ⌝ }
+    requires { ⌜ Level (now table) (now s) st (now t) tt ⌝ }
+    ensures { λ r. ⌜ r ≡ greaterAt (now (table .entry)) (now (s .entry)) 0 (now (t .entry)) 0 ⌝ }
+{
+    if within(st, tt) {
+        return root_mark(table, s, sk, sw, 0, t, tk, tw, 0) > 0;
+    }
+    false
+}
+
+// How two terms of equal weight that are not equivalent are related: 1 greater, 2 less, 4 unrelated.
+fn relation_unlike(
+    table: &[u16],
+    s: &[u16],
+    sk: &[u64; 128],
+    st: Totals,
+    t: &[u16],
+    tk: &[u64; 128],
+    tt: Totals,
+) -> u8
+    requires { ⌜ Sides (now table) (now s) (now sk) (now t) (now tk) ⌝ }
+    requires { ⌜ Level (now table) (now s) st (now t) tt × (false ≡ alikeAt (now table) (now s) 0 (now t) 0) ⌝ }
+    ensures { λ r. ⌜
+        r
+        ≡ relationOf (signatureOf (now (table .entry))) (termOf (signatureOf (now (table .entry))) (now (s .entry)))
+        (termOf (signatureOf (now (table .entry))) (now (t .entry)))
+        ⌝ }
+{
+    let mut sw = [0u64; 387];
+    let mut tw = [0u64; 387];
+    sum_up(table, s, &mut sw);
+    sum_up(table, t, &mut tw);
+    if greater_level(table, s, sk, &sw, st, t, tk, &tw, tt) {
+        return 1;
+    }
+    if greater_level(table, t, tk, &tw, tt, s, sk, &sw, st) {
+        return 2;
+    }
+    4
+}
+
+// How two terms of equal weight are related.
+fn relation_level(table: &[u16], s: &[u16], st: Totals, t: &[u16], tt: Totals) -> u8
+    requires { ⌜ Level (now table) (now s) st (now t) tt ⌝ }
+    ensures { λ r. ⌜
+        r
+        ≡ relationOf (signatureOf (now (table .entry))) (termOf (signatureOf (now (table .entry))) (now (s .entry)))
+        (termOf (signatureOf (now (table .entry))) (now (t .entry)))
+        ⌝ }
+{
+    let mut sk = [0u64; 128];
+    let mut tk = [0u64; 128];
+    prepare(table, s, &mut sk);
+    prepare(table, t, &mut tk);
+    if equivalent(table, s, &sk, 0, t, &tk, 0) {
+        return 3;
+    }
+    relation_unlike(table, s, &sk, st, t, &tk, tt)
+}
+
+// How two terms with these totals are related, by their marks both ways.
+fn relation_marked(table: &[u16], s: &[u16], st: Totals, t: &[u16], tt: Totals) -> u8
     requires { ⌜ Whole (now table) (now s) (now t) ⌝ }
     requires { ⌜ Totalled (signatureOf (now table)) (now s) st × Totalled (signatureOf (now table)) (now t) tt ⌝ }
     ensures { λ r. ⌜
@@ -152,6 +226,24 @@ pub fn relation(table: &[u16], s: &[u16], st: Totals, t: &[u16], tt: Totals) -> 
         return 2;
     }
     4
+}
+
+// How two terms with these totals are related: 1 greater, 2 less, 3 AC-equivalent, 4 unrelated.
+pub fn relation(table: &[u16], s: &[u16], st: Totals, t: &[u16], tt: Totals) -> u8
+    requires { ⌜ Whole (now table) (now s) (now t) ⌝ }
+    requires { ⌜ Totalled (signatureOf (now table)) (now s) st × Totalled (signatureOf (now table)) (now t) tt ⌝ }
+    ensures { λ r. ⌜
+        r
+        ≡ relationOf (signatureOf (now (table .entry))) (termOf (signatureOf (now (table .entry))) (now (s .entry)))
+        (termOf (signatureOf (now (table .entry))) (now (t .entry)))
+        ⌝ }
+{
+    if st.weight == tt.weight {
+        if s[0] == t[0] {
+            return relation_level(table, s, st, t, tt);
+        }
+    }
+    relation_marked(table, s, st, t, tt)
 }
 
 // The left weight minus the right one.

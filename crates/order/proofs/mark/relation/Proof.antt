@@ -1,52 +1,37 @@
-use native.Mathlib.Omega.{arith}
-use Rattle.terms.specs.Words.{termOf}
-use Rattle.symbols.specs.Table.{signatureOf}
-use Rattle.order.proofs.MarkLaws.{relation-greater, relation-equivalent, relation-less, relation-none}
-use Rattle.order.proofs.WholeLaws.{left-formed, right-formed, turned}
+use Rattle.order.proofs.WholeLaws.{left-some, right-some}
 use borrow.Author.Needs.{needs}
 use Rattle.order.proofs.mark.relation.Statement.{statement}
 use Rattle.order.proofs.mark.relation.Tie as tie
 use Rattle.order.proofs.mark.relation.Reads as reads
 use Rattle.order.proofs.mark.relation.Lts as lts
-use Rattle.order.proofs.mark.mark.Reads as mark-reads
+use Rattle.order.proofs.mark.relation_level.Reads as relation-level-reads
+use Rattle.order.proofs.mark.relation_marked.Reads as relation-marked-reads
 
-mark-requires : tie.Need-mark-requires
-mark-requires c κs = search needs
+shared-slice-read-if2 : tie.Need-shared-slice-read-if2
+shared-slice-read-if2 c = left-some (c .before .before .before .before .before .before .before .pre .0)
+
+shared-slice-read-if2-2 : tie.Need-shared-slice-read-if2-2
+shared-slice-read-if2-2 c = right-some (c .before .before .before .before .before .before .before .before .pre .0)
+
+relation-level-requires : tie.Need-relation-level-requires
+relation-level-requires c κs = search needs
 
 returns : tie.Need-returns
-returns c =
-    let a = c .before .before .before .before .before .args in
-    let σ = signatureOf (a .table .now) in
-    relation-greater σ (termOf σ (a .s .now)) (termOf σ (a .t .now)) (c .before .mark .ensures) (c .if1 .taken)
+returns c = search needs
+
+relation-marked-requires : tie.Need-relation-marked-requires
+relation-marked-requires c κs = search needs
 
 returns-2 : tie.Need-returns-2
-returns-2 c =
-    let a = c .before .before .before .before .before .before .args in
-    let S = c .before .before .before .before .before .before .pre .0 in
-    let σ = signatureOf (a .table .now) in
-    relation-equivalent σ (termOf σ (a .s .now)) (termOf σ (a .t .now)) (c .before .before .mark .ensures) (S .binary) (left-formed S)
-    (right-formed S) (c .if2 .taken)
-
-mark-requires-2 : tie.Need-mark-requires-2
-mark-requires-2 c κs =
-    let (S, (A, B)) = c .before .before .before .before .before .before .pre in
-    (turned S, (B, A))
-
-returns-3 : tie.Need-returns-3
-returns-3 c =
-    let a = c .before .before .before .before .before .before .before .before .args in
-    let σ = signatureOf (a .table .now) in
-    relation-less σ (termOf σ (a .s .now)) (termOf σ (a .t .now)) (c .before .before .before .before .mark .ensures) (c .before .mark2 .ensures) (omega arith)
-    (c .if3 .taken)
-
-returns-4 : tie.Need-returns-4
-returns-4 c =
-    let a = c .before .before .before .before .before .before .before .before .args in
-    let S = c .before .before .before .before .before .before .before .before .pre .0 in
-    let σ = signatureOf (a .table .now) in
-    relation-none σ (termOf σ (a .s .now)) (termOf σ (a .t .now)) (c .before .before .before .before .mark .ensures) (c .before .mark2 .ensures) (omega arith)
-    (S .binary) (left-formed S) (right-formed S) (c .before .before .if2 .left) (omega arith)
+returns-2 c = search needs
 
 pub relation-spec : {M : Type 1} → statement M
 relation-spec =
-    tie.close (tie.spec mark-requires returns returns-2 mark-requires-2 returns-3 returns-4)
+    tie.close
+    (tie.spec
+    shared-slice-read-if2
+    shared-slice-read-if2-2
+    relation-level-requires
+    returns
+    relation-marked-requires
+    returns-2)

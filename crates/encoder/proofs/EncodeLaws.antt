@@ -23,6 +23,7 @@ use Rattle.files.specs.declared.file.Counts.{Counts}
 use Rattle.files.specs.declared.file.FileReading.the-variants as counts
 use Rattle.files.specs.Items.{itemsFrom}
 use Rattle.files.specs.File.{fileReading}
+use Rattle.encoder.specs.Items.{bitsTo}
 use Rattle.words.proofs.WordLaws.{word-read, on-read, on-required}
 use Rattle.writer.proofs.BitsLaws.{length-bytes}
 use Rattle.files.proofs.FileItems.{FileAt, file-facts}
@@ -31,6 +32,7 @@ use Rattle.files.proofs.FileLaws.{header-at}
 -- The items of a file are those of the words, where the nodes begin after the symbols; neither is large.
 pub record Listed (words : List ℕ) (file : RuleFile) : Type 0 where
   pub all : items file ≡ itemsFrom words (4 + 4 * length (file .signature .symbols)) 0 (length words)
+  pub within : 4 + 4 * length (file .signature .symbols) ≤ length words
   pub short : length words ≤ 263000
   pub few : length (file .signature .symbols) < 256
 
@@ -43,6 +45,7 @@ file-listed words k n b file x =
     let e : b ≡ 4 + 4 * length (file .signature .symbols) = omega (arith, x .begin, x .symbols) in
     record {
       all = x .all ∙ ap (λ (i : ℕ). itemsFrom words i 0 (length words)) e;
+      within = omega (arith, x .within);
       short = x .short;
       few = omega (arith, x .few, x .symbols);
     }
@@ -117,7 +120,7 @@ module _ (words bytes : List ℕ) where
 
   module _ (s : Counts) (e : fileReading (readWords words) ≡ counts.Got s) where
     abbrev bits : List ℕ
-    bits = flatMap itemBits (itemsFrom words (4 + 4 * s .symbols) 0 (length words))
+    bits = bitsTo words (4 + 4 * s .symbols) (length words)
 
     abbrev count : ℕ
     count = (length bits + 7) / 8
@@ -125,8 +128,8 @@ module _ (words bytes : List ℕ) where
     known : Counted words (readWords words) s
     known = counted words s (readWords words) (words-if words) e
 
-    pub file-small : (length words ≤ 263000) × (s .symbols < 256)
-    file-small = let x = known .listed in omega (arith, x .short, x .few, known .symbols)
+    pub file-small : (4 + 4 * s .symbols ≤ length words) × (length words ≤ 263000) × (s .symbols < 256)
+    file-small = let x = known .listed in omega (arith, x .within, x .short, x .few, known .symbols)
 
     same-packed : packed (known .file) ≡ bytesOf bits
     unfolding packed

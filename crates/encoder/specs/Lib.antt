@@ -1,2 +1,3 @@
--- What encoding replies.
+-- The bits of words, and what encoding replies.
+pub mod Items
 pub mod Encode

@@ -35,8 +35,7 @@ pub fn encode(words: &[u16], bytes: &mut [u8]) -> EncodeReply
             offset,
         }),
     };
-    let nodes = 4 + 4 * counted.symbols;
-    let count = (packed_bits(words, nodes) + 7) / 8;
+    let count = (packed_bits(words, counted.symbols) + 7) / 8;
     if MAX_BYTES < count {
         return EncodeReply::Refused(Error {
             code: 1,
@@ -51,6 +50,6 @@ pub fn encode(words: &[u16], bytes: &mut [u8]) -> EncodeReply
             offset: 0,
         });
     }
-    write_items(words, nodes, bytes);
+    write_items(words, 4 + 4 * counted.symbols, bytes);
     EncodeReply::Accepted(count)
 }

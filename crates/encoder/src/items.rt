@@ -1,13 +1,20 @@
 // The items of a file: a field or a node for each word, and their bits.
 ghost use mathlib.Core.Path.{_≡_};
-ghost use mathlib.Core.List.{List, _++_, flatMap};
+ghost use mathlib.Core.List.{List, _++_};
 ghost use Prim.Native.Nat.{ℕ, _+_, _*_, _^_, _<_, _≤_};
 ghost use lib.ListN.{length};
 ghost use lib.Seq.{sets};
 ghost use Rattle.format.specs.Packing.{itemBits, bytesOf};
+ghost use Rattle.format.specs.Packing.Item.{node};
 ghost use Rattle.writer.specs.Writer.{Writes};
-ghost use Rattle.files.specs.Items.{fieldWidth, itemAt, itemsFrom};
+ghost use Rattle.files.specs.Items.{fieldWidth};
+ghost use Rattle.encoder.specs.Items.{bitsTo};
 use writer::BitWriter;
+
+// The bits of the header, and of a symbol.
+const HEADER_BITS: usize = 38;
+
+const SYMBOL_BITS: usize = 28;
 
 // The width of the field at word i, in the header or in a symbol.
 fn field_width(i: usize) -> usize
@@ -30,68 +37,36 @@ fn field_width(i: usize) -> usize
     }
 }
 
-// How many bits the item at word i takes, where the nodes begin at word `nodes`.
-fn item_width(words: &[u16], nodes: usize, i: usize) -> usize
-    requires { ⌜ i < length (now words) ⌝ }
-    ensures { λ r. ⌜ (r ≡ length (itemBits (itemAt (now (words .entry)) nodes i))) × (r ≤ 16) ⌝ }
+// How many bits a node takes.
+fn node_width(word: u16) -> usize
+    ensures { λ r. ⌜ (r ≡ length (itemBits (node word))) × (r ≤ 16) ⌝ }
 {
-    if i < nodes {
-        field_width(i)
-    } else if words[i] < 256 {
-        9
-    } else {
-        5
-    }
+    if word < 256 { 9 } else { 5 }
 }
 
-// How many bits the items of all words take.
-pub fn packed_bits(words: &[u16], nodes: usize) -> usize
-    requires { ⌜ length (now words) < 2 ^ 32 ⌝ }
+// How many bits the items of all words take, where there are so many symbols.
+pub fn packed_bits(words: &[u16], symbols: usize) -> usize
+    requires { ⌜ (4 + 4 * symbols ≤ length (now words)) × (length (now words) < 2 ^ 32) ⌝ }
     ensures { λ r. ⌜
-        r ≡ length (flatMap itemBits (itemsFrom (now (words .entry)) nodes 0 (length (now (words .entry)))))
+        r ≡ length (bitsTo (now (words .entry)) (4 + 4 * symbols) (length (now (words .entry))))
         ⌝ }
 {
-    let mut bits = 0;
-    let mut i = 0;
+    let mut bits = HEADER_BITS + SYMBOL_BITS * symbols;
+    let mut i = 4 + 4 * symbols;
     while i < words.len() {
-        bits += item_width(words, nodes, i);
+        bits += node_width(words[i]);
         i += 1;
     }
     bits
 }
 
-// Writes the bits of the item at word i.
-fn write_item(
-    writer: BitWriter,
-    words: &[u16],
-    nodes: usize,
-    i: usize,
-    bytes: &mut [u8],
-) -> BitWriter
-    requires { ⌜ i < length (now words) ⌝ }
-    requires { ⌜ (writer .stored < 2 ^ 63) × (writer .count < 8) × (writer .pending < 2 ^ writer .count) ⌝ }
-    ensures { λ r. ⌜ r .count < 8 ⌝ }
+// Writes the bits of the fields, which are before word `nodes`, to the front of the bytes.
+fn write_fields(words: &[u16], nodes: usize, bytes: &mut [u8]) -> BitWriter
+    requires { ⌜ nodes ≤ length (now words) ⌝ }
+    requires { ⌜ length (bitsTo (now words) nodes nodes) ≤ 8 * length (now bytes) ⌝ }
+    ensures { λ r. ⌜ r .count < 32 ⌝ }
     ensures { λ r. ⌜
-        ((old bits : List ℕ) → Writes old bits writer (now (bytes .entry)) →
-        Writes old (bits ++ itemBits (itemAt (now (words .entry)) nodes i)) r (now (bytes .exit)))
-        ⌝ }
-{
-    let word = words[i];
-    if i < nodes {
-        writer.put(bytes, field_width(i), word)
-    } else if word < 256 {
-        writer.put(bytes, 9, word)
-    } else {
-        writer.put(bytes, 5, 16 + word % 16)
-    }
-}
-
-// Writes the bits of all items, with zeros up to a whole byte, to the front of the bytes.
-pub fn write_items(words: &[u16], nodes: usize, bytes: &mut [u8])
-    ensures { λ _. ⌜
-        now (bytes .exit)
-        ≡ sets (now (bytes .entry)) 0
-        (bytesOf (flatMap itemBits (itemsFrom (now (words .entry)) nodes 0 (length (now (words .entry))))))
+        Writes (now (bytes .entry)) (bitsTo (now (words .entry)) nodes nodes) r (now (bytes .exit))
         ⌝ }
 {
     let mut writer = BitWriter {
@@ -100,8 +75,44 @@ pub fn write_items(words: &[u16], nodes: usize, bytes: &mut [u8])
         count: 0,
     };
     let mut i = 0;
+    while i < nodes {
+        writer = writer.put(bytes, field_width(i), words[i]);
+        i += 1;
+    }
+    writer
+}
+
+// Writes the bits of a node.
+fn write_node(writer: BitWriter, word: u16, bytes: &mut [u8]) -> BitWriter
+    requires { ⌜ (writer .count < 32) × (writer .pending < 2 ^ writer .count) ⌝ }
+    requires { ⌜ 8 * writer .stored + writer .count + length (itemBits (node word)) ≤ 8 * length (now bytes) ⌝ }
+    ensures { λ r. ⌜ r .count < 32 ⌝ }
+    ensures { λ r. ⌜
+        ((old bits : List ℕ) → Writes old bits writer (now (bytes .entry)) →
+        Writes old (bits ++ itemBits (node word)) r (now (bytes .exit)))
+        ⌝ }
+{
+    if word < 256 {
+        writer.put(bytes, 9, word)
+    } else {
+        writer.put(bytes, 5, 16 + word % 16)
+    }
+}
+
+// Writes the bits of all items, with zeros up to a whole byte, to the front of the bytes.
+pub fn write_items(words: &[u16], nodes: usize, bytes: &mut [u8])
+    requires { ⌜ nodes ≤ length (now words) ⌝ }
+    requires { ⌜ length (bitsTo (now words) nodes (length (now words))) ≤ 8 * length (now bytes) ⌝ }
+    ensures { λ _. ⌜
+        now (bytes .exit)
+        ≡ sets (now (bytes .entry)) 0
+        (bytesOf (bitsTo (now (words .entry)) nodes (length (now (words .entry)))))
+        ⌝ }
+{
+    let mut writer = write_fields(words, nodes, bytes);
+    let mut i = nodes;
     while i < words.len() {
-        writer = write_item(writer, words, nodes, i, bytes);
+        writer = write_node(writer, words[i], bytes);
         i += 1;
     }
     writer.finish(bytes);

@@ -209,6 +209,7 @@ pub record FileAt (words : List ℕ) (symbolCount ruleCount nodes : ℕ) (file :
   pub symbols : length (file .signature .symbols) ≡ symbolCount
   pub rules : length (file .rules) ≡ ruleCount
   pub begin : nodes ≡ 4 + 4 * symbolCount
+  pub within : nodes ≤ length words
   pub short : length words ≤ 263000
   pub few : symbolCount < 256
 
@@ -252,6 +253,7 @@ module _ (words : List ℕ) (w0 symbolCount ruleCount : ℕ) (h : HeaderAt words
         symbols = count;
         rules = y .count;
         begin = x .end;
+        within = x .within;
         short = omega (arith, y .short, x .end, h .fewSymbols, h .fewRules);
         few = h .fewSymbols;
       }

@@ -29,12 +29,9 @@ use lib.Arith.{digits-lt}
 use Rattle.format.specs.Reading.{spelt}
 use Rattle.format.specs.Packing.{bitsOf, bytesFrom}
 
--- 1 shifted left, in 32 bits.
-pub one-shl : (k : ℕ) → k ≤ 24 → 1 * 2 ^ k % 2 ^ 32 ≡ 2 ^ k
-one-shl k h =
-    let e : 1 * 2 ^ k ≡ 2 ^ k = omega arith in
-    let l : k < 32 = omega arith in
-    rw e (mod-eq-of-lt (pow-lt l))
+-- 1 shifted left, in 64 bits.
+pub one-shl : (k : ℕ) → k < 64 → 1 * 2 ^ k % 2 ^ 64 ≡ 2 ^ k
+one-shl k h = let e : 1 * 2 ^ k ≡ 2 ^ k = omega arith in rw e (mod-eq-of-lt (pow-lt h))
 
 -- ---- the number that bits spell
 

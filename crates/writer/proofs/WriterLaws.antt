@@ -18,7 +18,7 @@ use borrow.Author.Tests.{lt-ltb, le-ltb}
 use Rattle.format.specs.Reading.{spelt}
 use Rattle.format.specs.Packing.{bitsOf, bytesFrom, bytesOf}
 use Rattle.writer.specs.declared.BitWriter.{BitWriter}
-use Rattle.writer.specs.Writer.{Writes, pushed, shifted, byteOut}
+use Rattle.writer.specs.Writer.{Writes, pushed, shifted, byteOut, fourBytes}
 use Rattle.writer.proofs.BitsLaws.{
   spelt-same,
   spelt-add,
@@ -32,6 +32,10 @@ use Rattle.writer.proofs.BitsLaws.{bytes-more, bytes-same, length-bytes
 
 abbrev pub bitOf : List ℕ → ℕ → ℕ
 bitOf bits i = getD bits i 0
+
+-- The number that the bits of byte n spell.
+abbrev byteOf : List ℕ → ℕ → ℕ
+byteOf bits n = spelt (bitOf bits) (8 * n) 8
 
 pub sets-append : (l : List ℕ) (i : ℕ) (xs ys : List ℕ) → sets l i (xs ++ ys) ≡ sets (sets l i xs) (i + length xs) ys
 sets-append l i [] ys = rw add-zero
@@ -62,21 +66,25 @@ pub pushed-lt : (w : BitWriter) (width v : ℕ) → w .pending < 2 ^ w .count �
     pushed w width v .pending < 2 ^ (w .count + width)
 pushed-lt w width v p = rw (pow-add 2 (w .count) width) (digits-lt p (mod-lt v (pow-pos width)))
 
-pub push-fits : (n width v : ℕ) → n < 256 → width ≤ 16 → n * 2 ^ width + v % 2 ^ width < 2 ^ 32
+pub push-fits : (n width v : ℕ) → n < 2 ^ 32 → width ≤ 16 → n * 2 ^ width + v % 2 ^ width < 2 ^ 64
 push-fits n width v h k =
-    let e : 8 + width ≤ 24 = omega arith in
-    let m : 2 ^ (8 + width) ≤ 2 ^ 24 = pow-mono e in
-    let p : n * 2 ^ width + v % 2 ^ width < 2 ^ (8 + width) =
-    rw (pow-add 2 8 width) (digits-lt h (mod-lt v (pow-pos width))) in
+    let e : 32 + width ≤ 48 = omega arith in
+    let m : 2 ^ (32 + width) ≤ 2 ^ 48 = pow-mono e in
+    let p : n * 2 ^ width + v % 2 ^ width < 2 ^ (32 + width) =
+    rw (pow-add 2 32 width) (digits-lt h (mod-lt v (pow-pos width))) in
     omega arith
 
--- The first byte of a number of at most 24 bits.
+-- The first byte of a number of at least eight bits.
 pub byte-lt : (n k : ℕ) → 8 ≤ k → n < 2 ^ k → n / 2 ^ (k - 8) < 256
 byte-lt n k h l = let e : 8 + (k - 8) ≡ k = omega arith in shr-lt 8 (k - 8) (rw e l)
 
--- Fewer than eight bits are below a byte.
-pub below-byte : (n k : ℕ) → k < 8 → n < 2 ^ k → n < 256
-below-byte n k h l = let e : k ≤ 8 = omega arith in lt-of-lt-of-le l (pow-mono e)
+-- Fewer than 32 bits are a number of 32 bits.
+pub below-word : (n k : ℕ) → k < 32 → n < 2 ^ k → n < 2 ^ 32
+below-word n k h l = let e : k ≤ 32 = omega arith in lt-of-lt-of-le l (pow-mono e)
+
+-- The first 32 bits of a number of at least as many.
+pub word-lt : (n k : ℕ) → 32 ≤ k → n < 2 ^ k → n / 2 ^ (k - 32) < 2 ^ 32
+word-lt n k h l = let e : 32 + (k - 32) ≡ k = omega arith in shr-lt 32 (k - 32) (rw e l)
 
 -- The last byte, with zeros.
 pub padded-lt : (n k : ℕ) → k < 8 → n < 2 ^ k → n * 2 ^ (8 - k) < 256
@@ -93,6 +101,39 @@ byte-more old bits bytes n e =
     ∙ sym (ap (sets old 0) (bytes-more bits 0 n ∙ ap (λ (k : ℕ). front ++ (k ∷ [])) last) ∙ sets-append old 0 front
     (b ∷ [])
     ∙ ap (λ (k : ℕ). set (sets old 0 front) k b) (zero-add (length front) ∙ length-bytes bits 0 n))
+
+-- Four bytes more.
+four-more : (old bits bytes : List ℕ) (n : ℕ) → bytes ≡ sets old 0 (bytesFrom bits 0 n) →
+    set (set (set (set bytes n (byteOf bits n)) (suc n) (byteOf bits (suc n))) (suc (suc n)) (byteOf bits (suc (suc n))))
+    (suc (suc (suc n))) (byteOf bits (suc (suc (suc n))))
+    ≡ sets old 0 (bytesFrom bits 0 (suc (suc (suc (suc n)))))
+four-more old bits bytes n e =
+    byte-more old bits _ (suc (suc (suc n)))
+    (byte-more old bits _ (suc (suc n)) (byte-more old bits _ (suc n) (byte-more old bits bytes n e)))
+
+-- A number of four digits.
+four-digits : (n a b c d : ℕ) → n ≡ ((a * 256 + b) * 256 + c) * 256 + d → b < 256 → c < 256 → d < 256 →
+    fourBytes n ≡ a ∷ b ∷ c ∷ d ∷ []
+four-digits n a b c d e h k l =
+    let e₁ : n / 2 ^ 24 ≡ a = omega arith in
+    let e₂ : n / 2 ^ 16 % 256 ≡ b = omega arith in
+    let e₃ : n / 2 ^ 8 % 256 ≡ c = omega arith in
+    let e₄ : n % 256 ≡ d = omega arith in
+    rw (e₁, e₂, e₃, e₄)
+
+-- The bytes of 32 bits, each at its place.
+spelt-four : (b : ℕ → ℕ) → ((i : ℕ) → b i < 2) → (at at₁ at₂ at₃ m : ℕ) → m ≡ 8 → at + m ≡ at₁ → at + (m + m) ≡ at₂ →
+    at + (m + m + m) ≡ at₃ →
+    fourBytes (spelt b at (m + m + m + m)) ≡ spelt b at m ∷ spelt b at₁ m ∷ spelt b at₂ m ∷ spelt b at₃ m ∷ []
+spelt-four b h at at₁ at₂ at₃ m e e₁ e₂ e₃ =
+    let p : 2 ^ m ≡ 256 = ap (λ (k : ℕ). 2 ^ k) e in
+    let small : (i : ℕ) → spelt b i m < 256 = λ i. rw p at (spelt-lt b h i m) in
+    let s₂ : spelt b at (m + m) ≡ spelt b at m * 256 + spelt b at₁ m = rw (p, e₁) at (spelt-add b at m m) in
+    let s₃ : spelt b at (m + m + m) ≡ spelt b at (m + m) * 256 + spelt b at₂ m =
+    rw (p, e₂) at (spelt-add b at (m + m) m) in
+    let s₄ : spelt b at (m + m + m + m) ≡ spelt b at (m + m + m) * 256 + spelt b at₃ m =
+    rw (p, e₃) at (spelt-add b at (m + m + m) m) in
+    four-digits _ _ _ _ _ (s₄ ∙ rw (s₃, s₂)) (small at₁) (small at₂) (small at₃)
 
 module _ (old bits : List ℕ) (w : BitWriter) (bytes : List ℕ) (h : Writes old bits w bytes) where
   pub pending-lt : w .pending < 2 ^ w .count
@@ -156,6 +197,41 @@ module _ (old bits : List ℕ) (w : BitWriter) (bytes : List ℕ) (h : Writes ol
         | yes l ↦ rw (lt-ltb (w .count) 8 l) h
         | no l ↦ let k : 8 ≤ w .count = omega arith in rw (le-ltb (w .count) 8 k) (writes-store k)
       ]
+
+  -- The bits that wait are 32 and the others.
+  first-word : 32 ≤ w .count → w .pending ≡ spelt (bitOf bits) (8 * w .stored) 32 * 2 ^ (w .count - 32)
+      + spelt (bitOf bits) (8 * w .stored + 32) (w .count - 32)
+  first-word k =
+      let e : 32 + (w .count - 32) ≡ w .count = omega arith in
+      h .waiting ∙ ap (spelt (bitOf bits) (8 * w .stored)) (sym e) ∙ spelt-add (bitOf bits) (8 * w .stored) 32
+      (w .count - 32)
+
+  pub writes-four : 32 ≤ w .count → Writes old bits
+      (record { stored = w .stored + 4; pending = w .pending % 2 ^ (w .count - 32); count = w .count - 32 })
+      (sets bytes (w .stored) (fourBytes (w .pending / 2 ^ (w .count - 32))))
+  writes-four k =
+      let left = w .count - 32 in
+      let at = 8 * w .stored in
+      let l : spelt (bitOf bits) (at + 32) left < 2 ^ left = spelt-lt (bitOf bits) (h .binary) (at + 32) left in
+      let top : w .pending / 2 ^ left ≡ spelt (bitOf bits) at 32 =
+      ap (λ (n : ℕ). n / 2 ^ left) (first-word k) ∙ high (spelt (bitOf bits) at 32) left l in
+      let rest : w .pending % 2 ^ left ≡ spelt (bitOf bits) (at + 32) left =
+      ap (λ (n : ℕ). n % 2 ^ left) (first-word k) ∙ low (spelt (bitOf bits) at 32) left l in
+      let e : at + 32 ≡ 8 * (w .stored + 4) = omega arith in
+      let e₁ : at + 8 ≡ 8 * suc (w .stored) = omega arith in
+      let e₂ : at + 16 ≡ 8 * suc (suc (w .stored)) = omega arith in
+      let e₃ : at + 24 ≡ 8 * suc (suc (suc (w .stored))) = omega arith in
+      let n : suc (suc (suc (suc (w .stored)))) ≡ w .stored + 4 = omega arith in
+      let four : fourBytes (w .pending / 2 ^ left) ≡ byteOf bits (w .stored) ∷ byteOf bits (suc (w .stored)) ∷
+      byteOf bits (suc (suc (w .stored))) ∷ byteOf bits (suc (suc (suc (w .stored)))) ∷ [] =
+      ap fourBytes top ∙ spelt-four (bitOf bits) (h .binary) at _ _ _ 8 refl e₁ e₂ e₃ in
+      record {
+        binary = h .binary;
+        total = omega (arith, h .total);
+        waiting = rest ∙ ap (λ (n : ℕ). spelt (bitOf bits) n left) e;
+        front = ap (sets bytes (w .stored)) four ∙ four-more old bits bytes (w .stored) (h .front)
+            ∙ ap (λ (n : ℕ). sets old 0 (bytesFrom bits 0 n)) n;
+      }
 
   pub writes-last : w .count < 8 → 0 < w .count →
       set bytes (w .stored) (w .pending * 2 ^ (8 - w .count)) ≡ sets old 0 (bytesOf bits)

@@ -1,6 +1,6 @@
 -- The state of a bit writer, and what bytes and state say of the bits written.
 -- Renders: 01, "Book layout": "Fields are bit-packed, most significant bit first, with no gaps."
-use mathlib.Core.List.{List}
+use mathlib.Core.List.{List, [], _∷_}
 use mathlib.Core.Path.{_≡_}
 use mathlib.Core.Bool.{cond}
 use Prim.Native.Nat.{ℕ, _+_, _-_, _*_, _/_, _%_, _^_, _<_}
@@ -25,6 +25,10 @@ shifted w =
 -- The bytes after that.
 abbrev pub byteOut : BitWriter → List ℕ → List ℕ
 byteOut w bytes = cond (ltb (w .count) 8) bytes (set bytes (w .stored) (w .pending / 2 ^ (w .count - 8)))
+
+-- The bytes of a number of 32 bits.
+abbrev pub fourBytes : ℕ → List ℕ
+fourBytes n = n / 2 ^ 24 ∷ n / 2 ^ 16 % 256 ∷ n / 2 ^ 8 % 256 ∷ n % 256 ∷ []
 
 -- Of those bits the whole bytes stand at the front of the old bytes, and the others wait.
 pub record Writes (old bits : List ℕ) (w : BitWriter) (bytes : List ℕ) : Type 0 where

@@ -1,25 +1,25 @@
 // Writing fields into bytes, most significant bit first.
 ghost use mathlib.Core.Path.{_≡_};
 ghost use mathlib.Core.List.{List, _++_};
-ghost use Prim.Native.Nat.{ℕ, _+_, _^_, _<_, _≤_};
-ghost use lib.ListN.{set};
+ghost use Prim.Native.Nat.{ℕ, _+_, _*_, _^_, _<_, _≤_};
+ghost use lib.ListN.{length, set};
 ghost use lib.Seq.{sets};
 ghost use Rattle.format.specs.Packing.{bitsOf, bytesOf};
-ghost use Rattle.writer.specs.Writer.{Writes, pushed, shifted, byteOut};
+ghost use Rattle.writer.specs.Writer.{Writes, pushed, shifted, byteOut, fourBytes};
 
 // The bytes stored so far, and the bits after them: as a number, and how many.
 pub struct BitWriter {
     pub stored: usize,
-    pub pending: u32,
+    pub pending: u64,
     pub count: usize,
 }
 
 // 2 to the k.
-fn two_to(k: usize) -> u32
-    requires { ⌜ k ≤ 24 ⌝ }
+fn two_to(k: usize) -> u64
+    requires { ⌜ k < 64 ⌝ }
     ensures { λ r. ⌜ (r ≡ 2 ^ k) × (0 < r) ⌝ }
 {
-    1u32 << k
+    1u64 << k
 }
 
 // Sets byte i, where there is one.
@@ -31,22 +31,33 @@ fn put_byte(bytes: &mut [u8], i: usize, b: u8)
     }
 }
 
+// Sets the four bytes from byte i on, the most significant first.
+fn put_four(bytes: &mut [u8], i: usize, value: u32)
+    requires { ⌜ i + 4 ≤ length (now bytes) ⌝ }
+    ensures { λ _. ⌜ now (bytes .exit) ≡ sets (now (bytes .entry)) i (fourBytes value) ⌝ }
+{
+    bytes[i] = (value >> 24) as u8;
+    bytes[i + 1] = ((value >> 16) % 256) as u8;
+    bytes[i + 2] = ((value >> 8) % 256) as u8;
+    bytes[i + 3] = (value % 256) as u8;
+}
+
 impl BitWriter {
     // The last width bits of a value after those that wait.
     fn push(self, width: usize, value: u16) -> BitWriter
-        requires { ⌜ (self .count < 8) × (self .pending < 256) × (width ≤ 16) ⌝ }
+        requires { ⌜ (self .count < 32) × (self .pending < 2 ^ 32) × (width ≤ 16) ⌝ }
         ensures { λ r. ⌜ r ≡ pushed self width value ⌝ }
     {
         BitWriter {
             stored: self.stored,
-            pending: self.pending * two_to(width) + value as u32 % two_to(width),
+            pending: self.pending * two_to(width) + value as u64 % two_to(width),
             count: self.count + width,
         }
     }
 
     // Stores the first eight of the bits that wait, where there are as many.
     fn store(self, bytes: &mut [u8]) -> BitWriter
-        requires { ⌜ (self .stored + 1 < 2 ^ 64) × (self .count ≤ 24) × (self .pending < 2 ^ self .count) ⌝ }
+        requires { ⌜ (self .stored + 1 < 2 ^ 64) × (self .count ≤ 48) × (self .pending < 2 ^ self .count) ⌝ }
         ensures { λ r. ⌜ r ≡ shifted self ⌝ }
         ensures { λ _. ⌜ now (bytes .exit) ≡ byteOut self (now (bytes .entry)) ⌝ }
     {
@@ -62,20 +73,42 @@ impl BitWriter {
         }
     }
 
-    // Writes the last width bits of a value.
+    // Stores the first 32 of the bits that wait, where there are as many.
+    fn store_four(self, bytes: &mut [u8]) -> BitWriter
+        requires { ⌜ 8 * self .stored + self .count ≤ 8 * length (now bytes) ⌝ }
+        requires { ⌜ (self .count ≤ 48) × (self .pending < 2 ^ self .count) ⌝ }
+        ensures { λ r. ⌜ r .count < 32 ⌝ }
+        ensures { λ r. ⌜
+            ((old bits : List ℕ) → Writes old bits self (now (bytes .entry)) → Writes old bits r (now (bytes .exit)))
+            ⌝ }
+    {
+        if self.count < 32 {
+            return self;
+        }
+        let rest = self.count - 32;
+        put_four(bytes, self.stored, (self.pending >> rest) as u32);
+        BitWriter {
+            stored: self.stored + 4,
+            pending: self.pending % two_to(rest),
+            count: rest,
+        }
+    }
+
+    // Writes the last width bits of a value, for which there is room.
     pub fn put(self, bytes: &mut [u8], width: usize, value: u16) -> BitWriter
-        requires { ⌜ (self .stored < 2 ^ 63) × (self .count < 8) × (self .pending < 2 ^ self .count) × (width ≤ 16) ⌝ }
-        ensures { λ r. ⌜ (r .count < 8) × (r .stored ≤ self .stored + 2) ⌝ }
+        requires { ⌜ (self .count < 32) × (self .pending < 2 ^ self .count) × (width ≤ 16) ⌝ }
+        requires { ⌜ 8 * self .stored + self .count + width ≤ 8 * length (now bytes) ⌝ }
+        ensures { λ r. ⌜ r .count < 32 ⌝ }
         ensures { λ r. ⌜
             ((old bits : List ℕ) → Writes old bits self (now (bytes .entry)) →
             Writes old (bits ++ bitsOf width value) r (now (bytes .exit)))
             ⌝ }
     {
-        self.push(width, value).store(bytes).store(bytes)
+        self.push(width, value).store_four(bytes)
     }
 
     // Stores the bits that wait, with zeros after them, as the last byte.
-    pub fn finish(self, bytes: &mut [u8])
+    fn pad(self, bytes: &mut [u8])
         requires { ⌜ (self .count < 8) × (self .pending < 2 ^ self .count) ⌝ }
         ensures { λ _. ⌜
             ((old bits : List ℕ) → Writes old bits self (now (bytes .entry)) →
@@ -90,5 +123,16 @@ impl BitWriter {
             self.stored,
             (self.pending * two_to(8 - self.count)) as u8,
         );
+    }
+
+    // Stores the bits that wait, with zeros up to a whole byte, as the last bytes.
+    pub fn finish(self, bytes: &mut [u8])
+        requires { ⌜ (self .stored < 2 ^ 63) × (self .count < 32) × (self .pending < 2 ^ self .count) ⌝ }
+        ensures { λ _. ⌜
+            ((old bits : List ℕ) → Writes old bits self (now (bytes .entry)) →
+            now (bytes .exit) ≡ sets old 0 (bytesOf bits))
+            ⌝ }
+    {
+        self.store(bytes).store(bytes).store(bytes).pad(bytes);
     }
 }

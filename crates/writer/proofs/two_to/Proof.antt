@@ -6,9 +6,6 @@ use Rattle.writer.proofs.two_to.Tie as tie
 use Rattle.writer.proofs.two_to.Reads as reads
 use Rattle.writer.proofs.two_to.Lts as lts
 
-cast-result : tie.Need-cast-result
-cast-result c = search needs
-
 shl-result : tie.Need-shl-result
 shl-result c = search needs
 
@@ -16,4 +13,4 @@ returns : tie.Need-returns
 returns c = let e = one-shl (c .args .k) (c .pre) in (e, rw e (pow-pos (c .args .k)))
 
 pub two-to-spec : {M : Type 1} → statement M
-two-to-spec = tie.close (tie.spec cast-result shl-result returns)
+two-to-spec = tie.close (tie.spec shl-result returns)

@@ -25,82 +25,61 @@ enum-known-code c = search needs
 returns : tie.Need-returns
 returns c =
     let a = c .before .before .before .before .before .before .args in
-    encode-fault (a .words .now) (a .bytes .now) _ _ (sym (c .before .before .before .read-file .ensures) ∙ c
-    .before .code .given .1)
-
-mul-nodes : tie.Need-mul-nodes
-mul-nodes c =
-    let a = c .before .before .before .before .before .before .before .args in
-    omega (
-      arith,
-      file-small (a .words .now) (a .bytes .now) _
-          (sym (c .before .before .before .before .read-file .ensures) ∙ c .before .before .counts .given .1),
-    )
-
-add-nodes : tie.Need-add-nodes
-add-nodes c =
-    let a = c .before .before .before .before .before .before .before .args in
-    omega (
-      arith,
-      file-small (a .words .now) (a .bytes .now) _
-          (sym (c .before .before .before .before .read-file .ensures) ∙ c .before .before .counts .given .1),
-    )
+    encode-fault (a .words .now) (a .bytes .now) _ _ (sym (c .before .before .before .read-file .ensures) ∙ c .before .code .given .1)
 
 packed-bits-requires : tie.Need-packed-bits-requires
 packed-bits-requires c κs =
-    let a = c .before .before .before .before .before .before .before .args in
-    omega (
-      arith,
-      file-small (a .words .now) (a .bytes .now) _
-          (sym (c .before .before .before .before .read-file .ensures) ∙ c .before .before .counts .given .1),
-    )
+    let a = c .before .before .before .before .before .before .args in
+    omega (arith, file-small (a .words .now) (a .bytes .now) _ (sym (c .before .before .before .read-file .ensures) ∙ c .before .counts .given .1))
 
 add-count : tie.Need-add-count
 add-count c =
-    let a = c .before .before .before .before .before .before .before .before .args in
+    let a = c .before .before .before .before .before .before .before .args in
     let l = a .words .now in
     rw (c .packed-bits .ensures)
     (omega (
       arith,
-      file-small l (a .bytes .now) _ (sym (c .before .before .before .before .before .read-file .ensures) ∙ c
-          .before .before .before .counts .given .1),
-      bits-le l (4 + 4 * c .before .before .before .counts .given .0 .0 .symbols) (length l),
+      file-small l (a .bytes .now) _ (sym (c .before .before .before .before .read-file .ensures) ∙ c .before .before .counts .given .1),
+      bits-le l (4 + 4 * c .before .before .counts .given .0 .0 .symbols) (length l),
     ))
 
 returns-2 : tie.Need-returns-2
 returns-2 c =
-    let a = c .before .before .before .before .before .before .before .before .before .args in
-    encode-long (a .words .now) (a .bytes .now) _ (sym (c .before .before .before .before .before .before .read-file
-    .ensures) ∙ c .before .before .before .before .counts .given .1)
+    let a = c .before .before .before .before .before .before .before .before .args in
+    encode-long (a .words .now) (a .bytes .now) _ (sym (c .before .before .before .before .before .read-file .ensures) ∙ c .before .before .before .counts .given .1)
     (rw (c .before .packed-bits .ensures) at (c .if1 .taken))
 
 returns-3 : tie.Need-returns-3
 returns-3 c =
+    let a = c .before .before .before .before .before .before .before .before .before .args in
+    encode-short (a .words .now) (a .bytes .now) _ (sym (c .before .before .before .before .before .before .read-file .ensures) ∙ c .before .before .before .before .counts .given .1)
+    (rw (c .before .before .packed-bits .ensures) at (c .before .if1 .left)) (rw (c .before .before .packed-bits .ensures) at (c .if2 .taken))
+
+mul-write-items : tie.Need-mul-write-items
+mul-write-items c =
     let a = c .before .before .before .before .before .before .before .before .before .before .args in
-    encode-short (a .words .now) (a .bytes .now) _ (sym (c .before .before .before .before .before .before .before
-    .read-file .ensures) ∙ c .before .before .before .before .before .counts .given .1)
-    (rw (c .before .before .packed-bits .ensures) at (c .before .if1 .left))
-    (rw (c .before .before .packed-bits .ensures) at (c .if2 .taken))
+    omega (arith, file-small (a .words .now) (a .bytes .now) _ (sym (c .before .before .before .before .before .before .before .read-file .ensures) ∙ c .before .before .before .before .before .counts .given .1))
+
+add-write-items : tie.Need-add-write-items
+add-write-items c =
+    let a = c .before .before .before .before .before .before .before .before .before .before .args in
+    omega (arith, file-small (a .words .now) (a .bytes .now) _ (sym (c .before .before .before .before .before .before .before .read-file .ensures) ∙ c .before .before .before .before .before .counts .given .1))
 
 write-items-requires : tie.Need-write-items-requires
-write-items-requires c κs = search needs
+write-items-requires c κs =
+    let a = c .before .before .before .before .before .before .before .before .before .before .before .args in
+    let small = file-small (a .words .now) (a .bytes .now) _ (sym (c .before .before .before .before .before .before .before .before .read-file .ensures) ∙ c .before .before .before .before .before .before .counts .given .1) in
+    (small .0, omega (arith, rw (c .before .before .before .before .packed-bits .ensures) at (c .before .before .if2 .left)))
 
 same-length : tie.Need-same-length
 same-length c = search needs
 
 returns-4 : tie.Need-returns-4
 returns-4 c =
-    let a = c .before .before .before .before .before .before .before .before .before .before .before .before .before
-    .before .args in
-    let x = encode-done (a .words .now) (a .bytes .now) _ (sym
-    (c .before .before .before .before .before .before .before .before .before .before .before .read-file
-    .ensures) ∙ c .before .before .before .before .before .before .before .before .before .counts .given .1)
-    (rw (c .before .before .before .before .before .before .packed-bits .ensures) at
-    (c .before .before .before .before .before .if1 .left))
-    (rw (c .before .before .before .before .before .before .packed-bits .ensures) at
-    (c .before .before .before .before .if2 .left)) in
-    rw (c .before .before .before .before .before .before .packed-bits .ensures)
-    (x .0, c .before .before .write-items .ensures ∙ x .1)
+    let a = c .before .before .before .before .before .before .before .before .before .before .before .before .before .before .args in
+    let x = encode-done (a .words .now) (a .bytes .now) _ (sym (c .before .before .before .before .before .before .before .before .before .before .before .read-file .ensures) ∙ c .before .before .before .before .before .before .before .before .before .counts .given .1)
+    (rw (c .before .before .before .before .before .before .before .packed-bits .ensures) at (c .before .before .before .before .before .before .if1 .left)) (rw (c .before .before .before .before .before .before .before .packed-bits .ensures) at (c .before .before .before .before .before .if2 .left)) in
+    rw (c .before .before .before .before .before .before .before .packed-bits .ensures) (x .0, c .before .before .write-items .ensures ∙ x .1)
 
 pub encode-spec : {M : Type 1} → statement M
 encode-spec =
@@ -110,12 +89,12 @@ encode-spec =
     enum-known-counts
     enum-known-code
     returns
-    mul-nodes
-    add-nodes
     packed-bits-requires
     add-count
     returns-2
     returns-3
+    mul-write-items
+    add-write-items
     write-items-requires
     same-length
     returns-4)

@@ -1,52 +1,63 @@
 use borrow.Author.Needs.{needs}
 use native.Mathlib.Omega.{arith}
-use Prim.Native.Nat.{ℕ, _≤_, _-_, _<_}
-use mathlib.Core.List.{flatMap}
-use mathlib.Core.Path.{_≡_, refl, sym, _∙_, ap}
+use Prim.Native.Nat.{ℕ, _+_, _-_, _≤_, _<_}
+use mathlib.Core.List.{List}
+use mathlib.Core.Path.{_≡_, refl, ap, _∙_}
 use lib.ListN.{length}
 use lib.Seq.{sets}
-use Rattle.format.specs.Packing.{itemBits, bytesOf}
-use Rattle.files.specs.Items.{itemsFrom}
+use Rattle.format.specs.Packing.{bytesOf}
 use Rattle.writer.specs.Writer.{Writes}
-use Rattle.writer.proofs.WriterLaws.{writes-none, pending-lt}
-use Rattle.encoder.proofs.ItemBits.{bits-more, bits-le, flat-nil}
+use Rattle.writer.proofs.WriterLaws.{pending-lt}
+use Rattle.encoder.specs.Items.{bitsTo}
+use Rattle.encoder.proofs.ItemBits.{node-bits, bits-more, length-more, bits-le, bits-mono}
 use Rattle.encoder.proofs.items.write_items.Statement.{statement}
 use Rattle.encoder.proofs.items.write_items.Tie as tie
 use Rattle.encoder.proofs.items.write_items.Reads as reads
 use Rattle.encoder.proofs.items.write_items.Lts as lts
-use Rattle.encoder.proofs.items.write_item.Reads as write-item-reads
+use Rattle.encoder.proofs.items.write_fields.Reads as write-fields-reads
+use Rattle.encoder.proofs.items.write_node.Reads as write-node-reads
 use Rattle.writer.proofs.BitWriter.finish.Reads as finish-reads
 
 abbrev Inv-loop : tie.InvT-loop
-Inv-loop words nodes bytes₀ writer₀ i₀ bytes writer i = (i ≤ length words) × (length bytes ≡ length bytes₀) ×
-    (writer .count < 8) × Writes bytes₀ (flatMap itemBits (itemsFrom words nodes 0 i)) writer bytes
+Inv-loop words nodes bytes₀ writer₀ i₀ bytes writer i =
+    (nodes ≤ i) × (i ≤ length words) × (length bytes ≡ length bytes₀) × (writer .count < 32) ×
+    ((old : List ℕ) → Writes old (bitsTo words nodes nodes) writer₀ bytes₀ →
+    Writes old (bitsTo words nodes i) writer bytes)
 
 abbrev μ-loop : tie.MeasureT-loop
 μ-loop words nodes bytes₀ writer₀ i₀ bytes writer i = length words - i
 
-loop-holds : tie.Need-loop-holds Inv-loop μ-loop
-loop-holds c = (
-  omega arith,
-  refl,
-  omega arith,
-  rw (flat-nil itemBits)
-      (writes-none (c .before .before .args .bytes .now)),
-)
+write-fields-requires : tie.Need-write-fields-requires Inv-loop μ-loop
+write-fields-requires c κs =
+    let l = c .before .before .before .args .words .now in
+    let n = c .before .before .before .args .nodes in
+    (c .before .before .before .pre .0, omega (arith, bits-mono l n n (length l) (c .before .before .before .pre .0)))
 
-write-item-requires : tie.Need-write-item-requires Inv-loop μ-loop
-write-item-requires c κs =
-    let h = c .before .before .loop .inv .3 in (
-      c .before .loop-test .taken,
-      (
-        omega (
-          arith,
-          bits-le (c .before .before .before .before .before .args .words
-              .now) (c .before .before .before .before .before .args .nodes) (c .before .before .loop .i),
-          h .total,
-        ),
-        c
-            .before .before .loop .inv .2,
-        pending-lt _ _ _ _ h,
+loop-holds : tie.Need-loop-holds Inv-loop μ-loop
+loop-holds c = (omega arith, omega arith, refl, c .before .before .write-fields .ensures .0, λ old h. h)
+
+mul-write-node : tie.Need-mul-write-node Inv-loop μ-loop
+mul-write-node c = search needs
+
+shared-slice-read-write-node : tie.Need-shared-slice-read-write-node Inv-loop μ-loop
+shared-slice-read-write-node c = search needs
+
+write-node-requires : tie.Need-write-node-requires Inv-loop μ-loop
+write-node-requires c κs =
+    let l = c .before .before .before .before .before .before .before .before .before .before .args .words .now in
+    let n = c .before .before .before .before .before .before .before .before .before .before .args .nodes in
+    let i = c .before .before .before .loop .i in
+    let h = c .before .before .before .loop .inv .4 _ (c .before .before .before .before .before .before .write-fields .ensures .1) in (
+      (c .before .before .before .loop .inv .3, pending-lt _ _ _ _ h),
+      omega (
+        arith,
+        h .total,
+        length-more l n i (i + 1) refl,
+        ap length (node-bits l n i (c .before .before .before .loop .inv .0)),
+        bits-mono l n (i + 1) (length l) (omega arith),
+        c .before .before .before .before .before .before .before .before .before .before .pre .1,
+        c .before .before .before .loop .inv .2,
+        c .before .before .before .before .before .before .write-fields .kept .1 .1 .0,
       ),
     )
 
@@ -58,31 +69,34 @@ loop-less c = search needs
 
 loop-again : tie.Need-loop-again Inv-loop μ-loop
 loop-again c =
-    let l = c .before .before .before .before .before .before .before .before .args .words .now in (
+    let l = c .before .before .before .before .before .before .before .before .before .before .before .before .before .args .words .now in
+    let n = c .before .before .before .before .before .before .before .before .before .before .before .before .before .args .nodes in
+    let i = c .before .before .before .before .before .before .loop .i in (
       omega arith,
-      c .before .before .write-item .kept .1 .1 .1 .1 .0 ∙ c .before .before .before .before .before
-          .loop .inv .1,
-      c .before .before .write-item .ensures .0,
-      rw
-          (bits-more l (c .before .before .before .before .before .before .before .before .args .nodes)
-          (c .before .before .before .before .before .loop .i))
-          (c .before .before .write-item .ensures .1 _ _ (c .before .before .before .before .before .loop .inv .3)),
+      omega arith,
+      c .before .before .write-node .kept .1 .1 .0 ∙ c .before .before .before .before .before .before .loop .inv .2,
+      c .before .before .write-node .ensures .0,
+      λ old h. rw (bits-more l n i, node-bits l n i (c .before .before .before .before .before .before .loop .inv .0))
+          (c .before .before .write-node .ensures .1 old _ (c .before .before .before .before .before .before .loop .inv .4 old h)),
     )
 
 finish-requires : tie.Need-finish-requires Inv-loop μ-loop
-finish-requires c κs = (c .before .before .loop .inv .2, pending-lt _ _ _ _ (c .before .before .loop .inv .3))
+finish-requires c κs =
+    let h = c .before .before .loop .inv .4 _ (c .before .before .before .before .before .write-fields .ensures .1) in (
+      omega (arith, h .total, bits-le (c .before .before .before .before .before .before .before .before .before .args .words .now) (c .before .before .before .before .before .before .before .before .before .args .nodes) (c .before .before .loop .i)),
+      c .before .before .loop .inv .3,
+      pending-lt _ _ _ _ h,
+    )
 
 same-length : tie.Need-same-length Inv-loop μ-loop
-same-length c = c .before .before .finish .kept .1 .0 ∙ c .before .before .before .before .before .loop .inv .1
+same-length c = c .before .before .finish .kept .1 .0 ∙ c .before .before .before .before .before .loop .inv .2 ∙ c .before .before .before .before .before .before .before .before .write-fields .kept .1 .1 .0
 
 returns : tie.Need-returns Inv-loop μ-loop
 returns c =
-    let l = c .before .before .before .before .before .before .before .before .args .words .now in
+    let l = c .before .before .before .before .before .before .before .before .before .before .before .before .args .words .now in
     let e : c .before .before .before .before .before .loop .i ≡ length l = omega arith in
-    c .before .before .finish .ensures _ _ (c .before .before .before .before .before .loop .inv .3) ∙ ap
-    (λ (k : ℕ). sets (c .before .before .before .before .before .before .before .before .args .bytes .now) 0
-    (bytesOf (flatMap itemBits (itemsFrom l (c .before .before .before .before .before .before .before .before
-    .args .nodes) 0 k)))) e
+    c .before .before .finish .ensures _ _ (c .before .before .before .before .before .loop .inv .4 _ (c .before .before .before .before .before .before .before .before .write-fields .ensures .1)) ∙ ap
+    (λ (k : ℕ). sets (c .before .before .before .before .before .before .before .before .before .before .before .before .args .bytes .now) 0 (bytesOf (bitsTo l (c .before .before .before .before .before .before .before .before .before .before .before .before .args .nodes) k))) e
 
 pub write-items-spec : {M : Type 1} → statement M
 write-items-spec =
@@ -90,8 +104,11 @@ write-items-spec =
     (tie.spec
     Inv-loop
     μ-loop
+    write-fields-requires
     loop-holds
-    write-item-requires
+    mul-write-node
+    shared-slice-read-write-node
+    write-node-requires
     add-i
     loop-less
     loop-again

@@ -1,63 +1,55 @@
 use native.Mathlib.Omega.{arith}
-use mathlib.Core.Path.{_∙_, ap}
-use lib.ListN.{set}
-use Rattle.writer.proofs.WriterLaws.{padded-lt, writes-last, writes-whole}
+use Rattle.writer.specs.Writer.{shifted}
+use Rattle.writer.proofs.WriterLaws.{shifted-facts, writes-shifted}
 use borrow.Author.Needs.{needs}
 use Rattle.writer.proofs.BitWriter.finish.Statement.{statement}
 use Rattle.writer.proofs.BitWriter.finish.Tie as tie
 use Rattle.writer.proofs.BitWriter.finish.Reads as reads
 use Rattle.writer.proofs.BitWriter.finish.Lts as lts
-use Rattle.writer.proofs.put_byte.Reads as put-byte-reads
-use Rattle.writer.proofs.two_to.Reads as two-to-reads
+use Rattle.writer.proofs.BitWriter.pad.Reads as pad-reads
+use Rattle.writer.proofs.BitWriter.store.Reads as store-reads
 
-returns : tie.Need-returns
-returns c = λ old bits h. writes-whole old bits _ _ h (c .if1 .taken)
+store-requires : tie.Need-store-requires
+store-requires c κs = search needs
 
-sub-two-to : tie.Need-sub-two-to
-sub-two-to c = search needs
+store-requires-2 : tie.Need-store-requires-2
+store-requires-2 c κs =
+    let f = shifted-facts (c .before .before .before .before .before .before .args .self) 24 (omega arith) (omega arith) (c .before .before .before .before .before .before .pre .2) in
+    rw (c .before .before .before .store .ensures .0) (omega arith, omega arith, f .2)
 
-two-to-requires : tie.Need-two-to-requires
-two-to-requires c κs = search needs
+store-requires-3 : tie.Need-store-requires-3
+store-requires-3 c κs =
+    let s = c .before .before .before .before .before .before .before .before .before .before .args .self in
+    let f = shifted-facts s 24 (omega arith) (omega arith) (c .before .before .before .before .before .before .before .before .before .before .pre .2) in
+    let g = shifted-facts (shifted s) 16 (omega arith) (f .0) (f .2) in
+    rw (c .before .before .before .store2 .ensures .0, c .before .before .before .before .before .before .before .store .ensures .0) (omega arith, omega arith, g .2)
 
-mul-put-byte : tie.Need-mul-put-byte
-mul-put-byte c = rw (c .before .two-to .ensures .0) (omega (
-  arith,
-  padded-lt
-      (c .before .before .before .before .before .before .before .args .self .pending)
-      (c .before .before .before .before .before .before .before .args .self .count)
-      (c .before .before .before .before .before .before .before .pre .0)
-      (c .before .before .before .before .before .before .before .pre .1),
-))
-
-cast-put-byte : tie.Need-cast-put-byte
-cast-put-byte c = rw (c .before .two-to .ensures .0) (record {
-  fits = padded-lt
-      (c .before .before .before .before .before .before .before .args .self .pending)
-      (c .before .before .before .before .before .before .before .args .self .count)
-      (c .before .before .before .before .before .before .before .pre .0)
-      (c .before .before .before .before .before .before .before .pre .1);
-})
-
-put-byte-requires : tie.Need-put-byte-requires
-put-byte-requires c κs = search needs
+pad-requires : tie.Need-pad-requires
+pad-requires c κs =
+    let s = c .before .before .before .before .before .before .before .before .before .before .before .before .before .before .args .self in
+    let f = shifted-facts s 24 (omega arith) (omega arith) (c .before .before .before .before .before .before .before .before .before .before .before .before .before .before .pre .2) in
+    let g = shifted-facts (shifted s) 16 (omega arith) (f .0) (f .2) in
+    let k = shifted-facts (shifted (shifted s)) 8 (omega arith) (g .0) (g .2) in
+    rw (c .before .before .before .store3 .ensures .0, c .before .before .before .before .before .before .before .store2 .ensures .0, c .before .before .before .before .before .before .before .before .before .before .before .store .ensures .0) (k .0, k .2)
 
 same-length : tie.Need-same-length
 same-length c = search needs
 
-returns-2 : tie.Need-returns-2
-returns-2 c = rw (c .before .before .put-byte .ensures, c .before .before .before .before .two-to .ensures .0) λ old
-    bits h. writes-last old bits _ _ h (c .before .before .before .before .before .before .before .before .before
-    .before .pre .0) (omega arith)
+returns : tie.Need-returns
+returns c =
+    let s = c .before .before .before .before .before .before .before .before .before .before .before .before .before .before .before .before .before .args .self in
+    λ old bits h. c .before .before .pad .ensures old bits (rw (
+      c .before .before .before .before .before .before .store3 .ensures .0,
+      c .before .before .before .before .before .before .store3 .ensures .1,
+      c .before .before .before .before .before .before .before .before .before .before .store2 .ensures .0,
+      c .before .before .before .before .before .before .before .before .before .before .store2 .ensures .1,
+      c .before .before .before .before .before .before .before .before .before .before .before .before .before .before .store .ensures .0,
+      c .before .before .before .before .before .before .before .before .before .before .before .before .before .before .store .ensures .1,
+    )
+    (writes-shifted old bits (shifted (shifted s)) _ (writes-shifted old bits (shifted s) _
+    (writes-shifted old bits s _ h))))
 
 pub finish-spec : {M : Type 1} → statement M
 finish-spec =
     tie.close
-    (tie.spec
-    returns
-    sub-two-to
-    two-to-requires
-    mul-put-byte
-    cast-put-byte
-    put-byte-requires
-    same-length
-    returns-2)
+    (tie.spec store-requires store-requires-2 store-requires-3 pad-requires same-length returns)

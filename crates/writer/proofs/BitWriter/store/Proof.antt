@@ -13,14 +13,11 @@ use Rattle.writer.proofs.two_to.Reads as two-to-reads
 returns : tie.Need-returns
 returns c = rw (lt-ltb (c .before .before .before .args .self .count) 8 (c .if1 .taken)) (refl, refl)
 
-cast-put-byte : tie.Need-cast-put-byte
-cast-put-byte c = search needs
-
 shr-put-byte : tie.Need-shr-put-byte
 shr-put-byte c = search needs
 
-cast-put-byte-2 : tie.Need-cast-put-byte-2
-cast-put-byte-2 c = record {
+cast-put-byte : tie.Need-cast-put-byte
+cast-put-byte c = record {
   fits = byte-lt (c .before .before .before .before .before .before .args .self .pending)
       (c .before .before .before .before .before .before .args .self .count) (c .before .before .before .if1 .left)
       (c .before .before .before .before .before .before .pre .2);
@@ -55,9 +52,8 @@ store-spec =
     tie.close
     (tie.spec
     returns
-    cast-put-byte
     shr-put-byte
-    cast-put-byte-2
+    cast-put-byte
     put-byte-requires
     add-t11
     two-to-requires

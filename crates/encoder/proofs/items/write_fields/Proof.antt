@@ -1,0 +1,98 @@
+use borrow.Author.Needs.{needs}
+use native.Mathlib.Omega.{arith}
+use Prim.Native.Nat.{_+_, _-_, _≤_, _<_}
+use mathlib.Core.Path.{_≡_, refl, _∙_}
+use lib.ListN.{length}
+use Rattle.format.specs.Packing.{itemBits}
+use Rattle.files.specs.Items.{fieldWidth}
+use Rattle.writer.specs.Writer.{Writes}
+use Rattle.writer.proofs.WriterLaws.{writes-none, pending-lt}
+use Rattle.encoder.specs.Items.{bitsTo}
+use Rattle.encoder.proofs.ItemBits.{flat-nil, field-bits, field-more, bits-more, bits-mono}
+use Rattle.encoder.proofs.items.write_fields.Statement.{statement}
+use Rattle.encoder.proofs.items.write_fields.Tie as tie
+use Rattle.encoder.proofs.items.write_fields.Reads as reads
+use Rattle.encoder.proofs.items.write_fields.Lts as lts
+use Rattle.encoder.proofs.items.field_width.Reads as field-width-reads
+use Rattle.writer.proofs.BitWriter.put.Reads as put-reads
+
+abbrev Inv-loop : tie.InvT-loop
+Inv-loop words nodes bytes₀ writer₀ i₀ bytes writer i =
+    (i ≤ nodes) × (length bytes ≡ length bytes₀) × (writer .count < 32) ×
+    Writes bytes₀ (bitsTo words nodes i) writer bytes
+
+abbrev μ-loop : tie.MeasureT-loop
+μ-loop words nodes bytes₀ writer₀ i₀ bytes writer i = nodes - i
+
+loop-holds : tie.Need-loop-holds Inv-loop μ-loop
+loop-holds c = (omega arith, refl, omega arith, rw (flat-nil itemBits) (writes-none (c .before .before .args .bytes .now)))
+
+field-width-requires : tie.Need-field-width-requires Inv-loop μ-loop
+field-width-requires c κs = search needs
+
+mul-put : tie.Need-mul-put Inv-loop μ-loop
+mul-put c = search needs
+
+shared-slice-read-put : tie.Need-shared-slice-read-put Inv-loop μ-loop
+shared-slice-read-put c = search needs
+
+put-requires : tie.Need-put-requires Inv-loop μ-loop
+put-requires c κs =
+    let l = c .before .before .before .before .before .before .before .args .words .now in
+    let n = c .before .before .before .before .before .before .before .args .nodes in
+    let i = c .before .before .before .before .loop .i in
+    let h = c .before .before .before .before .loop .inv .3 in (
+      (c .before .before .before .before .loop .inv .2, pending-lt _ _ _ _ h, c .before .field-width .ensures .1),
+      omega (
+        arith,
+        h .total,
+        field-more l n i (i + 1) (fieldWidth i) refl (c .before .before .before .loop-test .taken) refl,
+        bits-mono l n (i + 1) n (omega arith),
+        c .before .field-width .ensures .0,
+        c .before .before .before .before .before .before .before .pre .1,
+        c .before .before .before .before .loop .inv .1,
+      ),
+    )
+
+add-i : tie.Need-add-i Inv-loop μ-loop
+add-i c = search needs
+
+loop-less : tie.Need-loop-less Inv-loop μ-loop
+loop-less c = search needs
+
+loop-again : tie.Need-loop-again Inv-loop μ-loop
+loop-again c =
+    let l = c .before .before .before .before .before .before .before .before .before .before .args .words .now in
+    let n = c .before .before .before .before .before .before .before .before .before .before .args .nodes in
+    let i = c .before .before .before .before .before .before .before .loop .i in (
+      omega arith,
+      c .before .before .put .kept .1 .0 ∙ c .before .before .before .before .before .before .before .loop .inv .1,
+      c .before .before .put .ensures .0,
+      rw (bits-more l n i, field-bits l n i (c .before .before .before .before .before .before .loop-test .taken), ← c .before .before .before .before .field-width .ensures .0)
+          (c .before .before .put .ensures .1 _ _ (c .before .before .before .before .before .before .before .loop .inv .3)),
+    )
+
+same-length : tie.Need-same-length Inv-loop μ-loop
+same-length c = c .before .loop .inv .1
+
+returns : tie.Need-returns Inv-loop μ-loop
+returns c =
+    let e : c .before .loop .i ≡ c .before .before .before .before .args .nodes = omega arith in
+    (c .before .loop .inv .2, rw e at (c .before .loop .inv .3))
+
+pub write-fields-spec : {M : Type 1} → statement M
+write-fields-spec =
+    tie.close
+    (tie.spec
+    Inv-loop
+    μ-loop
+    loop-holds
+    field-width-requires
+    mul-put
+    shared-slice-read-put
+    put-requires
+    add-i
+    loop-less
+    loop-again
+    same-length
+    returns)

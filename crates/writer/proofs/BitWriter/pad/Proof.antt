@@ -1,0 +1,63 @@
+use native.Mathlib.Omega.{arith}
+use mathlib.Core.Path.{_∙_, ap}
+use lib.ListN.{set}
+use Rattle.writer.proofs.WriterLaws.{padded-lt, writes-last, writes-whole}
+use borrow.Author.Needs.{needs}
+use Rattle.writer.proofs.BitWriter.pad.Statement.{statement}
+use Rattle.writer.proofs.BitWriter.pad.Tie as tie
+use Rattle.writer.proofs.BitWriter.pad.Reads as reads
+use Rattle.writer.proofs.BitWriter.pad.Lts as lts
+use Rattle.writer.proofs.put_byte.Reads as put-byte-reads
+use Rattle.writer.proofs.two_to.Reads as two-to-reads
+
+returns : tie.Need-returns
+returns c = λ old bits h. writes-whole old bits _ _ h (c .if1 .taken)
+
+sub-two-to : tie.Need-sub-two-to
+sub-two-to c = search needs
+
+two-to-requires : tie.Need-two-to-requires
+two-to-requires c κs = search needs
+
+mul-put-byte : tie.Need-mul-put-byte
+mul-put-byte c = rw (c .before .two-to .ensures .0) (omega (
+  arith,
+  padded-lt
+      (c .before .before .before .before .before .before .before .args .self .pending)
+      (c .before .before .before .before .before .before .before .args .self .count)
+      (c .before .before .before .before .before .before .before .pre .0)
+      (c .before .before .before .before .before .before .before .pre .1),
+))
+
+cast-put-byte : tie.Need-cast-put-byte
+cast-put-byte c = rw (c .before .two-to .ensures .0) (record {
+  fits = padded-lt
+      (c .before .before .before .before .before .before .before .args .self .pending)
+      (c .before .before .before .before .before .before .before .args .self .count)
+      (c .before .before .before .before .before .before .before .pre .0)
+      (c .before .before .before .before .before .before .before .pre .1);
+})
+
+put-byte-requires : tie.Need-put-byte-requires
+put-byte-requires c κs = search needs
+
+same-length : tie.Need-same-length
+same-length c = search needs
+
+returns-2 : tie.Need-returns-2
+returns-2 c = rw (c .before .before .put-byte .ensures, c .before .before .before .before .two-to .ensures .0) λ old
+    bits h. writes-last old bits _ _ h (c .before .before .before .before .before .before .before .before .before
+    .before .pre .0) (omega arith)
+
+pub pad-spec : {M : Type 1} → statement M
+pad-spec =
+    tie.close
+    (tie.spec
+    returns
+    sub-two-to
+    two-to-requires
+    mul-put-byte
+    cast-put-byte
+    put-byte-requires
+    same-length
+    returns-2)

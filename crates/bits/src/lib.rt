@@ -2,9 +2,10 @@
 ghost use mathlib.Core.Path.{_≡_};
 ghost use Prim.Native.Nat.{_+_, _*_, _/_, _^_, _<_, _≤_};
 ghost use lib.ListN.{length, getD};
-ghost use Rattle.format.specs.Layout.{maxBytes};
+ghost use Rattle.format.specs.Layout.{maxBytes, tagWidth};
 ghost use Rattle.format.specs.Reading.{bitField, bitSource};
-ghost use Rattle.bits.specs.Cursor.{fieldReading, nodeReading, nodeWidth, nodeWord, isPadding};
+ghost use Rattle.format.specs.Reading.Reading.{got};
+ghost use Rattle.bits.specs.Cursor.{fieldReading, nodeReading, KindTold, WordRead, nodeWidth, nodeWord, isPadding};
 
 // An offset in bits.
 pub struct BitCursor {
@@ -17,9 +18,10 @@ pub enum Field {
     Missing,
 }
 
-// A node's word and the cursor past it, or the offset of its field that does not fit.
+// The word of a symbol or of a variable and the cursor past it, or the offset of the node's field that does not fit.
 pub enum Node {
-    Got(u16, BitCursor),
+    Symbol(u16, BitCursor),
+    Variable(u16, BitCursor),
     Missing(usize),
 }
 
@@ -55,15 +57,18 @@ fn node_width(nine: u32) -> usize
     if nine < 256 { 9 } else { 5 }
 }
 
-// The word of a node that begins with these nine bits.
-fn node_word(nine: u32) -> u16
-    requires { ⌜ nine < 512 ⌝ }
-    ensures { λ r. ⌜ r ≡ nodeWord nine ⌝ }
+// The node at an offset that begins with these nine bits.
+fn node_of(nine: u32, at: usize) -> Node
+    requires { ⌜ (nine < 512) × (at < 2 ^ 62) ⌝ }
+    ensures { λ r. ⌜
+        nodeReading at r ≡ got (record { word = nodeWord nine; offset = at + tagWidth }) (at + nodeWidth nine)
+        ⌝ }
+    ensures { λ r. ⌜ KindTold r ⌝ }
 {
     if nine < 256 {
-        nine as u16
+        Node::Symbol(nine as u16, BitCursor { at: at + 9 })
     } else {
-        (nine / 16 + 240) as u16
+        Node::Variable((nine / 16 + 240) as u16, BitCursor { at: at + 5 })
     }
 }
 
@@ -86,6 +91,7 @@ impl BitCursor {
     fn late_node(self, book: &[u8]) -> Node
         requires { ⌜ (length (now book) ≤ maxBytes) × (length (now book) ≤ self .at / 8 + 1) ⌝ }
         ensures { λ r. ⌜ nodeReading (self .at) r ≡ bitSource (now (book .entry)) .node (self .at) ⌝ }
+        ensures { λ r. ⌜ KindTold r ⌝ }
     {
         let at = self.at;
         let end = 8 * book.len();
@@ -93,17 +99,17 @@ impl BitCursor {
             return Node::Missing(at);
         }
         let nine = ((byte_at(book, at / 8) * 256) >> (7 - at % 8)) % 512;
-        let width = node_width(nine);
-        if end - at < width {
+        if end - at < node_width(nine) {
             return Node::Missing(at + 1);
         }
-        Node::Got(node_word(nine), BitCursor { at: at + width })
+        node_of(nine, at)
     }
 
     // The node here. Before the last byte its bits lie in two bytes, whatever it is.
     pub fn node(self, book: &[u8]) -> Node
         requires { ⌜ length (now book) ≤ maxBytes ⌝ }
         ensures { λ r. ⌜ nodeReading (self .at) r ≡ bitSource (now (book .entry)) .node (self .at) ⌝ }
+        ensures { λ r. ⌜ KindTold r ⌝ }
     {
         let at = self.at;
         let index = at / 8;
@@ -111,12 +117,19 @@ impl BitCursor {
             return self.late_node(book);
         }
         let nine = ((byte_at(book, index) * 256 + byte_at(book, index + 1)) >> (7 - at % 8)) % 512;
-        Node::Got(
-            node_word(nine),
-            BitCursor {
-                at: at + node_width(nine),
-            },
-        )
+        node_of(nine, at)
+    }
+
+    // The word of the node here, whatever it is.
+    pub fn word(self, book: &[u8]) -> Field
+        requires { ⌜ length (now book) ≤ maxBytes ⌝ }
+        ensures { λ r. ⌜ WordRead (bitSource (now (book .entry))) (self .at) r ⌝ }
+    {
+        match self.node(book) {
+            Node::Symbol(word, next) => Field::Got(word, next),
+            Node::Variable(word, next) => Field::Got(word, next),
+            Node::Missing(_) => Field::Missing,
+        }
     }
 
     // Whether fewer than eight bits are left here, and all of them zeros.

@@ -16,7 +16,7 @@ ghost use Rattle.symbols.specs.Table.{signatureOf};
 ghost use Rattle.decoder.specs.Decode.{replyOf, NodesRead};
 ghost use Rattle.reader.specs.File.{symbolsWords};
 use bits::BitCursor;
-use bits::Node;
+use bits::Field;
 use reader::file::File;
 use reader::file::TABLE_WORDS;
 use reader::file::read_file;
@@ -72,7 +72,7 @@ fn put_symbols(table: &[u16], words: &mut [u16], count: u16)
 
 // Stores the words of the nodes from the cursor on, at the indices from one to the other.
 fn put_nodes(book: &[u8], words: &mut [u16], index: usize, end: usize, cursor: BitCursor)
-    requires { ⌜ length (now book) ≤ maxBytes ⌝ }
+    requires { ⌜ (length (now book) ≤ maxBytes) × (end ≤ length (now words)) ⌝ }
     ensures { λ r. ⌜
         ((nodes : List ℕ) (last : ℕ)
         → NodesRead (bitSource (now (book .entry))) (cursor .at) nodes last
@@ -83,10 +83,10 @@ fn put_nodes(book: &[u8], words: &mut [u16], index: usize, end: usize, cursor: B
     let mut here = cursor;
     let mut place = index;
     while place < end {
-        match here.node(book) {
-            Node::Missing(_) => return,
-            Node::Got(word, next) => {
-                put_word(words, place, word);
+        match here.word(book) {
+            Field::Missing => return,
+            Field::Got(word, next) => {
+                words[place] = word;
                 here = next;
             }
         }
@@ -109,6 +109,7 @@ fn put_file(
         × (count ≡ length (signatureOf (now table) .symbols))
         × (count < 256)
         × (rules < 1024)
+        × (total ≤ length (now words))
         ⌝ }
     ensures { λ r. ⌜
         ((read : List Sides) (end : ℕ)

@@ -1,5 +1,5 @@
 -- What the code that reads the rules has to show at each of its ends.
---     side-past                  a side from the nodes still allowed
+--     side-past                  a side that was read
 --     side-front                 a side at the front of the words
 --     left-fault, right-read     a rule
 --     SoFar                      what a loop over the rules has read; so-far-none, so-far-fault, so-far-more,
@@ -28,12 +28,11 @@ use Rattle.reader.proofs.TermLaws.{sets-append}
 abbrev pub itself : List ℕ → List ℕ
 itself nodes = nodes
 
-pub side-past : (reading : Reading (List ℕ)) (index left : ℕ) (next : BitCursor) (words after : List ℕ) →
-    TermsRead reading (index + 128) 128 words (terms.Read left next) after →
-    WordsRead itself 128 reading index words (Past (index + 128 - left) next) after
-side-past reading index left next words after (nodes, read, count, stored) =
-    let i : index + 128 - 128 ≡ index = omega arith in
-    (nodes, read, omega arith, omega arith, stored ∙ rw i)
+pub side-past : (reading : Reading (List ℕ)) (index end : ℕ) (next : BitCursor) (words after : List ℕ) →
+    TermsRead reading (index + 128) index words (terms.Read end next) after →
+    WordsRead itself 128 reading index words (Past end next) after
+side-past reading index end next words after (nodes, read, long, within, stored) =
+    (nodes, read, long, omega arith, stored)
 
 -- A side whose words stand first.
 pub side-front : (reading : Reading (List ℕ)) (words : List ℕ) → 128 ≤ length words → (r : Stored) (after : List ℕ) →

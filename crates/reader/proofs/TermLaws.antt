@@ -1,9 +1,13 @@
 -- What the code that reads terms has to show at each of its ends.
---     symbol-count, index-count                            how many symbols a table has
---     none-left, bad-node, no-symbol, variable, constant, arguments  one term
---     no-terms, bad-term, more-terms                       some terms
+--     symbol-count, index-count                  how many symbols a table has
+--     sets-append                                words stored after words
+--     none-taken                                 nothing read
+--     none-left, bad-node, no-symbol             a node that is refused
+--     variable-taken, symbol-taken, beyond-rest  a node that is read
+--     row-fault, row-taken                       a row of terms, and others owed after it
+--     rest-more, rest-done                       what was read before goes before what is read
 use mathlib.Core.Path.{_≡_, refl, sym, ap, _∙_}
-use mathlib.Core.List.{List, [], _∷_, _++_}
+use mathlib.Core.List.{List, [], _∷_, _++_, append-assoc, append-nil}
 use Prim.Native.Nat.{ℕ, suc, zero, _+_, _-_, _*_, _/_, _≤_, _<_}
 use native.Mathlib.Nat.{add-zero, suc-add, add-suc}
 use native.Mathlib.Omega.{arith}
@@ -15,24 +19,18 @@ use Rattle.multisets.proofs.Relations.{sameTest}
 use Rattle.terms.specs.Signature.{Signature, symbolOf}
 use Rattle.terms.specs.Words.{firstVariable}
 use Rattle.format.specs.Errors.{noSuchSymbol, tooManyNodes}
-use Rattle.format.specs.Reading.{Reading, andThen, give, Node, Source}
+use Rattle.format.specs.Reading.{Reading, Reader, andThen, give, Node, Source}
 use Rattle.format.specs.Reading.Reading.{got, fault}
 use Rattle.format.specs.Format.{forestReader}
-use Rattle.format.proofs.ForestLaws.{
-  before,
-  following,
-  nothing-owed,
-  none-allowed,
-  one-fault,
-  one-unknown,
-  one-variable,
-}
-use Rattle.format.proofs.ForestLaws.{one-symbol, row-more, forest-add}
+use Rattle.format.proofs.ReadingLaws.{andThen-give, andThen-assoc, andThen-same}
+use Rattle.format.proofs.ForestLaws.{nothing-owed, none-allowed, node-fault, unknown-symbol, variable-read, symbol-read}
+use Rattle.format.proofs.ForestLaws.{forest-add}
 use Rattle.symbols.specs.Table.{symbolsAt, signatureOf}
 use Rattle.bits.specs.declared.BitCursor.{BitCursor}
-use Rattle.reader.specs.declared.term.Terms.{Terms}
-use Rattle.reader.specs.declared.term.Terms.the-variants.{Read, Fault}
-use Rattle.reader.specs.Term.{TermsRead}
+use Rattle.reader.specs.declared.term.Terms.the-variants.{Read}
+use Rattle.reader.specs.declared.term.Rest.{Rest}
+use Rattle.reader.specs.declared.term.Rest.the-variants.{Owed, Fault}
+use Rattle.reader.specs.Term.{TermsRead, RestOwed, Beyond}
 
 pub length-symbols : (table : List ℕ) (f n : ℕ) → length (symbolsAt table f n) ≡ n
 length-symbols table f zero = refl
@@ -52,85 +50,102 @@ pub sets-append : (l : List ℕ) (i : ℕ) (xs ys : List ℕ) → sets l i (xs +
 sets-append l i [] ys = rw add-zero
 sets-append l i (x ∷ xs) ys = sets-append (set l i x) (suc i) xs ys ∙ rw (suc-add, add-suc)
 
-module _ (source : Source) (σ : Signature) (limit allowed at : ℕ) (words : List ℕ) where
-  pub none-left : allowed ≡ 0 → TermsRead (forestReader source σ allowed 1 at) limit allowed words (Fault tooManyNodes
-      at) words
-  none-left e = rw e (none-allowed source σ 1 at (omega arith))
+module _ (source : Source) (σ : Signature) (limit index owed at : ℕ) (words : List ℕ) where
+  -- ---- nothing read yet
 
-  -- ---- one term
+  pub none-taken : index ≤ limit → (left : ℕ) → left ≡ owed → (cursor : BitCursor) → cursor .at ≡ at →
+      RestOwed (forestReader source σ) limit index owed at words (Owed index cursor left) words
+  none-taken h left e cursor c =
+      ([], rw (e, c) (sym (andThen-give (forestReader source σ (limit - index) owed at))), omega arith, h, refl)
 
-  module _ (h : 0 < allowed) (fits : allowed ≤ limit) where
-    pub bad-node : (code offset : ℕ) → source .node at ≡ fault code offset →
-        TermsRead (forestReader source σ allowed 1 at) limit allowed words (Fault code offset) words
-    bad-node code offset e = one-fault source σ allowed at h code offset e
+  -- ---- a node
 
-    module _ (v : Node) (next : BitCursor) (e : source .node at ≡ got v (next .at)) where
-      pub no-symbol : v .word < firstVariable → length (σ .symbols) ≤ v .word → (after : List ℕ) →
-          TermsRead (forestReader source σ allowed 1 at) limit allowed words (Fault noSuchSymbol (v .offset)) after
-      no-symbol hv hs after = one-unknown source σ allowed at h v (next .at) e hv hs
+  module _ (more : 0 < owed) where
+    pub none-left : index ≡ limit → forestReader source σ (limit - index) owed at ≡ fault tooManyNodes at
+    none-left e =
+        let z : limit - index ≡ 0 = omega arith in
+        rw z (none-allowed source σ owed at more)
 
-      pub variable : firstVariable ≤ v .word →
-          TermsRead (forestReader source σ allowed 1 at) limit allowed words (Read (allowed - 1) next)
-          (set words (limit - allowed) (v .word))
-      variable hv = (v .word ∷ [], one-variable source σ allowed at h v (next .at) e hv, omega arith, refl)
+    module _ (h : index < limit) where
+      pub bad-node : (code offset : ℕ) → source .node at ≡ fault code offset →
+          forestReader source σ (limit - index) owed at ≡ fault code offset
+      bad-node = node-fault source σ (limit - index) owed at (omega arith) more
 
-      pub constant : v .word < firstVariable → v .word < length (σ .symbols) → symbolOf σ (v .word) .arity ≡ 0 →
-          TermsRead (forestReader source σ allowed 1 at) limit allowed words (Read (allowed - 1) next)
-          (set words (limit - allowed) (v .word))
-      constant hv hs none = (
-        v .word ∷ [],
-        one-symbol source σ allowed at h v (next .at) e hv hs ∙ rw (
-          none,
-          nothing-owed source σ (allowed - 1) (next
-              .at),
-        ),
-        omega arith,
-        refl,
-      )
+      module _ (v : Node) (next : BitCursor) (e : source .node at ≡ got v (next .at)) where
+        pub no-symbol : v .word < firstVariable → length (σ .symbols) ≤ v .word →
+            forestReader source σ (limit - index) owed at ≡ fault noSuchSymbol (v .offset)
+        no-symbol = unknown-symbol source σ (limit - index) owed at (omega arith) more v (next .at) e
 
-      pub arguments : v .word < firstVariable → v .word < length (σ .symbols) → (r : Terms) (after : List ℕ) →
-          TermsRead (forestReader source σ (allowed - 1) (symbolOf σ (v .word) .arity) (next .at)) limit (allowed - 1)
-          (set words (limit - allowed) (v .word)) r after →
-          TermsRead (forestReader source σ allowed 1 at) limit allowed words r after
-      arguments hv hs (Read left end) after (nodes, read, count, stored) =
-          let one = one-symbol source σ allowed at h v (next .at) e hv hs in
-          let index : limit - (allowed - 1) ≡ suc (limit - allowed) = omega arith in
-          (v .word ∷ nodes, one ∙ rw read, omega arith, stored ∙ rw index)
-      arguments hv hs (Fault code offset) after read =
-          one-symbol source σ allowed at h v (next .at) e hv hs ∙ rw read
+        fewer : limit - index - 1 ≡ limit - (index + 1)
+        fewer = omega arith
 
-  -- ---- some terms
-
-  pub no-terms : (cursor : BitCursor) → cursor .at ≡ at →
-      TermsRead (forestReader source σ allowed 0 at) limit allowed words (Read allowed cursor) words
-  no-terms cursor e = ([], rw e (nothing-owed source σ allowed at), omega arith, refl)
-
-  module _ (fits : allowed ≤ limit) (count left : ℕ) (here : BitCursor) (middle : List ℕ)
-      (so : TermsRead (forestReader source σ allowed count at) limit allowed words (Read left here) middle) where
-    -- What is read after those terms.
-    after-so : (n : ℕ) → forestReader source σ allowed (count + n) at ≡
-        andThen (forestReader source σ left n (here .at)) (λ others. give (so .0 ++ others))
-    after-so n =
-        let (nodes, read, spent, stored) = so in
-        let l : allowed - length nodes ≡ left = omega arith in
-        forest-add source σ allowed count n at ∙ rw (read, l)
-
-    pub bad-term : (owed : ℕ) → count < owed → (code offset : ℕ) (after : List ℕ) →
-        forestReader source σ left 1 (here .at) ≡ fault code offset →
-        TermsRead (forestReader source σ allowed owed at) limit allowed words (Fault code offset) after
-    bad-term owed h code offset after e =
-        let n : owed ≡ count + (owed - count) = omega arith in
-        ap (λ (k : ℕ). forestReader source σ allowed k at) n ∙ after-so (owed - count)
-        ∙ rw (row-more source σ left (owed - count) (here .at) (omega arith), e)
-
-    pub more-terms : (rest : ℕ) (next : BitCursor) (after : List ℕ) →
-        TermsRead (forestReader source σ left 1 (here .at)) limit left middle (Read rest next) after →
-        TermsRead (forestReader source σ allowed (count + 1) at) limit allowed words (Read rest next) after
-    more-terms rest next after (others, read', spent', stored') =
-        let (nodes, read, spent, stored) = so in
-        let index : limit - left ≡ limit - allowed + length nodes = omega arith in (
-          nodes ++ others,
-          after-so 1 ∙ rw read',
-          simp length-append (omega arith),
-          stored' ∙ rw (index, stored) (sym (sets-append words (limit - allowed) nodes others)),
+        pub variable-taken : firstVariable ≤ v .word →
+            RestOwed (forestReader source σ) limit index owed at words (Owed (index + 1) next (owed - 1))
+            (set words index (v .word))
+        variable-taken hv = (
+          v .word ∷ [],
+          rw fewer at (variable-read source σ (limit - index) owed at (omega arith) more v (next .at) e hv),
+          omega arith,
+          omega arith,
+          refl,
         )
+
+        pub symbol-taken : v .word < firstVariable → v .word < length (σ .symbols) →
+            RestOwed (forestReader source σ) limit index owed at words
+            (Owed (index + 1) next (symbolOf σ (v .word) .arity + (owed - 1))) (set words index (v .word))
+        symbol-taken hv hs = (
+          v .word ∷ [],
+          rw fewer at (symbol-read source σ (limit - index) owed at (omega arith) more v (next .at) e hv hs),
+          omega arith,
+          omega arith,
+          refl,
+        )
+
+  -- ---- the first of the terms, as a row
+
+  module _ (others : ℕ) where
+    pub row-fault : (code offset : ℕ) → forestReader source σ (limit - index) owed at ≡ fault code offset →
+        forestReader source σ (limit - index) (owed + others) at ≡ fault code offset
+    row-fault code offset e = forest-add source σ (limit - index) owed others at ∙ rw e
+
+    pub row-taken : (end : ℕ) (next : BitCursor) (after : List ℕ) →
+        TermsRead (forestReader source σ (limit - index) owed at) limit index words (Read end next) after →
+        RestOwed (forestReader source σ) limit index (owed + others) at words (Owed end next others) after
+    row-taken end next after (nodes, read, long, within, stored) =
+        let l : limit - index - length nodes ≡ limit - end = omega arith in
+        (nodes, forest-add source σ (limit - index) owed others at ∙ rw (read, l), long, within, stored)
+
+  -- ---- what was read before
+
+  module _ (end : ℕ) (here : BitCursor) (left : ℕ) (middle : List ℕ)
+      (so : RestOwed (forestReader source σ) limit index owed at words (Owed end here left) middle) where
+    pub rest-more : (r : Rest) (after : List ℕ) →
+        RestOwed (forestReader source σ) limit end left (here .at) middle r after →
+        RestOwed (forestReader source σ) limit index owed at words r after
+    rest-more (Owed last next fewer) after (others, read', long', within', stored') =
+        let (nodes, read, long, within, stored) = so in
+        let rest = forestReader source σ (limit - last) fewer (next .at) in (
+          nodes ++ others,
+          read ∙ rw read' (andThen-assoc rest _ _ ∙ andThen-same rest _ _ (λ ws to. ap (λ (l : List ℕ). got l to)
+              (sym (append-assoc nodes others ws)))),
+          simp length-append (omega arith),
+          within',
+          stored' ∙ rw (long, stored) (sym (sets-append words index nodes others)),
+        )
+    rest-more (Fault code offset) after read' = so .1 ∙ rw read'
+
+    pub rest-done : left ≡ 0 →
+        TermsRead (forestReader source σ (limit - index) owed at) limit index words (Read end here) middle
+    rest-done z =
+        let (nodes, read, long, within, stored) = so in (
+          nodes,
+          read ∙ rw (z, nothing-owed source σ (limit - end) (here .at), append-nil),
+          long,
+          within,
+          stored,
+        )
+
+pub beyond-rest : (read : ℕ → ℕ → Reader (List ℕ)) (limit index owed at : ℕ) (words : List ℕ) (r : Rest) (after : List ℕ) →
+    RestOwed read limit (index + 1) owed at words r after → Beyond index r
+beyond-rest read limit index owed at words (Owed end next left) after (nodes, all, long, within, stored) = omega arith
+beyond-rest read limit index owed at words (Fault code offset) after e = tt

@@ -33,9 +33,9 @@ pub fn put_side(
         index (now (words .entry)) r (now (words .exit))
         ⌝ }
 {
-    match read_row(book, table, words, index + 128, cursor, 128, 1) {
+    match read_row(book, table, words, index, index + 128, cursor, 1) {
         Terms::Fault(code, offset) => Stored::Fault(code, offset),
-        Terms::Read(left, next) => Stored::Past(index + 128 - left, next),
+        Terms::Read(end, next) => Stored::Past(end, next),
     }
 }
 

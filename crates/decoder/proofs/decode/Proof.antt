@@ -69,7 +69,7 @@ put-file-requires : tie.Need-put-file-requires
 put-file-requires c κs =
     let (file, end, read, parts) = (rw (c .before .before .before .before .symbol-count .given .1) at (c .before .before
     .before .before .before .before .before .read-file .ensures)) in
-    (parts .short, rw (parts .signature) (parts .symbolCount), parts .fewSymbols, parts .fewRules)
+    (parts .short, rw (parts .signature) (parts .symbolCount), parts .fewSymbols, parts .fewRules, omega arith)
 
 returns-2 : tie.Need-returns-2
 returns-2 c =

@@ -2,16 +2,14 @@ use borrow.Author.Needs.{needs}
 use native.Mathlib.Omega.{arith}
 use mathlib.Core.Path.{_≡_, refl, sym, ap, _∙_}
 use Prim.Native.Nat.{ℕ, _+_, _-_}
-use lib.ListN.{length}
+use lib.ListN.{length, length-set}
 use Rattle.format.specs.Reading.{bitSource}
-use Rattle.bits.specs.Cursor.{nodeReading}
 use Rattle.decoder.proofs.NodesLaws.{RestRead, rest-all, rest-none, rest-missing, rest-more}
 use Rattle.decoder.proofs.put_nodes.Statement.{statement}
 use Rattle.decoder.proofs.put_nodes.Tie as tie
 use Rattle.decoder.proofs.put_nodes.Reads as reads
 use Rattle.decoder.proofs.put_nodes.Lts as lts
-use Rattle.bits.proofs.BitCursor.node.Reads as node-reads
-use Rattle.reader.proofs.term.put_word.Reads as put-word-reads
+use Rattle.bits.proofs.BitCursor.word.Reads as word-reads
 
 abbrev Inv-loop : tie.InvT-loop
 Inv-loop book words₀ index end here₀ place₀ words here place =
@@ -21,14 +19,10 @@ abbrev μ-loop : tie.MeasureT-loop
 μ-loop book words₀ index end here₀ place₀ words here place = end - place
 
 loop-holds : tie.Need-loop-holds Inv-loop μ-loop
-loop-holds c = (
-  refl,
-  rest-all (bitSource (c .before .before .args .book .now)) (c .before .before .args .cursor .at) (c
-      .before .before .args .index) (c .before .before .args .end) (c .before .before .args .words .now),
-)
+loop-holds c = (refl, rest-all (bitSource (c .before .before .args .book .now)) (c .before .before .args .cursor .at) (c .before .before .args .index) (c .before .before .args .end) (c .before .before .args .words .now))
 
-node-requires : tie.Need-node-requires Inv-loop μ-loop
-node-requires c κs = search needs
+word-requires : tie.Need-word-requires Inv-loop μ-loop
+word-requires c κs = search needs
 
 enum-told : tie.Need-enum-told Inv-loop μ-loop
 enum-told c = search needs
@@ -37,20 +31,18 @@ same-length : tie.Need-same-length Inv-loop μ-loop
 same-length c = c .before .before .before .before .loop .inv .0
 
 returns : tie.Need-returns Inv-loop μ-loop
-returns c = rest-missing (bitSource (c .before .before .before .before .before .before .before .args .book .now)) (c
-    .before .before .before .before .before .before .before .args .cursor .at) (c .before .before .before .before
-    .before .before .before .args .index) (c .before .before .before .before .before .before .before .args .end) (c
-    .before .before .before .before .before .before .before .args .words .now) (c .before .before .before .before .loop
-    .here .at) (c .before .before .before .before .loop .place) (c .before .before .before .before .loop .words) (c
-    .before .before .before .before .loop .inv .1) (c .before .before .before .loop-test .taken) _ _ (sym (c .before
-    .before .node .ensures) ∙ ap (nodeReading (c .before .before .before .before .loop .here .at)) (c .enum-told .given
-    .1))
+returns c =
+    let (offset, missing) = rw (c .enum-told .given .1) at (c .before .before .word .ensures) in
+    rest-missing (bitSource (c .before .before .before .before .before .before .before .args .book .now)) (c .before .before .before .before .before .before .before .args .cursor .at) (c .before .before .before .before .before .before .before .args .index) (c .before .before .before .before .before .before .before .args .end) (c .before .before .before .before .before .before .before .args .words .now) (c .before .before .before .before .loop .here .at) (c .before .before .before .before .loop .place) (c .before .before .before .before .loop .words) (c .before .before .before .before .loop .inv .1) (c .before .before .before .loop-test .taken) _ offset missing
 
 enum-known-word : tie.Need-enum-known-word Inv-loop μ-loop
 enum-known-word c = search needs
 
-put-word-requires : tie.Need-put-word-requires Inv-loop μ-loop
-put-word-requires c κs = search needs
+mul-words : tie.Need-mul-words Inv-loop μ-loop
+mul-words c = search needs
+
+slice-write-words : tie.Need-slice-write-words Inv-loop μ-loop
+slice-write-words c = omega (arith, c .before .before .before .before .before .loop .inv .0, c .before .before .before .before .before .before .before .before .pre .1)
 
 add-place : tie.Need-add-place Inv-loop μ-loop
 add-place c = search needs
@@ -60,31 +52,17 @@ loop-less c = search needs
 
 loop-again : tie.Need-loop-again Inv-loop μ-loop
 loop-again c = (
-  c .before .before .put-word .kept .0 ∙ c .before .before .before .before .before .before .before .before .before .loop
-      .inv .0,
-  rw (c .before .before .put-word .ensures) (rest-more (bitSource (c .before .before .before .before .before .before
-      .before .before .before .before .before .before .args .book .now)) (c .before .before .before .before .before
-      .before .before .before .before .before .before .before .args .cursor .at) (c .before .before .before .before
-      .before .before .before .before .before .before .before .before .args .index) (c .before .before .before .before
-      .before .before .before .before .before .before .before .before .args .end) (c .before .before .before .before
-      .before .before .before .before .before .before .before .before .args .words .now) (c .before .before .before
-      .before .before .before .before .before .before .loop .here .at) (c .before .before .before .before .before
-      .before .before .before .before .loop .place) (c .before .before .before .before .before .before .before .before
-      .before .loop .words) (c .before .before .before .before .before .before .before .before .before .loop .inv .1) (c
-      .before .before .before .before .before .before .before .before .loop-test .taken) _ _ (sym (c .before .before
-      .before .before .before .before .before .node .ensures) ∙ ap (nodeReading (c .before .before .before .before
-      .before .before .before .before .before .loop .here .at)) (c .before .before .before .before .before .word .given
-      .1))),
+  length-set (c .before .before .before .before .before .loop .words) (c .before .before .before .before .before .loop .place) _ ∙ c .before .before .before .before .before .loop .inv .0,
+  rest-more (bitSource (c .before .before .before .before .before .before .before .before .args .book .now)) (c .before .before .before .before .before .before .before .before .args .cursor .at) (c .before .before .before .before .before .before .before .before .args .index) (c .before .before .before .before .before .before .before .before .args .end) (c .before .before .before .before .before .before .before .before .args .words .now) (c .before .before .before .before .before .loop .here .at) (c .before .before .before .before .before .loop .place) (c .before .before .before .before .before .loop .words) (c .before .before .before .before .before .loop .inv .1) (c .before .before .before .before .loop-test .taken) _ _
+      (rw (c .before .word2 .given .1) at (c .before .before .before .word .ensures)),
 )
 
 same-length-2 : tie.Need-same-length-2 Inv-loop μ-loop
 same-length-2 c = c .before .loop .inv .0
 
 returns-2 : tie.Need-returns-2 Inv-loop μ-loop
-returns-2 c = rest-none (bitSource (c .before .before .before .before .args .book .now)) (c .before .before .before
-    .before .args .cursor .at) (c .before .before .before .before .args .index) (c .before .before .before .before .args
-    .end) (c .before .before .before .before .args .words .now) (c .before .loop .here .at) (c .before .loop .place) (c
-    .before .loop .words) (c .before .loop .inv .1) (c .loop-test .left)
+returns-2 c =
+    rest-none (bitSource (c .before .before .before .before .args .book .now)) (c .before .before .before .before .args .cursor .at) (c .before .before .before .before .args .index) (c .before .before .before .before .args .end) (c .before .before .before .before .args .words .now) (c .before .loop .here .at) (c .before .loop .place) (c .before .loop .words) (c .before .loop .inv .1) (c .loop-test .left)
 
 pub put-nodes-spec : {M : Type 1} → statement M
 put-nodes-spec =
@@ -93,12 +71,13 @@ put-nodes-spec =
     Inv-loop
     μ-loop
     loop-holds
-    node-requires
+    word-requires
     enum-told
     same-length
     returns
     enum-known-word
-    put-word-requires
+    mul-words
+    slice-write-words
     add-place
     loop-less
     loop-again

@@ -12,14 +12,14 @@ use Rattle.bits.proofs.BitCursor.late_node.Tie as tie
 use Rattle.bits.proofs.BitCursor.late_node.Reads as reads
 use Rattle.bits.proofs.BitCursor.late_node.Lts as lts
 use Rattle.bits.proofs.byte_at.Reads as byte-at-reads
+use Rattle.bits.proofs.node_of.Reads as node-of-reads
 use Rattle.bits.proofs.node_width.Reads as node-width-reads
-use Rattle.bits.proofs.node_word.Reads as node-word-reads
 
 mul-end : tie.Need-mul-end
 mul-end c = search needs
 
 returns : tie.Need-returns
-returns c = sym (node-none (c .before .before .args .book .now) (c .before .before .args .self .at) (c .if1 .taken))
+returns c = (sym (node-none (c .before .before .args .book .now) (c .before .before .args .self .at) (c .if1 .taken)), tt)
 
 byte-at-requires : tie.Need-byte-at-requires
 byte-at-requires c κs = search needs
@@ -36,51 +36,38 @@ cast-nine c = search needs
 shr-nine : tie.Need-shr-nine
 shr-nine c = search needs
 
-node-width-requires : tie.Need-node-width-requires
-node-width-requires c κs = search needs
-
 sub-if2 : tie.Need-sub-if2
 sub-if2 c = search needs
 
-add-t15 : tie.Need-add-t15
-add-t15 c = search needs
+node-width-requires : tie.Need-node-width-requires
+node-width-requires c κs = search needs
+
+add-t14 : tie.Need-add-t14
+add-t14 c = search needs
 
 returns-2 : tie.Need-returns-2
 returns-2 c =
     let a = c .before .before .before .before .before .args in
-    let small : (i : ℕ) → getD (a .book .now) i 0 < 256 = λ i. omega (
-      arith,
-      c .before .before .before .before
-          .shared-slice-known .given i,
-    ) in
-    let past : getD (a .book .now) (a .self .at / 8 + 1) 0 ≡ 0 = List·getD-eq-default (a .book .now) 0 (c .before
-    .before .before .before .before .pre .1) in
-    let nine : spelt (bitAt (a .book .now)) (a .self .at) 9 ≡ c .before .before .byte-at .result * 256 / 2 ^ (7 - a
-    .self .at % 8) % 512 =
+    let small : (i : ℕ) → getD (a .book .now) i 0 < 256 = λ i. omega (arith, c .before .before .before .before .shared-slice-known .given i) in
+    let past : getD (a .book .now) (a .self .at / 8 + 1) 0 ≡ 0 = List·getD-eq-default (a .book .now) 0 (c .before .before .before .before .before .pre .1) in
+    let nine : spelt (bitAt (a .book .now)) (a .self .at) 9 ≡ c .before .before .byte-at .result * 256 / 2 ^ (7 - a .self .at % 8) % 512 =
     rw (c .before .before .byte-at .ensures .0) (field-one (a .book .now) small (a .self .at) past) in
-    sym (node-cut (a .book .now) (a .self .at) _ nine (omega arith) (omega (arith, c .before .node-width .ensures)))
+    (sym (node-cut (a .book .now) (a .self .at) _ nine (omega arith) (omega (arith, c .before .node-width .ensures))), tt)
 
-node-word-requires : tie.Need-node-word-requires
-node-word-requires c κs = search needs
-
-add-t11 : tie.Need-add-t11
-add-t11 c = search needs
+node-of-requires : tie.Need-node-of-requires
+node-of-requires c κs = search needs
 
 returns-3 : tie.Need-returns-3
 returns-3 c =
     let a = c .before .before .before .before .before .before .args in
-    let small : (i : ℕ) → getD (a .book .now) i 0 < 256 = λ i. omega (
-      arith,
-      c .before .before .before .before .before
-          .shared-slice-known .given i,
-    ) in
-    let past : getD (a .book .now) (a .self .at / 8 + 1) 0 ≡ 0 = List·getD-eq-default (a .book .now) 0 (c .before
-    .before .before .before .before .before .pre .1) in
-    let nine : spelt (bitAt (a .book .now)) (a .self .at) 9 ≡ c .before .before .before .byte-at .result * 256 / 2 ^ (7
-    - a .self .at % 8) % 512 =
-    rw (c .before .before .before .byte-at .ensures .0) (field-one (a .book .now) small (a .self .at) past) in
-    rw (c .before .before .node-width .ensures, c .node-word .ensures) (sym (node-got (a .book .now) (a .self .at) _
-    nine (omega (arith, c .before .before .node-width .ensures))))
+    let small : (i : ℕ) → getD (a .book .now) i 0 < 256 = λ i. omega (arith, c .before .before .before .before .before .shared-slice-known .given i) in
+    let past : getD (a .book .now) (a .self .at / 8 + 1) 0 ≡ 0 = List·getD-eq-default (a .book .now) 0 (c .before .before .before .before .before .before .pre .1) in
+    let nine : spelt (bitAt (a .book .now)) (a .self .at) 9 ≡ c .before .before .before .byte-at .result * 256 / 2 ^ (7 - a .self .at % 8) % 512 =
+    rw (c .before .before .before .byte-at .ensures .0) (field-one (a .book .now) small (a .self .at) past) in (
+      c .node-of .ensures .0 ∙
+          sym (node-got (a .book .now) (a .self .at) _ nine (omega (arith, c .before .before .node-width .ensures))),
+      c .node-of .ensures .1,
+    )
 
 pub late-node-spec : {M : Type 1} → statement M
 late-node-spec =
@@ -93,10 +80,9 @@ late-node-spec =
     sub-nine
     cast-nine
     shr-nine
-    node-width-requires
     sub-if2
-    add-t15
+    node-width-requires
+    add-t14
     returns-2
-    node-word-requires
-    add-t11
+    node-of-requires
     returns-3)

@@ -3,7 +3,6 @@ use mathlib.Core.Path.{_≡_, refl, sym, ap, _∙_}
 use Prim.Native.Nat.{ℕ, _+_, _*_, _-_, _/_, _%_, _^_, _<_, _≤_}
 use lib.ListN.{length, getD}
 use Rattle.format.specs.Reading.{spelt, bitAt}
-use Rattle.bits.specs.Cursor.{nodeWidth}
 use Rattle.bits.proofs.BitLaws.{field-two}
 use Rattle.bits.proofs.NodeLaws.{node-got, width-le}
 use borrow.Author.Needs.{needs}
@@ -13,8 +12,7 @@ use Rattle.bits.proofs.BitCursor.node.Reads as reads
 use Rattle.bits.proofs.BitCursor.node.Lts as lts
 use Rattle.bits.proofs.BitCursor.late_node.Reads as late-node-reads
 use Rattle.bits.proofs.byte_at.Reads as byte-at-reads
-use Rattle.bits.proofs.node_width.Reads as node-width-reads
-use Rattle.bits.proofs.node_word.Reads as node-word-reads
+use Rattle.bits.proofs.node_of.Reads as node-of-reads
 
 add-if1 : tie.Need-add-if1
 add-if1 c = search needs
@@ -49,35 +47,20 @@ cast-nine c = search needs
 shr-nine : tie.Need-shr-nine
 shr-nine c = search needs
 
-node-word-requires : tie.Need-node-word-requires
-node-word-requires c κs = search needs
-
-node-width-requires : tie.Need-node-width-requires
-node-width-requires c κs = search needs
-
-add-t7 : tie.Need-add-t7
-add-t7 c = omega (
-  arith,
-  c .node-width .ensures,
-  width-le ((c .before .before .before .byte-at .result * 256 + c .before
-      .before .byte-at2 .result) / 2 ^ (7 - c .before .before .before .before .before .before .args .self .at %
-      8) % 512),
-)
+node-of-requires : tie.Need-node-of-requires
+node-of-requires c κs = search needs
 
 returns-2 : tie.Need-returns-2
 returns-2 c =
-    let a = c .before .before .before .before .before .before .args in
-    let small : (i : ℕ) → getD (a .book .now) i 0 < 256 = λ i. omega (
-      arith,
-      c .before .before .before .before .before
-          .shared-slice-known .given i,
-    ) in
-    let two = c .before .before .before .byte-at .result * 256 + c .before .before .byte-at2 .result in
+    let a = c .before .before .before .before .before .args in
+    let small : (i : ℕ) → getD (a .book .now) i 0 < 256 = λ i. omega (arith, c .before .before .before .before .shared-slice-known .given i) in
+    let two = c .before .before .byte-at .result * 256 + c .before .byte-at2 .result in
     let nine : spelt (bitAt (a .book .now)) (a .self .at) 9 ≡ two / 2 ^ (7 - a .self .at % 8) % 512 =
-    rw (c .before .before .before .byte-at .ensures .0, c .before .before .byte-at2 .ensures .0) (field-two (a .book
-    .now) small (a .self .at)) in
-    rw (c .node-width .ensures, c .before .node-word .ensures) (sym (node-got (a .book .now) (a .self .at) _ nine (omega
-    (arith, width-le (two / 2 ^ (7 - a .self .at % 8) % 512)))))
+    rw (c .before .before .byte-at .ensures .0, c .before .byte-at2 .ensures .0) (field-two (a .book .now) small (a .self .at)) in
+    let fits = width-le (two / 2 ^ (7 - a .self .at % 8) % 512) in (
+      c .node-of .ensures .0 ∙ sym (node-got (a .book .now) (a .self .at) _ nine (omega (arith, fits))),
+      c .node-of .ensures .1,
+    )
 
 pub node-spec : {M : Type 1} → statement M
 node-spec =
@@ -94,7 +77,5 @@ node-spec =
     sub-nine
     cast-nine
     shr-nine
-    node-word-requires
-    node-width-requires
-    add-t7
+    node-of-requires
     returns-2)

@@ -1,4 +1,6 @@
 use native.Mathlib.Omega.{arith}
+use mathlib.Core.Path.{_≡_}
+use Prim.Native.Nat.{_+_, _-_}
 use Rattle.reader.proofs.RuleLaws.{side-past}
 use borrow.Author.Needs.{needs}
 use Rattle.reader.proofs.rule.put_side.Statement.{statement}
@@ -16,31 +18,27 @@ read-row-requires c κs = search needs
 enum-known-code : tie.Need-enum-known-code
 enum-known-code c = search needs
 
-enum-known-left : tie.Need-enum-known-left
-enum-known-left c = search needs
-
-add-t15 : tie.Need-add-t15
-add-t15 c = search needs
-
-sub-t16 : tie.Need-sub-t16
-sub-t16 c = let read = rw (c .before .left .given .1) at (c .before .before .before .before .before .read-row .ensures)
-    in omega (arith, read .2)
+enum-known-end : tie.Need-enum-known-end
+enum-known-end c = search needs
 
 same-length : tie.Need-same-length
 same-length c = search needs
 
 returns : tie.Need-returns
-returns c = rw (c .before .code .given .1) at (c .before .before .before .before .before .read-row .ensures)
+returns c =
+    let a = c .before .before .before .before .before .before .before .before .before .before .args in
+    let all : a .index + 128 - a .index ≡ 128 = omega arith in
+    rw (c .before .code .given .1, all) at (c .before .before .before .before .before .read-row .ensures)
 
 same-length-2 : tie.Need-same-length-2
 same-length-2 c = search needs
 
 returns-2 : tie.Need-returns-2
 returns-2 c =
-    side-past _ (c .before .before .before .before .before .before .before .before .before .before .args .index) _ _ (c
-    .before .before .before .before .before .before .before .before .before .before .args .words .now) (c .before
-    .before .before .before .before .read-row .last .1 .1 .0) (rw (c .before .left .given .1) at (c .before .before
-    .before .before .before .read-row .ensures))
+    let a = c .before .before .before .before .before .before .before .before .before .before .args in
+    let all : a .index + 128 - a .index ≡ 128 = omega arith in
+    side-past _ (a .index) _ _ (a .words .now) (c .before .before .before .before .before .read-row .last .1 .1 .0)
+    (rw (c .before .end .given .1, all) at (c .before .before .before .before .before .read-row .ensures))
 
 pub put-side-spec : {M : Type 1} → statement M
 put-side-spec =
@@ -49,9 +47,7 @@ put-side-spec =
     add-read-row
     read-row-requires
     enum-known-code
-    enum-known-left
-    add-t15
-    sub-t16
+    enum-known-end
     same-length
     returns
     same-length-2

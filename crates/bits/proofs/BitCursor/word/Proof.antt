@@ -1,0 +1,41 @@
+use mathlib.Core.Path.{sym, ap, _∙_}
+use Rattle.bits.specs.Cursor.{nodeReading}
+use borrow.Author.Needs.{needs}
+use Rattle.bits.proofs.BitCursor.word.Statement.{statement}
+use Rattle.bits.proofs.BitCursor.word.Tie as tie
+use Rattle.bits.proofs.BitCursor.word.Reads as reads
+use Rattle.bits.proofs.BitCursor.word.Lts as lts
+use Rattle.bits.proofs.BitCursor.node.Reads as node-reads
+
+node-requires : tie.Need-node-requires
+node-requires c κs = search needs
+
+enum-known-word : tie.Need-enum-known-word
+enum-known-word c = search needs
+
+enum-known-word-2 : tie.Need-enum-known-word-2
+enum-known-word-2 c = search needs
+
+enum-told : tie.Need-enum-told
+enum-told c = search needs
+
+returns : tie.Need-returns
+returns c = sym (c .before .before .before .node .ensures .0) ∙ ap (nodeReading (c .before .before .before .before .before .args .self .at)) (c .before .word .given .1)
+
+returns-2 : tie.Need-returns-2
+returns-2 c = sym (c .before .before .before .node .ensures .0) ∙ ap (nodeReading (c .before .before .before .before .before .args .self .at)) (c .before .word2 .given .1)
+
+returns-3 : tie.Need-returns-3
+returns-3 c = (_, sym (c .before .before .node .ensures .0) ∙ ap (nodeReading (c .before .before .before .before .args .self .at)) (c .enum-told .given .1))
+
+pub word-spec : {M : Type 1} → statement M
+word-spec =
+    tie.close
+    (tie.spec
+    node-requires
+    enum-known-word
+    enum-known-word-2
+    enum-told
+    returns
+    returns-2
+    returns-3)

@@ -1,4 +1,4 @@
-//! Signatures with names, and rules in readable text.
+//! Signatures with names, rules in readable text, and examples of both.
 
 use twin::generate::{Book, Signature, Tree};
 use twin::table::Symbol;
@@ -60,12 +60,39 @@ impl Theory {
         assert_eq!(String::from_utf8(report(&book)).expect("a report is text"), text, "{rule}");
         (mark, comparison.margin)
     }
+}
 
-    /// Checks the mark and the margin of each rule.
-    pub fn check(&self, cases: &[(&str, u8, i64)]) {
-        for &(rule, mark, margin) in cases {
-            assert_eq!(self.mark(rule), (mark, margin), "{rule}");
-        }
+/// A rule with its mark and its margin.
+pub type Case<'a> = (&'a str, u8, i64);
+
+/// Rules over a theory, each with its mark and its margin.
+pub struct Example {
+    pub title: String,
+    pub theory: Theory,
+    cases: Vec<(String, u8, i64)>,
+}
+
+impl Example {
+    pub fn new(title: &str, theory: Theory, cases: &[Case]) -> Self {
+        let cases = cases.iter().map(|&(rule, mark, margin)| (rule.into(), mark, margin)).collect();
+        Example { title: title.into(), theory, cases }
+    }
+
+    /// The packed rule file of the rules.
+    pub fn book(&self) -> Vec<u8> {
+        let rules: Vec<&str> = self.cases.iter().map(|(rule, ..)| rule.as_str()).collect();
+        self.theory.book(&rules)
+    }
+
+    /// Checks the mark and the margin of each rule, alone and in the book of all.
+    pub fn check(&self) {
+        let lines = self.cases.iter().enumerate().map(|(number, (rule, mark, margin))| {
+            assert_eq!(self.theory.mark(rule), (*mark, *margin), "{}: {rule}", self.title);
+            format!("{number} {mark} {margin}\n")
+        });
+        let lines: String = lines.collect();
+        let text = String::from_utf8(report(&self.book())).expect("a report is text");
+        assert!(text.starts_with(&format!("rules {}\n{lines}score ", self.cases.len())), "{}: {text}", self.title);
     }
 }
 

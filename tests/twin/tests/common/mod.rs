@@ -35,13 +35,23 @@ impl Theory {
         tree.words()
     }
 
-    /// The packed rule file of rules.
-    pub fn book(&self, rules: &[&str]) -> Vec<u8> {
+    /// The rule file of rules.
+    fn file(&self, rules: &[&str]) -> Book {
         let rules = rules.iter().map(|rule| {
             let (left, right) = rule.split_once("->").expect("a rule has an arrow");
             (self.term(left), self.term(right))
         });
-        Book { signature: self.signature.clone(), rules: rules.collect() }.packed()
+        Book { signature: self.signature.clone(), rules: rules.collect() }
+    }
+
+    /// The packed rule file of rules.
+    pub fn book(&self, rules: &[&str]) -> Vec<u8> {
+        self.file(rules).packed()
+    }
+
+    /// The words of the rule file of rules.
+    pub fn sheet(&self, rules: &[&str]) -> Vec<u16> {
+        self.file(rules).words()
     }
 
     /// The mark and the margin of a rule, after a check that marking, the report and comparing agree.
@@ -68,7 +78,7 @@ pub type Case<'a> = (&'a str, u8, i64);
 /// Rules over a theory, each with its mark and its margin.
 pub struct Example {
     pub title: String,
-    pub theory: Theory,
+    theory: Theory,
     cases: Vec<(String, u8, i64)>,
 }
 
@@ -78,21 +88,24 @@ impl Example {
         Example { title: title.into(), theory, cases }
     }
 
-    /// The packed rule file of the rules.
-    pub fn book(&self) -> Vec<u8> {
-        let rules: Vec<&str> = self.cases.iter().map(|(rule, ..)| rule.as_str()).collect();
-        self.theory.book(&rules)
-    }
-
-    /// Checks the mark and the margin of each rule, alone and in the book of all.
+    /// Checks the mark and the margin of each rule, alone and in the report on the book of all.
     pub fn check(&self) {
         let lines = self.cases.iter().enumerate().map(|(number, (rule, mark, margin))| {
             assert_eq!(self.theory.mark(rule), (*mark, *margin), "{}: {rule}", self.title);
             format!("{number} {mark} {margin}\n")
         });
         let lines: String = lines.collect();
-        let text = String::from_utf8(report(&self.book())).expect("a report is text");
-        assert!(text.starts_with(&format!("rules {}\n{lines}score ", self.cases.len())), "{}: {text}", self.title);
+        let rules = self.cases.len();
+        let falling = self.cases.iter().filter(|(_, mark, _)| DECREASING.contains(mark)).count();
+        let verdict = if falling == rules { "accepted" } else { "returned" };
+        let text = format!("rules {rules}\n{lines}score {}\n{verdict}\n", 100 * falling / rules);
+        assert_eq!(self.report(), text, "{}", self.title);
+    }
+
+    /// The report on the book of the rules.
+    pub fn report(&self) -> String {
+        let rules: Vec<&str> = self.cases.iter().map(|(rule, ..)| rule.as_str()).collect();
+        String::from_utf8(report(&self.theory.book(&rules))).expect("a report is text")
     }
 }
 

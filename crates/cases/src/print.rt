@@ -1,0 +1,108 @@
+// Printing what the operations give back.
+ghost use Rattle.io.specs.Counts.{Counts};
+use comparing::CompareReply;
+use comparing::Relation;
+use comparing::compare;
+use encoder::encode::EncodeReply;
+use encoder::encode::encode;
+use libc::STDOUT_FILENO;
+use marking::mark::MarkReply;
+use marking::mark::mark;
+use marking::report::report;
+
+pub fn print(text: &[u8]) {
+    io::write_all(STDOUT_FILENO, text);
+}
+
+// Prints a line of three numbers.
+fn print_numbers(a: u64, b: u64, c: u64) {
+    io::print_decimal(STDOUT_FILENO, a);
+    print(b" ");
+    io::print_decimal(STDOUT_FILENO, b);
+    print(b" ");
+    io::print_decimal(STDOUT_FILENO, c);
+    print(b"\n");
+}
+
+// Prints an error's code, the input at fault and the offset in it.
+fn print_error(code: u8, input: u8, offset: usize) {
+    print_numbers(code as u64, input as u64, offset as u64);
+}
+
+// Writes the packed form of a sheet to the front of a book, and gives its length; or prints the error, and gives 0.
+pub fn close(sheet: &[u16], book: &mut [u8]) -> usize
+    ensures { λ r. ⌜ Counts r (now (book .exit)) ⌝ }
+{
+    match encode(sheet, book) {
+        EncodeReply::Accepted(count) => count,
+        EncodeReply::Refused(error) => {
+            print_error(error.code, error.input, error.offset);
+            0
+        }
+    }
+}
+
+// Prints what `marker` prints for a book.
+pub fn print_report(book: &[u8]) {
+    let mut text = io::large_buffer();
+    let end = report(book, &mut text);
+    print(&text[..end]);
+}
+
+// Prints a title, and what `marker` prints for the book of a sheet.
+pub fn show(title: &[u8], sheet: &[u16]) {
+    print(title);
+    let mut book = [0u8; 32768];
+    let count = close(sheet, &mut book);
+    print_report(&book[..count]);
+}
+
+// Prints how many rules a book has, how many of them decrease, and the score; or the error.
+pub fn print_marking(book: &[u8], marks: &mut [u8]) {
+    match mark(book, marks) {
+        MarkReply::Accepted(rules, decreasing, score) => print_numbers(
+            rules as u64,
+            decreasing as u64,
+            score as u64,
+        ),
+        MarkReply::Refused(error) => print_error(error.code, error.input, error.offset),
+    }
+}
+
+// 1 greater, 2 less, 3 AC-equivalent, 4 unrelated.
+fn relation_number(relation: Relation) -> u64 {
+    match relation {
+        Relation::Greater => 1,
+        Relation::Less => 2,
+        Relation::Equivalent => 3,
+        Relation::Unrelated => 4,
+    }
+}
+
+// Writes a signed number.
+fn put_signed(out: &mut [u8], at: usize, n: i64) -> usize {
+    if n < 0 {
+        return text::put_difference(out, at, 0, (-(n + 1)) as u64 + 1);
+    }
+    text::put_difference(out, at, n as u64, 0)
+}
+
+// Prints the number of a relation, and a margin.
+fn print_relation(number: u64, margin: i64) {
+    let mut line = [0u8; 32];
+    let start = text::put_number(&mut line, 0, number, b' ');
+    let end = put_signed(&mut line, start, margin);
+    let past = text::put_byte(&mut line, end, b'\n');
+    print(&line[..past]);
+}
+
+// Prints how two terms compare under a book; or the error.
+pub fn print_comparison(book: &[u8], left: &[u16], right: &[u16]) {
+    match compare(book, left, right) {
+        CompareReply::Accepted(comparison) => print_relation(
+            relation_number(comparison.relation),
+            comparison.margin,
+        ),
+        CompareReply::Refused(error) => print_error(error.code, error.input, error.offset),
+    }
+}

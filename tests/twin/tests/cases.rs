@@ -1,0 +1,138 @@
+//! 01's sample book and cases, its traps and its limits, and the examples of the articles: their marks and margins, and
+//! the text that the program `cases` prints for them.
+
+mod common;
+mod examples;
+
+use common::{Example, Theory};
+use examples::sample::{sample, CASES, COMPARISONS};
+use examples::{articles, sample};
+use twin::{compare, encode, mark, report, Comparison, Error, Marked, Relation};
+
+/// 01's listing.
+const LISTING: [u8; 17] =
+    [0x10, 0x20, 0x00, 0x10, 0x08, 0x00, 0x00, 0x40, 0x40, 0x00, 0x04, 0x00, 0x00, 0x01, 0x00, 0x80, 0x00];
+
+#[test]
+fn examples_have_their_marks_and_margins() {
+    sample::examples().iter().for_each(Example::check);
+    articles::examples().iter().for_each(Example::check);
+}
+
+#[test]
+fn sample_book_is_marked_rule_by_rule() {
+    let book = sample().book(&CASES.map(|(rule, ..)| rule));
+    let mut marks = [77; CASES.len() + 1];
+    assert_eq!(mark(&book, &mut marks), Ok(Marked { rules: 20, falling: 7, score: 35 }));
+    let expected: Vec<u8> = CASES.iter().map(|&(_, mark, _)| mark).chain([77]).collect();
+    assert_eq!(marks[..], expected);
+}
+
+#[test]
+fn sample_terms_compare_both_ways() {
+    let theory = sample();
+    let book = theory.book(&[]);
+    for (left, right, relation, margin) in COMPARISONS {
+        let reply = compare(&book, &theory.term(left), &theory.term(right));
+        assert_eq!(reply, Ok(Comparison { relation, margin }), "{left}, {right}");
+    }
+}
+
+#[test]
+fn listing_prints_its_text() {
+    assert_eq!(report(&LISTING), b"rules 2\n0 2 0\n1 10 0\nscore 50\nreturned\n");
+    assert_eq!(mark(&LISTING, &mut [0; 2]), Ok(Marked { rules: 2, falling: 1, score: 50 }));
+    assert_eq!(report(&[]), b"refusal 2 0\n");
+    assert_eq!(report(&[0x20]), b"refusal 3 0\n");
+    assert_eq!(report(&sample().book(&[])), b"rules 0\nscore 100\naccepted\n");
+    assert_eq!(report(&sample().book(&["z -> o"])), b"rules 1\n0 2 0\nscore 100\naccepted\n");
+}
+
+#[test]
+fn score_is_rounded_down() {
+    let theory = sample();
+    let score = |rules: &[&str]| mark(&theory.book(rules), &mut [0; 3]).unwrap().score;
+    assert_eq!(score(&["z -> o", "o -> z", "o -> z"]), 33);
+    assert_eq!(score(&["z -> o", "z -> o", "o -> z"]), 66);
+    assert_eq!(score(&["o -> z"]), 0);
+    assert_eq!(score(&[]), 100);
+}
+
+#[test]
+fn program_prints_what_the_twin_gives() {
+    let parts = [reports(&sample::examples()), comparisons(), listing(), reports(&articles::examples()), limits()];
+    assert_eq!(parts.concat(), include_str!("../../../crates/cases/stdout"));
+}
+
+/// Each example's title, and the report on its book.
+fn reports(examples: &[Example]) -> String {
+    examples.iter().map(|example| format!("{}\n{}", example.title, example.report())).collect()
+}
+
+/// A line for each comparison of terms of the sample.
+fn comparisons() -> String {
+    let theory = sample();
+    let book = theory.book(&[]);
+    let lines = COMPARISONS.iter().map(|(left, right, ..)| {
+        let reply = compare(&book, &theory.term(left), &theory.term(right)).expect("the terms are read");
+        let number = match reply.relation {
+            Relation::Greater => 1,
+            Relation::Less => 2,
+            Relation::Equivalent => 3,
+            Relation::Unrelated => 4,
+        };
+        format!("{number} {}\n", reply.margin)
+    });
+    lines.fold("sample, comparisons\n".into(), |text, line| text + &line)
+}
+
+fn listing() -> String {
+    format!("listing\n{}", text(&LISTING))
+}
+
+/// The report on a book.
+fn text(book: &[u8]) -> String {
+    String::from_utf8(report(book)).expect("a report is text")
+}
+
+fn error_line(error: Error) -> String {
+    format!("{} {} {}\n", error.code, error.input, error.offset)
+}
+
+/// The line of a marked book.
+fn marking(book: &[u8], marks: usize) -> String {
+    let reply = mark(book, &mut vec![0; marks]);
+    reply.map_or_else(error_line, |marked| format!("{} {} {}\n", marked.rules, marked.falling, marked.score))
+}
+
+/// The line of a sheet that is not encoded.
+fn refused(sheet: &[u16]) -> String {
+    error_line(encode(sheet, &mut [0; 32_768]).expect_err("the sheet is refused"))
+}
+
+/// A rule with so many symbols of arity 1 on its left side.
+fn tower(height: usize) -> String {
+    format!("{}c{} -> c", "f(".repeat(height), ")".repeat(height))
+}
+
+/// 01's limits, each at the last input that is read and at the first that is refused.
+fn limits() -> String {
+    let theory = Theory::new(1, &[("f", 1, 1, 0), ("c", 0, 1, 1)]);
+    let mut long = theory.book(&[tower(114).as_str(); 251]);
+    let longest = marking(&long, 251);
+    long.push(0);
+    let too_long = marking(&long, 251);
+    let (high, too_high) = (tower(127), tower(128));
+    let nodes = [text(&theory.book(&[&high])), refused(&theory.sheet(&[&too_high])), text(&theory.book(&[&too_high]))];
+    let [light, too_light] = [2, 1].map(|weight| Theory::new(2, &[("c", 0, weight, 0)]));
+    let weights = [text(&light.book(&[])), refused(&too_light.sheet(&[])), text(&too_light.book(&[]))];
+    let many = theory.book(&[tower(1).as_str(); 1_023]);
+    let parts = [
+        format!("no bytes\n{}", text(&[])),
+        format!("32,768 bytes, and 32,769\n{longest}{too_long}"),
+        format!("128 nodes, and 129\n{}", nodes.concat()),
+        format!("a constant of weight w0, and of w0 - 1\n{}", weights.concat()),
+        format!("1,023 marks for 1,023 rules, and 1,022\n{}{}", marking(&many, 1_023), marking(&many, 1_022)),
+    ];
+    parts.concat()
+}

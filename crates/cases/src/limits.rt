@@ -1,14 +1,11 @@
 // 01's limits, each at the last input that is read and at the first that is refused.
-ghost use mathlib.Core.Path.{_≡_};
 ghost use Prim.Native.Nat.{_+_, _*_, _≤_};
+ghost use lib.ListN.{length};
 ghost use Rattle.io.specs.Counts.{Counts};
 use crate::print::close;
 use crate::print::print;
 use crate::print::print_marking;
 use crate::print::print_report;
-
-// The words of the longest sheet.
-const MAX_WORDS: usize = 29128;
 
 // A sheet where w0 is 2, of one constant, of weight 2, and no rule.
 const WEIGHT_2: [u16; 8] = [1, 1, 2, 0, 0, 0, 2, 0];
@@ -16,22 +13,10 @@ const WEIGHT_2: [u16; 8] = [1, 1, 2, 0, 0, 0, 2, 0];
 // The same with a constant of weight 1.
 const WEIGHT_1: [u16; 8] = [1, 1, 2, 0, 0, 0, 1, 0];
 
-// Stores the header and two symbols of weight 1: f, number 0, of arity 1, and c, number 1, a constant.
-fn put_symbols(sheet: &mut [u16; MAX_WORDS], rules: u16) {
-    sheet[0] = 1;
-    sheet[1] = 2;
-    sheet[2] = 1;
-    sheet[3] = rules;
-    sheet[4] = 1;
-    sheet[6] = 1;
-    sheet[10] = 1;
-    sheet[11] = 1;
-}
-
 // Stores rules f(..f(c)) -> c, each with that many f, where the sheet has zeros, and gives the index past them.
-fn put_rules(sheet: &mut [u16; MAX_WORDS], rules: usize, height: usize) -> usize
-    requires { ⌜ 12 + rules * (height + 2) ≤ 29128 ⌝ }
-    ensures { λ r. ⌜ r ≡ 12 + rules * (height + 2) ⌝ }
+fn put_rules(sheet: &mut [u16], rules: usize, height: usize) -> usize
+    requires { ⌜ 12 + rules * (height + 2) ≤ length (now sheet) ⌝ }
+    ensures { λ r. ⌜ Counts r (now (sheet .exit)) ⌝ }
 {
     let mut at = 12;
     let mut i = 0;
@@ -45,13 +30,21 @@ fn put_rules(sheet: &mut [u16; MAX_WORDS], rules: usize, height: usize) -> usize
     at
 }
 
-// Closes the sheet of that many rules f(..f(c)) -> c, each with that many f.
+// Closes the sheet of that many rules f(..f(c)) -> c, each with that many f. w0 is 1; f is symbol 0, of arity 1, weight 1
+// and rank 0, and c is symbol 1, of arity 0, weight 1 and rank 1.
 fn close_towers(rules: u16, height: usize, book: &mut [u8]) -> usize
     requires { ⌜ 12 + rules * (height + 2) ≤ 29128 ⌝ }
     ensures { λ r. ⌜ Counts r (now (book .exit)) ⌝ }
 {
-    let mut sheet = [0u16; MAX_WORDS];
-    put_symbols(&mut sheet, rules);
+    let mut sheet = [0u16; 29128];
+    sheet[0] = 1;
+    sheet[1] = 2;
+    sheet[2] = 1;
+    sheet[3] = rules;
+    sheet[4] = 1;
+    sheet[6] = 1;
+    sheet[10] = 1;
+    sheet[11] = 1;
     let end = put_rules(&mut sheet, rules as usize, height);
     close(&sheet[..end], book)
 }
@@ -59,9 +52,9 @@ fn close_towers(rules: u16, height: usize, book: &mut [u8]) -> usize
 fn bytes() {
     print(b"32,768 bytes, and 32,769\n");
     let mut book = [0u8; 32769];
-    close_towers(251, 114, &mut book);
+    let count = close_towers(251, 114, &mut book);
     let mut marks = [0u8; 251];
-    print_marking(&book[..32768], &mut marks);
+    print_marking(&book[..count], &mut marks);
     print_marking(&book, &mut marks);
 }
 
@@ -93,7 +86,8 @@ fn marks() {
     let count = close_towers(1023, 1, &mut book);
     let mut marks = [0u8; 1023];
     print_marking(&book[..count], &mut marks);
-    print_marking(&book[..count], &mut marks[..1022]);
+    let mut fewer = [0u8; 1022];
+    print_marking(&book[..count], &mut fewer);
 }
 
 pub fn run() {

@@ -1,4 +1,5 @@
 // Printing what the operations give back.
+ghost use Prim.Native.Nat.{_+_, _^_, _≤_, _<_};
 ghost use Rattle.io.specs.Counts.{Counts};
 use comparing::CompareReply;
 use comparing::Relation;
@@ -70,7 +71,9 @@ pub fn print_marking(book: &[u8], marks: &mut [u8]) {
 }
 
 // 1 greater, 2 less, 3 AC-equivalent, 4 unrelated.
-fn relation_number(relation: Relation) -> u64 {
+fn relation_number(relation: Relation) -> u64
+    ensures { λ r. ⌜ r < 10 ⌝ }
+{
     match relation {
         Relation::Greater => 1,
         Relation::Less => 2,
@@ -79,16 +82,31 @@ fn relation_number(relation: Relation) -> u64 {
     }
 }
 
-// Writes a signed number.
-fn put_signed(out: &mut [u8], at: usize, n: i64) -> usize {
+// A number without its sign; !n is -n - 1.
+fn magnitude(n: i64) -> u64
+    ensures { λ r. ⌜ r < 10 ^ 19 ⌝ }
+{
     if n < 0 {
-        return text::put_difference(out, at, 0, (-(n + 1)) as u64 + 1);
+        return !n as u64 + 1;
     }
-    text::put_difference(out, at, n as u64, 0)
+    n as u64
+}
+
+// Writes a signed number.
+fn put_signed(out: &mut [u8], at: usize, n: i64) -> usize
+    requires { ⌜ at < 2 ^ 31 ⌝ }
+    ensures { λ r. ⌜ r ≤ at + 20 ⌝ }
+{
+    if n < 0 {
+        return text::put_difference(out, at, 0, magnitude(n));
+    }
+    text::put_difference(out, at, magnitude(n), 0)
 }
 
 // Prints the number of a relation, and a margin.
-fn print_relation(number: u64, margin: i64) {
+fn print_relation(number: u64, margin: i64)
+    requires { ⌜ number < 10 ⌝ }
+{
     let mut line = [0u8; 32];
     let start = text::put_number(&mut line, 0, number, b' ');
     let end = put_signed(&mut line, start, margin);
@@ -99,10 +117,10 @@ fn print_relation(number: u64, margin: i64) {
 // Prints how two terms compare under a book; or the error.
 pub fn print_comparison(book: &[u8], left: &[u16], right: &[u16]) {
     match compare(book, left, right) {
-        CompareReply::Accepted(comparison) => print_relation(
-            relation_number(comparison.relation),
-            comparison.margin,
-        ),
+        CompareReply::Accepted(comparison) => {
+            let relation = comparison.relation;
+            print_relation(relation_number(relation), comparison.margin);
+        }
         CompareReply::Refused(error) => print_error(error.code, error.input, error.offset),
     }
 }

@@ -1,0 +1,3 @@
+-- What the code of cases cites.
+mod CloseLaws
+mod SignLaws

@@ -30,8 +30,8 @@ fn put_rules(sheet: &mut [u16], rules: usize, height: usize) -> usize
     at
 }
 
-// Closes the sheet of that many rules f(..f(c)) -> c, each with that many f. w0 is 1; f is symbol 0, of arity 1, weight 1
-// and rank 0, and c is symbol 1, of arity 0, weight 1 and rank 1.
+// Closes the sheet of that many rules f(..f(c)) -> c, each with that many f, where w0 and all weights are 1, f is symbol
+// 0, of arity 1 and rank 0, and c is symbol 1, a constant of rank 1.
 fn close_towers(rules: u16, height: usize, book: &mut [u8]) -> usize
     requires { ⌜ 12 + rules * (height + 2) ≤ 29128 ⌝ }
     ensures { λ r. ⌜ Counts r (now (book .exit)) ⌝ }

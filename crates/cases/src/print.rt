@@ -16,7 +16,7 @@ pub fn print(text: &[u8]) {
 }
 
 // Prints a line of three numbers.
-fn print_numbers(a: u64, b: u64, c: u64) {
+pub fn print_numbers(a: u64, b: u64, c: u64) {
     io::print_decimal(STDOUT_FILENO, a);
     print(b" ");
     io::print_decimal(STDOUT_FILENO, b);
@@ -50,12 +50,17 @@ pub fn print_report(book: &[u8]) {
     print(&text[..end]);
 }
 
-// Prints a title, and what `marker` prints for the book of a sheet.
-pub fn show(title: &[u8], sheet: &[u16]) {
-    print(title);
+// Prints what `marker` prints for the book of a sheet.
+pub fn show_sheet(sheet: &[u16]) {
     let mut book = [0u8; 32768];
     let count = close(sheet, &mut book);
     print_report(&book[..count]);
+}
+
+// The same under a title.
+pub fn show(title: &[u8], sheet: &[u16]) {
+    print(title);
+    show_sheet(sheet);
 }
 
 // Prints how many rules a book has, how many of them decrease, and the score; or the error.

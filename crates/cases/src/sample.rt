@@ -1,9 +1,14 @@
-// 01's sample and traps as sheets.
-// A line for the header, for each symbol (arity, AC mark, weight, rank) and for each rule (left side, right side).
+// 01's sample, its traps and its listing.
+// A sheet has a line for the header, each symbol (arity, AC mark, weight, rank) and each rule (left side, right side).
+use crate::print::close;
+use crate::print::print;
+use crate::print::print_comparison;
+use crate::print::print_report;
+use crate::print::show;
 
 // The sample; where 01 does not group a sum, each grouping is a rule.
 #[rattlefmt::skip]
-pub const SAMPLE: [u16; 149] = [
+const SAMPLE: [u16; 149] = [
     1, 6, 1, 20,                         // form, K, w0, N
     0, 0, 1, 0,                          // o
     0, 0, 1, 1,                          // z
@@ -35,7 +40,7 @@ pub const SAMPLE: [u16; 149] = [
 
 // Traps that show in the sample.
 #[rattlefmt::skip]
-pub const SAMPLE_TRAPS: [u16; 135] = [
+const SAMPLE_TRAPS: [u16; 135] = [
     1, 6, 1, 13,                                           // form, K, w0, N
     0, 0, 1, 0,                                            // o
     0, 0, 1, 1,                                            // z
@@ -63,7 +68,7 @@ pub const SAMPLE_TRAPS: [u16; 135] = [
 
 // Traps of top-flattenings: constants o < z < c < d, then g < + < * < h.
 #[rattlefmt::skip]
-pub const TRAPS: [u16; 287] = [
+const TRAPS: [u16; 287] = [
     1, 8, 1, 23,                                          // form, K, w0, N
     0, 0, 1, 0,                                           // o
     0, 0, 1, 1,                                           // z
@@ -104,3 +109,32 @@ pub const TRAPS: [u16; 287] = [
     5, 4, 0, 1,  5, 5, 0, 0, 1,                           // g(o)+z -> (o+o)+z
     5, 4, 0, 256,  5, 5, 0, 0, 256,                       // g(o)+u -> (o+o)+u
 ];
+
+// Compares terms under the book of the sample.
+fn compare_terms(book: &[u8]) {
+    print_comparison(book, &[3, 256, 1], &[256]); // u+z, u
+    print_comparison(book, &[256], &[3, 256, 1]); // u, u+z
+    print_comparison(book, &[0], &[4, 0]); // o, neg(o)
+    print_comparison(book, &[3, 0, 256], &[3, 1, 256]); // o+u, z+u
+    print_comparison(book, &[3, 4, 0, 3, 1, 0], &[3, 3, 0, 4, 0, 1]); // neg(o)+(z+o), (o+neg(o))+z
+    print_comparison(book, &[3, 4, 256, 0], &[3, 256, 4, 0]); // neg(u)+o, u+neg(o)
+    print_comparison(book, &[256], &[0]); // u, o
+    print_comparison(book, &[0], &[256]); // o, u
+    print_comparison(book, &[2], &[256]); // b, u
+}
+
+fn comparisons() {
+    print(b"sample, comparisons\n");
+    let mut book = [0u8; 256];
+    let count = close(&SAMPLE, &mut book);
+    compare_terms(&book[..count]);
+}
+
+pub fn run() {
+    show(b"sample\n", &SAMPLE);
+    show(b"sample, traps\n", &SAMPLE_TRAPS);
+    show(b"traps\n", &TRAPS);
+    comparisons();
+    print(b"listing\n");
+    print_report(b"\x10\x20\x00\x10\x08\x00\x00\x40\x40\x00\x04\x00\x00\x01\x00\x80\x00");
+}

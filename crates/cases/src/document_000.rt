@@ -1,9 +1,13 @@
-// The examples of the articles 000, 001 and 004 that 01's order can express, as sheets.
-// A line for the header, for each symbol (arity, AC mark, weight, rank) and for each rule (left side, right side).
+// The examples of the article 000.
+// A sheet has a line for the header, each symbol (arity, AC mark, weight, rank) and each rule (left side, right side).
+use crate::print::print;
+use crate::print::print_numbers;
+use crate::print::show;
+use crate::print::show_sheet;
 
 // 000, example 5.3: f > + > g > a > b > h.
 #[rattlefmt::skip]
-pub const EXAMPLE_5_3: [u16; 86] = [
+const EXAMPLE_5_3: [u16; 86] = [
     1, 6, 1, 7,                      // form, K, w0, N
     2, 0, 0, 0,                      // h
     0, 0, 1, 1,                      // b
@@ -22,7 +26,7 @@ pub const EXAMPLE_5_3: [u16; 86] = [
 
 // The same rules from right to left.
 #[rattlefmt::skip]
-pub const EXAMPLE_5_3_REVERSED: [u16; 86] = [
+const EXAMPLE_5_3_REVERSED: [u16; 86] = [
     1, 6, 1, 7,                      // form, K, w0, N
     2, 0, 0, 0,                      // h
     0, 0, 1, 1,                      // b
@@ -41,7 +45,7 @@ pub const EXAMPLE_5_3_REVERSED: [u16; 86] = [
 
 // 000, example 7.3: g > + > f > a. Its first rule reversed, its second, and its first as it stands.
 #[rattlefmt::skip]
-pub const EXAMPLE_7_3: [u16; 52] = [
+const EXAMPLE_7_3: [u16; 52] = [
     1, 4, 1, 3,                                       // form, K, w0, N
     0, 0, 1, 0,                                       // a
     1, 0, 3, 1,                                       // f
@@ -54,7 +58,7 @@ pub const EXAMPLE_7_3: [u16; 52] = [
 
 // 000, example 9.1, with e for the empty bit sequence.
 #[rattlefmt::skip]
-pub const EXAMPLE_9_1: [u16; 58] = [
+const EXAMPLE_9_1: [u16; 58] = [
     1, 4, 1, 5,                               // form, K, w0, N
     0, 0, 1, 0,                               // e
     1, 0, 1, 1,                               // zero
@@ -69,7 +73,7 @@ pub const EXAMPLE_9_1: [u16; 58] = [
 
 // 000, example 6.6, for the clause {x, not y, not z}, its symbols x, y and z named p, q and r: true where above +.
 #[rattlefmt::skip]
-pub const EXAMPLE_6_6: [u16; 96] = [
+const EXAMPLE_6_6: [u16; 96] = [
     1, 11, 1, 1, // form, K, w0, N
     0, 0, 1, 0,  // c
     0, 0, 9, 1,  // d
@@ -88,9 +92,44 @@ pub const EXAMPLE_6_6: [u16; 96] = [
     6, 6, 6, 6, 6, 2, 0, 2, 0, 2, 3, 1, 7, 8, 8, 0, 4, 9, 9, 0, 5, 10, 10, 0,
 ];
 
+// The ranks of p, q and r, the weight of d, and the weights of e0, e1 and e2.
+fn show_clause(p: u16, q: u16, r: u16, d: u16, e0: u16, e1: u16, e2: u16) {
+    let mut sheet = EXAMPLE_6_6;
+    sheet[10] = d;
+    sheet[19] = p;
+    sheet[23] = q;
+    sheet[27] = r;
+    sheet[38] = e0;
+    sheet[42] = e1;
+    sheet[46] = e2;
+    show_sheet(&sheet);
+}
+
+// The clause is false: x alone is.
+fn show_false(e0: u16, e1: u16, e2: u16) {
+    print(b"document 000, example 6.6, x alone false, ");
+    print_numbers(e0 as u64, e1 as u64, e2 as u64);
+    show_clause(3, 12, 13, 1, e0, e1, e2);
+}
+
+fn example_6_6() {
+    print(b"document 000, example 6.6, x, y and z true\n");
+    show_clause(11, 12, 13, 9, 1, 1, 1);
+    print(b"document 000, example 6.6, x and z false\n");
+    show_clause(3, 12, 4, 1, 1, 1, 9);
+    print(b"document 000, example 6.6, x, y and z false\n");
+    show_clause(3, 4, 5, 1, 1, 9, 1);
+    show_false(1, 1, 1);
+    show_false(1, 1, 9);
+    show_false(1, 9, 1);
+    show_false(9, 1, 1);
+    show_false(5, 7, 9);
+    show_false(9, 7, 5);
+}
+
 // 000, the base systems before lemma 6.5 and of section A.3, for two symbols p and q.
 #[rattlefmt::skip]
-pub const BASE_SYSTEMS: [u16; 96] = [
+const BASE_SYSTEMS: [u16; 96] = [
     1, 8, 1, 9,              // form, K, w0, N
     0, 0, 1, 0,              // c
     1, 0, 2, 1,              // b
@@ -113,7 +152,7 @@ pub const BASE_SYSTEMS: [u16; 96] = [
 
 // 000, examples 4.6 and 4.9: the second rule is the first in the context + c.
 #[rattlefmt::skip]
-pub const EXAMPLES_4_6_AND_4_9: [u16; 40] = [
+const EXAMPLES_4_6_AND_4_9: [u16; 40] = [
     1, 4, 1, 2,                            // form, K, w0, N
     0, 0, 1, 0,                            // c
     2, 1, 1, 1,                            // +
@@ -123,67 +162,18 @@ pub const EXAMPLES_4_6_AND_4_9: [u16; 40] = [
     1, 3, 2, 0, 259, 0,  1, 3, 0, 2, 0, 0, // g(f(c),x)+c -> g(c,f(c))+c
 ];
 
-// 000, examples 4.5, 4.8 and 4.11, and 004, examples 3.7 and 3.9, f of weight 1, not 0.
-#[rattlefmt::skip]
-pub const SYMBOL_OVER_VARIABLE: [u16; 29] = [
-    1, 3, 1, 3,                   // form, K, w0, N
-    0, 0, 1, 0,                   // c
-    2, 1, 1, 1,                   // +
-    1, 0, 1, 2,                   // f
-    2, 0,  0,                     // f(c) -> c
-    2, 259,  259,                 // f(x) -> x
-    1, 2, 259, 260,  1, 259, 260, // f(x)+y -> x+y
-];
-
-// 000, examples 3.2 and 4.3, and 004, example 3.4 and section 4, f of weight 1, not 0: rule 2 both ways, and rule 1.
-#[rattlefmt::skip]
-pub const SYSTEM_R1: [u16; 45] = [
-    1, 3, 1, 3,                    // form, K, w0, N
-    0, 0, 1, 1,                    // a
-    2, 1, 0, 0,                    // +
-    1, 0, 1, 2,                    // f
-    1, 0, 2, 2, 0,  1, 2, 0, 2, 0, // a+f(f(a)) -> f(a)+f(a)
-    1, 2, 0, 2, 0,  1, 0, 2, 2, 0, // f(a)+f(a) -> a+f(f(a))
-    2, 1, 0, 0,  1, 2, 0, 2, 0,    // f(a+a) -> f(a)+f(a)
-];
-
-// 004, examples 3.1 and 3.2: the top-flattening of (a+b)+a, and the parts of one for f > + > g.
-#[rattlefmt::skip]
-pub const EXAMPLES_3_1_AND_3_2: [u16; 82] = [
-    1, 5, 1, 3,                               // form, K, w0, N
-    0, 0, 1, 0,                               // b
-    0, 0, 1, 1,                               // a
-    1, 0, 1, 2,                               // g
-    2, 1, 1, 3,                               // +
-    1, 0, 1, 4,                               // f
-    3, 3, 1, 0, 1,  3, 1, 3, 1, 0,            // (a+b)+a -> a+(a+b)
-    3, 3, 3, 3, 4, 1, 2, 0, 2, 259, 259, 260, // f(a)+g(b)+g(x)+x+y
-    3, 3, 3, 3, 4, 0, 2, 1, 2, 259, 259, 260, // -> f(b)+g(a)+g(x)+x+y
-    3, 3, 3, 3, 4, 0, 2, 1, 2, 259, 259, 260, // f(b)+g(a)+g(x)+x+y
-    3, 3, 3, 3, 4, 0, 2, 0, 2, 259, 259, 260, // -> f(b)+g(b)+g(x)+x+y
-];
-
-// 001, section 5: c + d is above g(c) in every context.
-#[rattlefmt::skip]
-pub const SECTION_5: [u16; 60] = [
-    1, 5, 1, 4,                           // form, K, w0, N
-    0, 0, 1, 0,                           // c
-    0, 0, 1, 1,                           // d
-    1, 0, 1, 2,                           // g
-    2, 1, 0, 3,                           // +
-    1, 0, 1, 4,                           // h
-    3, 0, 1,  2, 0,                       // c+d -> g(c)
-    3, 3, 259, 0, 1,  3, 259, 2, 0,       // (x+c)+d -> x+g(c)
-    3, 3, 4, 259, 0, 1,  3, 4, 259, 2, 0, // (h(x)+c)+d -> h(x)+g(c)
-    3, 3, 2, 259, 0, 1,  3, 2, 259, 2, 0, // (g(x)+c)+d -> g(x)+g(c)
-];
-
-// 001, section 2.1: a proper superset is greater.
-#[rattlefmt::skip]
-pub const SECTION_2_1: [u16; 29] = [
-    1, 3, 1, 1,                                   // form, K, w0, N
-    0, 0, 2, 0,                                   // o
-    2, 1, 1, 1,                                   // +
-    1, 0, 1, 2,                                   // h
-    1, 1, 2, 259, 2, 259, 0,  1, 2, 259, 1, 0, 0, // (h(x)+h(x))+o -> h(x)+(o+o)
-];
+pub fn run() {
+    show(b"document 000, example 5.3\n", &EXAMPLE_5_3);
+    show(
+        b"document 000, example 5.3, reversed\n",
+        &EXAMPLE_5_3_REVERSED,
+    );
+    show(b"document 000, example 7.3\n", &EXAMPLE_7_3);
+    show(b"document 000, example 9.1\n", &EXAMPLE_9_1);
+    example_6_6();
+    show(b"document 000, base systems of section 6\n", &BASE_SYSTEMS);
+    show(
+        b"document 000, examples 4.6 and 4.9\n",
+        &EXAMPLES_4_6_AND_4_9,
+    );
+}

@@ -1,11 +1,12 @@
 -- What encoding says of the bytes that it has written.
---     accepted-fits    they are no more than the output has
+--     accepted-counts    the output has as many
 use mathlib.Core.List.{List}
-use mathlib.Core.Path.{_≡_}
+use mathlib.Core.Path.{_≡_, sym}
 use mathlib.Core.Bool.{true, false}
 use Prim.Native.Nat.{ℕ, _≤_}
 use native.Mathlib.Omega.{arith}
 use lib.ListN.{length}
+use lib.Seq.{length-take-le}
 use lib.Dec.{leb}
 use borrow.Author.Tests.{leb-true}
 use Rattle.multisets.proofs.Relations.{byTest}
@@ -19,6 +20,7 @@ use Rattle.format.specs.Files.{readWords}
 use Rattle.format.specs.Replies.{Reply, Written, _>>=_, _>>_, fromInput, demand, outcome}
 use Rattle.format.specs.Replies.Reply.{accepted, refused}
 use Rattle.format.specs.Operations.{encoded, write}
+use Rattle.io.specs.Counts.{Counts}
 
 -- An accepted write has room.
 write-fits : (front bytes : List ℕ) (n : ℕ) →
@@ -45,6 +47,10 @@ written-fits (got file at) bytes n e =
     let z : _≡_ {A = ℕ} 0 1 = cc in absurd (omega arith)
 written-fits (fault code offset) bytes n e = let z : _≡_ {A = ℕ} 0 1 = cc in absurd (omega arith)
 
-pub accepted-fits : (words bytes : List ℕ) (n : ℕ) → encoded words bytes .reply ≡ accepted n → n ≤ length bytes
+-- An accepted encoding counts bytes at the front of an output that is as long as before.
+pub accepted-counts : (words bytes out : List ℕ) (n : ℕ) → encoded words bytes .reply ≡ accepted n →
+    length out ≡ length bytes → Counts n out
 unfolding encoded
-accepted-fits words bytes n e = written-fits (readWords words) bytes n e
+accepted-counts words bytes out n e k =
+    let h : n ≤ length out = omega (arith, written-fits (readWords words) bytes n e) in
+    (h, sym (length-take-le n out h))

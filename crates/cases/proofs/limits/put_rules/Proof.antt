@@ -17,64 +17,54 @@ room : (i n m : ℕ) → i < n → Room i n m
 room i n m h = omega (arith, add-mul i 1 m, mul-le-mul-right {m = i + 1} {n = n} m (omega arith))
 
 abbrev Inv-loop : tie.InvT-loop
-Inv-loop sheet₀ rules height at₀ i₀ sheet at i = (i ≤ rules) × (at ≡ 12 + i * (height + 2)) × (length sheet ≡ length sheet₀)
+Inv-loop sheet₀ rules height at₀ i₀ sheet at i =
+    (i ≤ rules) × (at ≡ 12 + i * (height + 2)) × (length sheet ≡ length sheet₀)
 
 abbrev μ-loop : tie.MeasureT-loop
 μ-loop sheet₀ rules height at₀ i₀ sheet at i = rules - i
 
 room-here : (c : lts.In-loop reads.Pre reads.Post Inv-loop μ-loop) →
     Room (c .before .loop .i) (c .before .before .args .rules) (c .before .before .args .height + 2)
-room-here c = room (c .before .loop .i) (c .before .before .args .rules) (c .before .before .args .height + 2) (omega arith)
+room-here c =
+    let a = c .before .before .args in
+    room (c .before .loop .i) (a .rules) (a .height + 2) (omega arith)
 
--- src/limits.rt:38:5
 loop-holds : tie.Need-loop-holds Inv-loop μ-loop
 loop-holds c = omega arith
 
--- src/limits.rt:39:9
 add-at : tie.Need-add-at Inv-loop μ-loop
 add-at c = omega (arith, room-here c)
 
--- src/limits.rt:40:9
 mul-sheet : tie.Need-mul-sheet Inv-loop μ-loop
 mul-sheet c = omega (arith, room-here c)
 
--- src/limits.rt:40:9
 slice-write-sheet : tie.Need-slice-write-sheet Inv-loop μ-loop
 slice-write-sheet c = omega (arith, room-here c)
 
--- src/limits.rt:41:15
 add-sheet : tie.Need-add-sheet Inv-loop μ-loop
 add-sheet c = omega (arith, room-here c)
 
--- src/limits.rt:41:9
 mul-sheet-2 : tie.Need-mul-sheet-2 Inv-loop μ-loop
 mul-sheet-2 c = omega (arith, room-here c)
 
--- src/limits.rt:41:9
 slice-write-sheet-2 : tie.Need-slice-write-sheet-2 Inv-loop μ-loop
 slice-write-sheet-2 c = simp length-set (omega (arith, room-here c))
 
--- src/limits.rt:42:9
 add-at-2 : tie.Need-add-at-2 Inv-loop μ-loop
 add-at-2 c = omega (arith, room-here c)
 
--- src/limits.rt:43:9
 add-i : tie.Need-add-i Inv-loop μ-loop
 add-i c = omega arith
 
--- src/limits.rt:38:5
 loop-less : tie.Need-loop-less Inv-loop μ-loop
 loop-less c = omega arith
 
--- src/limits.rt:38:5
 loop-again : tie.Need-loop-again Inv-loop μ-loop
 loop-again c = simp length-set (omega (arith, room-here c))
 
--- src/limits.rt:32:1
 same-length : tie.Need-same-length Inv-loop μ-loop
 same-length c = omega arith
 
--- src/limits.rt:32:1
 returns : tie.Need-returns Inv-loop μ-loop
 returns c =
     let m = c .before .before .args .height + 2 in

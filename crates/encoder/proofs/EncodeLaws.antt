@@ -1,9 +1,8 @@
 -- Laws of encoding.
 --     words-if                               what words that can be read say of their file
 --     encode-fault, encode-long, encode-short, encode-done     what encoding gives back, by the counts of the file
-use mathlib.Core.List.{List, [], _∷_, _++_, flatMap}
-use mathlib.Core.Path.{_≡_, refl, sym, ap, _∙_}
-use mathlib.Core.Bool.{true, false}
+use mathlib.Core.List.{List, [], _++_, flatMap}
+use mathlib.Core.Path.{_≡_, refl, ap, _∙_}
 use Prim.Native.Nat.{ℕ, _+_, _*_, _/_, _≤_, _<_}
 use native.Mathlib.Nat.{zero-add}
 use native.Mathlib.Omega.{arith}
@@ -11,7 +10,7 @@ use lib.ListN.{length, drop}
 use lib.Seq.{sets, sets-eq}
 use lib.Dec.{eqb, ltb}
 use borrow.Author.Tests.{eqb-true, ltb-true, le-leb, lt-leb}
-use Rattle.format.specs.Reading.{Reading, andThen, require, give, wordBelow, wordSource}
+use Rattle.format.specs.Reading.{Reading, wordBelow, wordSource}
 use Rattle.format.specs.Reading.Reading.{got, fault}
 use Rattle.format.specs.Format.{RuleFile, symbolsReader, rulesReader, fileReader}
 use Rattle.format.specs.Files.{readWords, endReader}

@@ -5,16 +5,15 @@
 --     fields-length                            how many bits the fields take
 use mathlib.Core.List.{List, [], _∷_, _++_, flatMap, append-nil}
 use mathlib.Core.Path.{_≡_, refl, sym, ap, _∙_}
-use mathlib.Core.Bool.{Bool, true, false, cond}
-use Prim.Native.Nat.{ℕ, suc, zero, _+_, _-_, _*_, _/_, _%_, _^_, _≤_, _<_}
-use native.Mathlib.Nat.{add-zero, zero-add}
+use Prim.Native.Nat.{ℕ, suc, zero, _+_, _-_, _*_, _%_, _≤_, _<_}
+use native.Mathlib.Nat.{zero-add}
 use native.Mathlib.Numerals.{add-one}
 use native.Mathlib.Omega.{arith}
 use lib.ListN.{length, getD, length-append}
 use lib.Dec.{ltb}
-use borrow.Author.Tests.{lt-ltb, le-ltb, ltb-true}
+use borrow.Author.Tests.{lt-ltb, le-ltb}
 use Rattle.multisets.proofs.Relations.{byTest, byOrder}
-use Rattle.format.specs.Packing.{Item, bitsOf, itemBits}
+use Rattle.format.specs.Packing.{bitsOf, itemBits}
 use Rattle.format.specs.Packing.Item.{field, node}
 use Rattle.files.proofs.ItemsLaws.{flat-append, items-add}
 use Rattle.files.specs.Items.{fieldWidth, itemAt, itemsFrom}

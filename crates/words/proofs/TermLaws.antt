@@ -4,21 +4,21 @@
 --     forest-front                            the nodes read are words in a row
 --     first-term, first-refused, whole-term, first-fits   a term's nodes are the first words
 --     symbol-count                            how many symbols a table has
-use mathlib.Core.List.{List, [], _∷_, _++_}
+use mathlib.Core.List.{List, _∷_, _++_}
 use mathlib.Core.Path.{_≡_, refl, sym, ap, _∙_}
-use mathlib.Core.Bool.{Bool, true, false, cond, _||_}
+use mathlib.Core.Bool.{cond, _||_}
 use Prim.Native.Nat.{ℕ, suc, zero, _+_, _-_, _/_, _≤_, _<_}
-use native.Mathlib.Nat.{zero-add, add-zero, sub-zero}
+use native.Mathlib.Nat.{sub-zero}
 use native.Mathlib.Numerals.{add-one}
 use native.Mathlib.Omega.{arith}
 use lib.ListN.{length, getD, take, drop, length-append}
 use lib.Seq.{drop-cons}
 use lib.Dec.{leb, ltb}
-use borrow.Author.Tests.{lt-ltb, le-ltb, le-leb, lt-leb, leb-true, leb-false, ltb-true, ltb-false}
+use borrow.Author.Tests.{leb-true, leb-false, ltb-true, ltb-false}
 use Rattle.multisets.proofs.Relations.{byTest}
 use Rattle.terms.specs.Signature.{Signature, symbolOf}
 use Rattle.terms.specs.Words.{firstVariable}
-use Rattle.format.specs.Errors.{noSuchSymbol, tooManyNodes}
+use Rattle.format.specs.Errors.{tooManyNodes}
 use Rattle.format.specs.Layout.{maxNodes}
 use Rattle.format.specs.Reading.{Reading, Reader, andThen, give, Node, Source, wordSource, wordBelow}
 use Rattle.format.specs.Reading.Reading.{got, fault}
@@ -40,7 +40,7 @@ use Rattle.words.specs.declared.term.NodeReading.{NodeReading}
 use Rattle.words.specs.declared.term.NodeReading.the-variants as node
 use Rattle.words.specs.declared.term.Walk.{Walk}
 use Rattle.words.specs.declared.term.Walk.the-variants as walk
-use Rattle.words.specs.Term.{nodeOf, walkOf, walked, termReading}
+use Rattle.words.specs.Term.{nodeOf, walkOf, walked}
 
 -- What follows a node, and what follows some terms.
 abbrev pub onNode : NodeReading → (ℕ → WordCursor → Walk) → Walk

@@ -104,7 +104,8 @@ byte-more old bits bytes n e =
 
 -- Four bytes more.
 four-more : (old bits bytes : List ℕ) (n : ℕ) → bytes ≡ sets old 0 (bytesFrom bits 0 n) →
-    set (set (set (set bytes n (byteOf bits n)) (suc n) (byteOf bits (suc n))) (suc (suc n)) (byteOf bits (suc (suc n))))
+    set (set (set (set bytes n (byteOf bits n)) (suc n) (byteOf bits (suc n))) (suc (suc n)) (byteOf bits (suc (suc
+    n))))
     (suc (suc (suc n))) (byteOf bits (suc (suc (suc n))))
     ≡ sets old 0 (bytesFrom bits 0 (suc (suc (suc (suc n)))))
 four-more old bits bytes n e =

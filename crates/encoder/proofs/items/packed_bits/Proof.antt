@@ -45,7 +45,11 @@ node-width-requires : tie.Need-node-width-requires Inv-loop μ-loop
 node-width-requires c κs = search needs
 
 add-bits-2 : tie.Need-add-bits-2 Inv-loop μ-loop
-add-bits-2 c = omega (arith, bits-le (c .before .before .before .before .before .args .words .now) (4 + 4 * c .before .before .before .before .before .args .symbols) (c .before .before .before .loop .i))
+add-bits-2 c = omega (
+  arith,
+  bits-le (c .before .before .before .before .before .args .words .now) (4 + 4 * c
+      .before .before .before .before .before .args .symbols) (c .before .before .before .loop .i),
+)
 
 add-i-2 : tie.Need-add-i-2 Inv-loop μ-loop
 add-i-2 c = search needs
@@ -61,7 +65,12 @@ loop-again c =
       omega arith,
       omega arith,
       sym (length-more l n i (i + 1) refl
-          ∙ rw (node-bits l n i (c .before .before .before .loop .inv .0), ← c .before .before .before .loop .inv .2, ← c .node-width .ensures .0)),
+          ∙ rw (
+            node-bits l n i (c .before .before .before .loop .inv .0),
+            ← c .before .before .before .loop .inv
+                .2,
+            ← c .node-width .ensures .0,
+          )),
     )
 
 returns : tie.Need-returns Inv-loop μ-loop

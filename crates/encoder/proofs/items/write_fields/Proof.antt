@@ -25,7 +25,13 @@ abbrev μ-loop : tie.MeasureT-loop
 μ-loop words nodes bytes₀ writer₀ i₀ bytes writer i = nodes - i
 
 loop-holds : tie.Need-loop-holds Inv-loop μ-loop
-loop-holds c = (omega arith, refl, omega arith, rw (flat-nil itemBits) (writes-none (c .before .before .args .bytes .now)))
+loop-holds c = (
+  omega arith,
+  refl,
+  omega arith,
+  rw (flat-nil itemBits) (writes-none (c .before .before .args .bytes
+      .now)),
+)
 
 field-width-requires : tie.Need-field-width-requires Inv-loop μ-loop
 field-width-requires c κs = search needs
@@ -68,8 +74,14 @@ loop-again c =
       omega arith,
       c .before .before .put .kept .1 .0 ∙ c .before .before .before .before .before .before .before .loop .inv .1,
       c .before .before .put .ensures .0,
-      rw (bits-more l n i, field-bits l n i (c .before .before .before .before .before .before .loop-test .taken), ← c .before .before .before .before .field-width .ensures .0)
-          (c .before .before .put .ensures .1 _ _ (c .before .before .before .before .before .before .before .loop .inv .3)),
+      rw (
+        bits-more l n i,
+        field-bits l n i (c .before .before .before .before .before .before .loop-test .taken),
+        ←
+            c .before .before .before .before .field-width .ensures .0,
+      )
+          (c .before .before .put .ensures .1 _ _ (c .before .before .before .before .before .before .before .loop
+          .inv .3)),
     )
 
 same-length : tie.Need-same-length Inv-loop μ-loop

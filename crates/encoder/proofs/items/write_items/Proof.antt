@@ -47,7 +47,8 @@ write-node-requires c κs =
     let l = c .before .before .before .before .before .before .before .before .before .before .args .words .now in
     let n = c .before .before .before .before .before .before .before .before .before .before .args .nodes in
     let i = c .before .before .before .loop .i in
-    let h = c .before .before .before .loop .inv .4 _ (c .before .before .before .before .before .before .write-fields .ensures .1) in (
+    let h = c .before .before .before .loop .inv .4 _ (c .before .before .before .before .before .before
+    .write-fields .ensures .1) in (
       (c .before .before .before .loop .inv .3, pending-lt _ _ _ _ h),
       omega (
         arith,
@@ -69,34 +70,48 @@ loop-less c = search needs
 
 loop-again : tie.Need-loop-again Inv-loop μ-loop
 loop-again c =
-    let l = c .before .before .before .before .before .before .before .before .before .before .before .before .before .args .words .now in
-    let n = c .before .before .before .before .before .before .before .before .before .before .before .before .before .args .nodes in
+    let l = c .before .before .before .before .before .before .before .before .before .before .before .before
+    .before .args .words .now in
+    let n = c .before .before .before .before .before .before .before .before .before .before .before .before
+    .before .args .nodes in
     let i = c .before .before .before .before .before .before .loop .i in (
       omega arith,
       omega arith,
       c .before .before .write-node .kept .1 .1 .0 ∙ c .before .before .before .before .before .before .loop .inv .2,
       c .before .before .write-node .ensures .0,
       λ old h. rw (bits-more l n i, node-bits l n i (c .before .before .before .before .before .before .loop .inv .0))
-          (c .before .before .write-node .ensures .1 old _ (c .before .before .before .before .before .before .loop .inv .4 old h)),
+          (c .before .before .write-node .ensures .1 old _ (c .before .before .before .before .before .before .loop
+          .inv .4 old h)),
     )
 
 finish-requires : tie.Need-finish-requires Inv-loop μ-loop
 finish-requires c κs =
     let h = c .before .before .loop .inv .4 _ (c .before .before .before .before .before .write-fields .ensures .1) in (
-      omega (arith, h .total, bits-le (c .before .before .before .before .before .before .before .before .before .args .words .now) (c .before .before .before .before .before .before .before .before .before .args .nodes) (c .before .before .loop .i)),
+      omega (
+        arith,
+        h .total,
+        bits-le (c .before .before .before .before .before .before .before .before .before
+            .args .words .now) (c .before .before .before .before .before .before .before .before .before .args
+            .nodes) (c .before .before .loop .i),
+      ),
       c .before .before .loop .inv .3,
       pending-lt _ _ _ _ h,
     )
 
 same-length : tie.Need-same-length Inv-loop μ-loop
-same-length c = c .before .before .finish .kept .1 .0 ∙ c .before .before .before .before .before .loop .inv .2 ∙ c .before .before .before .before .before .before .before .before .write-fields .kept .1 .1 .0
+same-length c = c .before .before .finish .kept .1 .0 ∙ c .before .before .before .before .before .loop .inv .2 ∙ c
+    .before .before .before .before .before .before .before .before .write-fields .kept .1 .1 .0
 
 returns : tie.Need-returns Inv-loop μ-loop
 returns c =
-    let l = c .before .before .before .before .before .before .before .before .before .before .before .before .args .words .now in
+    let l = c .before .before .before .before .before .before .before .before .before .before .before .before .args
+    .words .now in
     let e : c .before .before .before .before .before .loop .i ≡ length l = omega arith in
-    c .before .before .finish .ensures _ _ (c .before .before .before .before .before .loop .inv .4 _ (c .before .before .before .before .before .before .before .before .write-fields .ensures .1)) ∙ ap
-    (λ (k : ℕ). sets (c .before .before .before .before .before .before .before .before .before .before .before .before .args .bytes .now) 0 (bytesOf (bitsTo l (c .before .before .before .before .before .before .before .before .before .before .before .before .args .nodes) k))) e
+    c .before .before .finish .ensures _ _ (c .before .before .before .before .before .loop .inv .4 _ (c .before
+    .before .before .before .before .before .before .before .write-fields .ensures .1)) ∙ ap
+    (λ (k : ℕ). sets (c .before .before .before .before .before .before .before .before .before .before .before
+    .before .args .bytes .now) 0 (bytesOf (bitsTo l (c .before .before .before .before .before .before .before
+    .before .before .before .before .before .args .nodes) k))) e
 
 pub write-items-spec : {M : Type 1} → statement M
 write-items-spec =

@@ -11,28 +11,48 @@ use Rattle.writer.proofs.BitWriter.put.Reads as put-reads
 
 put-requires : tie.Need-put-requires
 put-requires c κs =
-    let h = c .before .before .before .pre .0 in
-    ((h .0, h .1, omega arith), omega (arith, ap length (symbol-bits (c .before .before .before .args .word) (c .before .if1 .taken))))
+    let h = c .before .before .before .pre .0 in (
+      (h .0, h .1, omega arith),
+      omega (
+        arith,
+        ap length (symbol-bits (c .before .before .before .args .word) (c
+            .before .if1 .taken)),
+      ),
+    )
 
 add-put : tie.Need-add-put
 add-put c = search needs
 
 put-requires-2 : tie.Need-put-requires-2
 put-requires-2 c κs =
-    let h = c .before .before .before .pre .0 in
-    ((h .0, h .1, omega arith), omega (arith, ap length (variable-bits (c .before .before .before .args .word) (c .before .if1 .left))))
+    let h = c .before .before .before .pre .0 in (
+      (h .0, h .1, omega arith),
+      omega (
+        arith,
+        ap length (variable-bits (c .before .before .before .args .word) (c
+            .before .if1 .left)),
+      ),
+    )
 
 same-length : tie.Need-same-length
 same-length c = search needs
 
 returns : tie.Need-returns
-returns c = (c .before .before .put .ensures .0, rw (symbol-bits (c .before .before .before .before .before .before .args .word) (c .before .before .before .before .if1 .taken)) (c .before .before .put .ensures .1))
+returns c = (
+  c .before .before .put .ensures .0,
+  rw (symbol-bits (c .before .before .before .before .before .before
+      .args .word) (c .before .before .before .before .if1 .taken)) (c .before .before .put .ensures .1),
+)
 
 same-length-2 : tie.Need-same-length-2
 same-length-2 c = search needs
 
 returns-2 : tie.Need-returns-2
-returns-2 c = (c .before .before .put2 .ensures .0, rw (variable-bits (c .before .before .before .before .before .before .args .word) (c .before .before .before .before .if1 .left)) (c .before .before .put2 .ensures .1))
+returns-2 c = (
+  c .before .before .put2 .ensures .0,
+  rw (variable-bits (c .before .before .before .before .before
+      .before .args .word) (c .before .before .before .before .if1 .left)) (c .before .before .put2 .ensures .1),
+)
 
 pub write-node-spec : {M : Type 1} → statement M
 write-node-spec =

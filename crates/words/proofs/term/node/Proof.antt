@@ -1,10 +1,8 @@
 use Prim.Native.Nat.{_<_, _≤_}
 use native.Mathlib.Omega.{arith}
-use mathlib.Core.Path.{_≡_, sym, ap, _∙_}
+use mathlib.Core.Path.{sym, ap, _∙_}
 use borrow.Author.Tests.{lt-ltb, le-ltb, lt-leb, le-leb}
 use lib.ListN.{length}
-use Rattle.format.specs.Reading.{wordBelow}
-use Rattle.format.specs.Reading.Reading.{got, fault}
 use Rattle.symbols.specs.Table.{signatureOf}
 use Rattle.words.specs.Cursor.{wordReading}
 use Rattle.words.proofs.TermLaws.{symbol-count}

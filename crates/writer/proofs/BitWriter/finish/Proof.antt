@@ -14,37 +14,54 @@ store-requires c κs = search needs
 
 store-requires-2 : tie.Need-store-requires-2
 store-requires-2 c κs =
-    let f = shifted-facts (c .before .before .before .before .before .before .args .self) 24 (omega arith) (omega arith) (c .before .before .before .before .before .before .pre .2) in
+    let f = shifted-facts (c .before .before .before .before .before .before .args .self) 24 (omega arith) (omega
+    arith) (c .before .before .before .before .before .before .pre .2) in
     rw (c .before .before .before .store .ensures .0) (omega arith, omega arith, f .2)
 
 store-requires-3 : tie.Need-store-requires-3
 store-requires-3 c κs =
     let s = c .before .before .before .before .before .before .before .before .before .before .args .self in
-    let f = shifted-facts s 24 (omega arith) (omega arith) (c .before .before .before .before .before .before .before .before .before .before .pre .2) in
+    let f = shifted-facts s 24 (omega arith) (omega arith) (c .before .before .before .before .before .before
+    .before .before .before .before .pre .2) in
     let g = shifted-facts (shifted s) 16 (omega arith) (f .0) (f .2) in
-    rw (c .before .before .before .store2 .ensures .0, c .before .before .before .before .before .before .before .store .ensures .0) (omega arith, omega arith, g .2)
+    rw (
+      c .before .before .before .store2 .ensures .0,
+      c .before .before .before .before .before .before .before
+          .store .ensures .0,
+    ) (omega arith, omega arith, g .2)
 
 pad-requires : tie.Need-pad-requires
 pad-requires c κs =
-    let s = c .before .before .before .before .before .before .before .before .before .before .before .before .before .before .args .self in
-    let f = shifted-facts s 24 (omega arith) (omega arith) (c .before .before .before .before .before .before .before .before .before .before .before .before .before .before .pre .2) in
+    let s = c .before .before .before .before .before .before .before .before .before .before .before .before
+    .before .before .args .self in
+    let f = shifted-facts s 24 (omega arith) (omega arith) (c .before .before .before .before .before .before
+    .before .before .before .before .before .before .before .before .pre .2) in
     let g = shifted-facts (shifted s) 16 (omega arith) (f .0) (f .2) in
     let k = shifted-facts (shifted (shifted s)) 8 (omega arith) (g .0) (g .2) in
-    rw (c .before .before .before .store3 .ensures .0, c .before .before .before .before .before .before .before .store2 .ensures .0, c .before .before .before .before .before .before .before .before .before .before .before .store .ensures .0) (k .0, k .2)
+    rw (
+      c .before .before .before .store3 .ensures .0,
+      c .before .before .before .before .before .before .before
+          .store2 .ensures .0,
+      c .before .before .before .before .before .before .before .before .before .before
+          .before .store .ensures .0,
+    ) (k .0, k .2)
 
 same-length : tie.Need-same-length
 same-length c = search needs
 
 returns : tie.Need-returns
 returns c =
-    let s = c .before .before .before .before .before .before .before .before .before .before .before .before .before .before .before .before .before .args .self in
+    let s = c .before .before .before .before .before .before .before .before .before .before .before .before
+    .before .before .before .before .before .args .self in
     λ old bits h. c .before .before .pad .ensures old bits (rw (
       c .before .before .before .before .before .before .store3 .ensures .0,
       c .before .before .before .before .before .before .store3 .ensures .1,
       c .before .before .before .before .before .before .before .before .before .before .store2 .ensures .0,
       c .before .before .before .before .before .before .before .before .before .before .store2 .ensures .1,
-      c .before .before .before .before .before .before .before .before .before .before .before .before .before .before .store .ensures .0,
-      c .before .before .before .before .before .before .before .before .before .before .before .before .before .before .store .ensures .1,
+      c .before .before .before .before .before .before .before .before .before .before .before .before .before
+          .before .store .ensures .0,
+      c .before .before .before .before .before .before .before .before .before .before .before .before .before
+          .before .store .ensures .1,
     )
     (writes-shifted old bits (shifted (shifted s)) _ (writes-shifted old bits (shifted s) _
     (writes-shifted old bits s _ h))))

@@ -1,6 +1,4 @@
 use native.Mathlib.Omega.{arith}
-use mathlib.Core.Path.{_∙_, ap}
-use lib.ListN.{set}
 use Rattle.writer.proofs.WriterLaws.{padded-lt, writes-last, writes-whole}
 use borrow.Author.Needs.{needs}
 use Rattle.writer.proofs.BitWriter.pad.Statement.{statement}

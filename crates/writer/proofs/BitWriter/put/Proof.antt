@@ -27,7 +27,8 @@ returns c =
     let a = c .before .before .before .before .before .before .args in (
       c .before .before .store-four .ensures .0,
       λ old bits h. c .before .before .store-four .ensures .1 old _
-          (rw (c .before .before .before .before .push .ensures) (writes-push old bits (a .self) _ h (a .width) (a .value))),
+          (rw (c .before .before .before .before .push .ensures) (writes-push old bits (a .self) _ h (a .width) (a
+          .value))),
     )
 
 pub put-spec : {M : Type 1} → statement M

@@ -17,7 +17,10 @@ shr-put-four c = search needs
 cast-put-four : tie.Need-cast-put-four
 cast-put-four c =
     let s = c .before .before .before .before .before .before .args .self in
-    record { fits = word-lt (s .pending) (s .count) (c .before .before .before .if1 .left) (c .before .before .before .before .before .before .pre .1 .1) }
+    record {
+      fits = word-lt (s .pending) (s .count) (c .before .before .before .if1 .left) (c .before .before
+          .before .before .before .before .pre .1 .1);
+    }
 
 put-four-requires : tie.Need-put-four-requires
 put-four-requires c κs = search needs
@@ -36,8 +39,11 @@ same-length c = search needs
 
 returns-2 : tie.Need-returns-2
 returns-2 c =
-    rw (c .before .two-to .ensures .0, c .before .before .before .before .before .put-four .ensures)
-    (omega arith, λ old bits h. writes-four old bits _ _ h (c .before .before .before .before .before .before .before .before .before .if1 .left))
+    rw (c .before .two-to .ensures .0, c .before .before .before .before .before .put-four .ensures) (
+      omega arith,
+      λ old bits h. writes-four old bits _ _ h (c .before .before .before .before .before .before
+          .before .before .before .if1 .left),
+    )
 
 pub store-four-spec : {M : Type 1} → statement M
 store-four-spec =

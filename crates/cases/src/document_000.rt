@@ -92,7 +92,8 @@ const EXAMPLE_6_6: [u16; 96] = [
     6, 6, 6, 6, 6, 2, 0, 2, 0, 2, 3, 1, 7, 8, 8, 0, 4, 9, 9, 0, 5, 10, 10, 0,
 ];
 
-// The ranks of p, q and r, the weight of d, and the weights of e0, e1 and e2.
+// Shows example 6.6 with these ranks of p, q and r, and weights of d, e0, e1 and e2. The weight of symbol k is word
+// 4 * k + 6, its rank the next.
 fn show_clause(p: u16, q: u16, r: u16, d: u16, e0: u16, e1: u16, e2: u16) {
     let mut sheet = EXAMPLE_6_6;
     sheet[10] = d;
@@ -105,7 +106,7 @@ fn show_clause(p: u16, q: u16, r: u16, d: u16, e0: u16, e1: u16, e2: u16) {
     show_sheet(&sheet);
 }
 
-// The clause is false: x alone is.
+// Where x alone is false, so is the clause.
 fn show_false(e0: u16, e1: u16, e2: u16) {
     print(b"document 000, example 6.6, x alone false, ");
     print_numbers(e0 as u64, e1 as u64, e2 as u64);

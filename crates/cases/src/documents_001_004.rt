@@ -1,4 +1,4 @@
-// The examples of the articles 001 and 004.
+// The examples of the articles 001 and 004, and those that 000 and 004 share.
 // A sheet has a line for the header, each symbol (arity, AC mark, weight, rank) and each rule (left side, right side).
 use crate::print::print;
 use crate::print::show;
@@ -28,7 +28,7 @@ const SYSTEM_R1: [u16; 45] = [
     2, 1, 0, 0,  1, 2, 0, 2, 0,    // f(a+a) -> f(a)+f(a)
 ];
 
-// The ranks of a and +, and the weight of +.
+// Shows the system with these ranks of a and +, and this weight of +.
 fn show_r1(a: u16, plus: u16, weight: u16) {
     let mut sheet = SYSTEM_R1;
     sheet[7] = a;

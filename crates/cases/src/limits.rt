@@ -7,13 +7,17 @@ use crate::print::print;
 use crate::print::print_marking;
 use crate::print::print_report;
 
+// The words of the longest sheet, of 251 rules f(..f(c)) -> c with 114 times f, whose book has 32,768 bytes.
+const MAX_WORDS: usize = 29128;
+
 // A sheet where w0 is 2, of one constant, of weight 2, and no rule.
 const WEIGHT_2: [u16; 8] = [1, 1, 2, 0, 0, 0, 2, 0];
 
 // The same with a constant of weight 1.
 const WEIGHT_1: [u16; 8] = [1, 1, 2, 0, 0, 0, 1, 0];
 
-// Stores rules f(..f(c)) -> c, each with that many f, where the sheet has zeros, and gives the index past them.
+// Stores rules f(..f(c)) -> c, each with that many f, from word 12 of a sheet of zeros, which stand for f, and gives the
+// index past them.
 fn put_rules(sheet: &mut [u16], rules: usize, height: usize) -> usize
     requires { ⌜ 12 + rules * (height + 2) ≤ length (now sheet) ⌝ }
     ensures { λ r. ⌜ Counts r (now (sheet .exit)) ⌝ }
@@ -30,19 +34,21 @@ fn put_rules(sheet: &mut [u16], rules: usize, height: usize) -> usize
     at
 }
 
-// Closes the sheet of that many rules f(..f(c)) -> c, each with that many f, where w0 and all weights are 1, f is symbol
-// 0, of arity 1 and rank 0, and c is symbol 1, a constant of rank 1.
+// Closes the sheet of that many rules f(..f(c)) -> c, each with that many f; w0 and the weights of f and c are 1.
 fn close_towers(rules: u16, height: usize, book: &mut [u8]) -> usize
     requires { ⌜ 12 + rules * (height + 2) ≤ 29128 ⌝ }
     ensures { λ r. ⌜ Counts r (now (book .exit)) ⌝ }
 {
-    let mut sheet = [0u16; 29128];
+    let mut sheet = [0u16; MAX_WORDS];
+    // Form, K, w0, N.
     sheet[0] = 1;
     sheet[1] = 2;
     sheet[2] = 1;
     sheet[3] = rules;
+    // Symbol 0, f: arity 1, weight 1, rank 0.
     sheet[4] = 1;
     sheet[6] = 1;
+    // Symbol 1, c: arity 0, weight 1, rank 1.
     sheet[10] = 1;
     sheet[11] = 1;
     let end = put_rules(&mut sheet, rules as usize, height);
@@ -64,7 +70,7 @@ fn nodes() {
     close_towers(1, 127, &mut book);
     print_report(&book);
     close_towers(1, 128, &mut book);
-    // The 128th node, c, becomes f.
+    // Node 128 ends within byte 155, and becomes f in place of c.
     book[155] = 0;
     print_report(&book);
 }
@@ -75,7 +81,7 @@ fn weights() {
     close(&WEIGHT_2, &mut book);
     print_report(&book);
     close(&WEIGHT_1, &mut book);
-    // The weight becomes 1.
+    // The weight ends within byte 7, and becomes 1 in place of 2.
     book[7] = 64;
     print_report(&book);
 }

@@ -5,7 +5,8 @@ ghost use lib.ListN.{length, getD};
 ghost use Rattle.format.specs.Layout.{maxBytes, tagWidth};
 ghost use Rattle.format.specs.Reading.{bitField, bitSource};
 ghost use Rattle.format.specs.Reading.Reading.{got};
-ghost use Rattle.bits.specs.Cursor.{fieldReading, nodeReading, KindTold, WordRead, nodeWidth, nodeWord, isPadding};
+ghost use Rattle.bits.specs.Cursor.{fieldReading, nodeReading, KindTold, WordRead};
+ghost use Rattle.bits.specs.Cursor.{nodeWidth, nodeWord, isPadding};
 
 // An offset in bits.
 pub struct BitCursor {

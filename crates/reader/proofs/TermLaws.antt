@@ -145,7 +145,7 @@ module _ (source : Source) (σ : Signature) (limit index owed at : ℕ) (words :
           stored,
         )
 
-pub beyond-rest : (read : ℕ → ℕ → Reader (List ℕ)) (limit index owed at : ℕ) (words : List ℕ) (r : Rest) (after : List ℕ) →
-    RestOwed read limit (index + 1) owed at words r after → Beyond index r
+pub beyond-rest : (read : ℕ → ℕ → Reader (List ℕ)) (limit index owed at : ℕ) (words : List ℕ) (r : Rest)
+    (after : List ℕ) → RestOwed read limit (index + 1) owed at words r after → Beyond index r
 beyond-rest read limit index owed at words (Owed end next left) after (nodes, all, long, within, stored) = omega arith
 beyond-rest read limit index owed at words (Fault code offset) after e = tt

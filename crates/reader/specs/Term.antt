@@ -23,8 +23,8 @@ TermsRead reading limit index before (Read end next) after =
     × (after ≡ sets before index nodes)
 TermsRead reading limit index before (terms.Fault code offset) after = reading ≡ fault code offset
 
--- A reader of so many terms with so many nodes allowed; what was to be read, the answer, and the words before and after:
--- what is still owed, read after the nodes that were read, gives what the whole gives.
+-- A reader of so many terms with so many nodes allowed; what was to be read, the answer, and the words before and
+-- after: what is still owed, read after the nodes that were read, gives what the whole gives.
 abbrev pub RestOwed : (ℕ → ℕ → Reader (List ℕ)) → ℕ → ℕ → ℕ → ℕ → List ℕ → Rest → List ℕ → Type 0
 RestOwed read limit index owed at before (Owed end next left) after =
     (nodes : List ℕ)

@@ -1,5 +1,5 @@
-// Reading terms in prefix order: a term is its node and then its arguments, a row of terms. A row is read by one loop; an
-// argument that is neither alone nor the last has a row of its own, read by a call.
+// Reading terms in prefix order: a term is its node and then its arguments, a row of terms. The loop that reads a row
+// is called again for the arguments of a node in it; the nodes still allowed, those up to the limit, fall.
 ghost use mathlib.Core.Path.{_≡_};
 ghost use Prim.Native.Nat.{_+_, _-_, _^_, _≤_, _<_};
 ghost use lib.ListN.{length, set};
@@ -63,8 +63,8 @@ fn read_arguments(
     }
 }
 
-// Reads the first node of the terms that are owed, and its arguments. They stay owed in its place where there is at most
-// one of them, or where nothing else is owed.
+// Reads the first node of the terms that are owed, and its arguments. They stay owed in its place where there is at
+// most one of them, or where nothing else is owed.
 fn read_node(
     book: &[u8],
     table: &[u16],

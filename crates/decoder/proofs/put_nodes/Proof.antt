@@ -19,7 +19,11 @@ abbrev μ-loop : tie.MeasureT-loop
 μ-loop book words₀ index end here₀ place₀ words here place = end - place
 
 loop-holds : tie.Need-loop-holds Inv-loop μ-loop
-loop-holds c = (refl, rest-all (bitSource (c .before .before .args .book .now)) (c .before .before .args .cursor .at) (c .before .before .args .index) (c .before .before .args .end) (c .before .before .args .words .now))
+loop-holds c = let a = c .before .before .args in (
+  refl,
+  rest-all (bitSource (a .book .now)) (a .cursor .at) (a .index)
+      (a .end) (a .words .now),
+)
 
 word-requires : tie.Need-word-requires Inv-loop μ-loop
 word-requires c κs = search needs
@@ -32,8 +36,11 @@ same-length c = c .before .before .before .before .loop .inv .0
 
 returns : tie.Need-returns Inv-loop μ-loop
 returns c =
+    let a = c .before .before .before .before .before .before .before .args in
+    let l = c .before .before .before .before .loop in
     let (offset, missing) = rw (c .enum-told .given .1) at (c .before .before .word .ensures) in
-    rest-missing (bitSource (c .before .before .before .before .before .before .before .args .book .now)) (c .before .before .before .before .before .before .before .args .cursor .at) (c .before .before .before .before .before .before .before .args .index) (c .before .before .before .before .before .before .before .args .end) (c .before .before .before .before .before .before .before .args .words .now) (c .before .before .before .before .loop .here .at) (c .before .before .before .before .loop .place) (c .before .before .before .before .loop .words) (c .before .before .before .before .loop .inv .1) (c .before .before .before .loop-test .taken) _ offset missing
+    rest-missing (bitSource (a .book .now)) (a .cursor .at) (a .index) (a .end) (a .words .now)
+    (l .here .at) (l .place) (l .words) (l .inv .1) (c .before .before .before .loop-test .taken) _ offset missing
 
 enum-known-word : tie.Need-enum-known-word Inv-loop μ-loop
 enum-known-word c = search needs
@@ -42,7 +49,12 @@ mul-words : tie.Need-mul-words Inv-loop μ-loop
 mul-words c = search needs
 
 slice-write-words : tie.Need-slice-write-words Inv-loop μ-loop
-slice-write-words c = omega (arith, c .before .before .before .before .before .loop .inv .0, c .before .before .before .before .before .before .before .before .pre .1)
+slice-write-words c = let l = c .before .before .before .before .before .loop in omega (
+  arith,
+  l .inv .0,
+  c .before
+      .before .before .before .before .before .before .before .pre .1,
+)
 
 add-place : tie.Need-add-place Inv-loop μ-loop
 add-place c = search needs
@@ -51,18 +63,25 @@ loop-less : tie.Need-loop-less Inv-loop μ-loop
 loop-less c = search needs
 
 loop-again : tie.Need-loop-again Inv-loop μ-loop
-loop-again c = (
-  length-set (c .before .before .before .before .before .loop .words) (c .before .before .before .before .before .loop .place) _ ∙ c .before .before .before .before .before .loop .inv .0,
-  rest-more (bitSource (c .before .before .before .before .before .before .before .before .args .book .now)) (c .before .before .before .before .before .before .before .before .args .cursor .at) (c .before .before .before .before .before .before .before .before .args .index) (c .before .before .before .before .before .before .before .before .args .end) (c .before .before .before .before .before .before .before .before .args .words .now) (c .before .before .before .before .before .loop .here .at) (c .before .before .before .before .before .loop .place) (c .before .before .before .before .before .loop .words) (c .before .before .before .before .before .loop .inv .1) (c .before .before .before .before .loop-test .taken) _ _
-      (rw (c .before .word2 .given .1) at (c .before .before .before .word .ensures)),
-)
+loop-again c =
+    let a = c .before .before .before .before .before .before .before .before .args in
+    let l = c .before .before .before .before .before .loop in
+    let read = rw (c .before .word2 .given .1) at (c .before .before .before .word .ensures) in (
+      length-set (l .words) (l .place) _ ∙ l .inv .0,
+      rest-more (bitSource (a .book .now)) (a .cursor .at) (a .index) (a .end) (a .words .now)
+          (l .here .at) (l .place) (l .words) (l .inv .1) (c .before .before .before .before .loop-test .taken) _ _
+          read,
+    )
 
 same-length-2 : tie.Need-same-length-2 Inv-loop μ-loop
 same-length-2 c = c .before .loop .inv .0
 
 returns-2 : tie.Need-returns-2 Inv-loop μ-loop
 returns-2 c =
-    rest-none (bitSource (c .before .before .before .before .args .book .now)) (c .before .before .before .before .args .cursor .at) (c .before .before .before .before .args .index) (c .before .before .before .before .args .end) (c .before .before .before .before .args .words .now) (c .before .loop .here .at) (c .before .loop .place) (c .before .loop .words) (c .before .loop .inv .1) (c .loop-test .left)
+    let a = c .before .before .before .before .args in
+    let l = c .before .loop in
+    rest-none (bitSource (a .book .now)) (a .cursor .at) (a .index) (a .end) (a .words .now)
+    (l .here .at) (l .place) (l .words) (l .inv .1) (c .loop-test .left)
 
 pub put-nodes-spec : {M : Type 1} → statement M
 put-nodes-spec =

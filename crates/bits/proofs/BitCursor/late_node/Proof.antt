@@ -19,7 +19,9 @@ mul-end : tie.Need-mul-end
 mul-end c = search needs
 
 returns : tie.Need-returns
-returns c = (sym (node-none (c .before .before .args .book .now) (c .before .before .args .self .at) (c .if1 .taken)), tt)
+returns c =
+    let a = c .before .before .args in
+    (sym (node-none (a .book .now) (a .self .at) (c .if1 .taken)), tt)
 
 byte-at-requires : tie.Need-byte-at-requires
 byte-at-requires c κs = search needs
@@ -47,23 +49,32 @@ add-t14 c = search needs
 
 returns-2 : tie.Need-returns-2
 returns-2 c =
-    let a = c .before .before .before .before .before .args in
-    let small : (i : ℕ) → getD (a .book .now) i 0 < 256 = λ i. omega (arith, c .before .before .before .before .shared-slice-known .given i) in
-    let past : getD (a .book .now) (a .self .at / 8 + 1) 0 ≡ 0 = List·getD-eq-default (a .book .now) 0 (c .before .before .before .before .before .pre .1) in
-    let nine : spelt (bitAt (a .book .now)) (a .self .at) 9 ≡ c .before .before .byte-at .result * 256 / 2 ^ (7 - a .self .at % 8) % 512 =
-    rw (c .before .before .byte-at .ensures .0) (field-one (a .book .now) small (a .self .at) past) in
-    (sym (node-cut (a .book .now) (a .self .at) _ nine (omega arith) (omega (arith, c .before .node-width .ensures))), tt)
+    let start = c .before .before .before .before .before in
+    let a = start .args in
+    let bytes = c .before .before .before .before .shared-slice-known .given in
+    let small : (i : ℕ) → getD (a .book .now) i 0 < 256 = λ i. omega (arith, bytes i) in
+    let past : getD (a .book .now) (a .self .at / 8 + 1) 0 ≡ 0 = List·getD-eq-default (a .book .now) 0 (start .pre .1)
+    in
+    let byte = c .before .before .byte-at in
+    let nine : spelt (bitAt (a .book .now)) (a .self .at) 9 ≡ byte .result * 256 / 2 ^ (7 - a .self .at % 8) % 512 =
+    rw (byte .ensures .0) (field-one (a .book .now) small (a .self .at) past) in
+    let width = c .before .node-width .ensures in
+    (sym (node-cut (a .book .now) (a .self .at) _ nine (omega arith) (omega (arith, width))), tt)
 
 node-of-requires : tie.Need-node-of-requires
 node-of-requires c κs = search needs
 
 returns-3 : tie.Need-returns-3
 returns-3 c =
-    let a = c .before .before .before .before .before .before .args in
-    let small : (i : ℕ) → getD (a .book .now) i 0 < 256 = λ i. omega (arith, c .before .before .before .before .before .shared-slice-known .given i) in
-    let past : getD (a .book .now) (a .self .at / 8 + 1) 0 ≡ 0 = List·getD-eq-default (a .book .now) 0 (c .before .before .before .before .before .before .pre .1) in
-    let nine : spelt (bitAt (a .book .now)) (a .self .at) 9 ≡ c .before .before .before .byte-at .result * 256 / 2 ^ (7 - a .self .at % 8) % 512 =
-    rw (c .before .before .before .byte-at .ensures .0) (field-one (a .book .now) small (a .self .at) past) in (
+    let start = c .before .before .before .before .before .before in
+    let a = start .args in
+    let bytes = c .before .before .before .before .before .shared-slice-known .given in
+    let small : (i : ℕ) → getD (a .book .now) i 0 < 256 = λ i. omega (arith, bytes i) in
+    let past : getD (a .book .now) (a .self .at / 8 + 1) 0 ≡ 0 = List·getD-eq-default (a .book .now) 0 (start .pre .1)
+    in
+    let byte = c .before .before .before .byte-at in
+    let nine : spelt (bitAt (a .book .now)) (a .self .at) 9 ≡ byte .result * 256 / 2 ^ (7 - a .self .at % 8) % 512 =
+    rw (byte .ensures .0) (field-one (a .book .now) small (a .self .at) past) in (
       c .node-of .ensures .0 ∙
           sym (node-got (a .book .now) (a .self .at) _ nine (omega (arith, c .before .before .node-width .ensures))),
       c .node-of .ensures .1,

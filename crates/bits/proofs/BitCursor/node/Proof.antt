@@ -53,10 +53,12 @@ node-of-requires c κs = search needs
 returns-2 : tie.Need-returns-2
 returns-2 c =
     let a = c .before .before .before .before .before .args in
-    let small : (i : ℕ) → getD (a .book .now) i 0 < 256 = λ i. omega (arith, c .before .before .before .before .shared-slice-known .given i) in
+    let bytes = c .before .before .before .before .shared-slice-known .given in
+    let small : (i : ℕ) → getD (a .book .now) i 0 < 256 = λ i. omega (arith, bytes i) in
     let two = c .before .before .byte-at .result * 256 + c .before .byte-at2 .result in
     let nine : spelt (bitAt (a .book .now)) (a .self .at) 9 ≡ two / 2 ^ (7 - a .self .at % 8) % 512 =
-    rw (c .before .before .byte-at .ensures .0, c .before .byte-at2 .ensures .0) (field-two (a .book .now) small (a .self .at)) in
+    rw (c .before .before .byte-at .ensures .0, c .before .byte-at2 .ensures .0)
+    (field-two (a .book .now) small (a .self .at)) in
     let fits = width-le (two / 2 ^ (7 - a .self .at % 8) % 512) in (
       c .node-of .ensures .0 ∙ sym (node-got (a .book .now) (a .self .at) _ nine (omega (arith, fits))),
       c .node-of .ensures .1,

@@ -20,13 +20,19 @@ enum-told : tie.Need-enum-told
 enum-told c = search needs
 
 returns : tie.Need-returns
-returns c = sym (c .before .before .before .node .ensures .0) ∙ ap (nodeReading (c .before .before .before .before .before .args .self .at)) (c .before .word .given .1)
+returns c =
+    let a = c .before .before .before .before .before .args in
+    sym (c .before .before .before .node .ensures .0) ∙ ap (nodeReading (a .self .at)) (c .before .word .given .1)
 
 returns-2 : tie.Need-returns-2
-returns-2 c = sym (c .before .before .before .node .ensures .0) ∙ ap (nodeReading (c .before .before .before .before .before .args .self .at)) (c .before .word2 .given .1)
+returns-2 c =
+    let a = c .before .before .before .before .before .args in
+    sym (c .before .before .before .node .ensures .0) ∙ ap (nodeReading (a .self .at)) (c .before .word2 .given .1)
 
 returns-3 : tie.Need-returns-3
-returns-3 c = (_, sym (c .before .before .node .ensures .0) ∙ ap (nodeReading (c .before .before .before .before .args .self .at)) (c .enum-told .given .1))
+returns-3 c =
+    let a = c .before .before .before .before .args in
+    (_, sym (c .before .before .node .ensures .0) ∙ ap (nodeReading (a .self .at)) (c .enum-told .given .1))
 
 pub word-spec : {M : Type 1} → statement M
 word-spec =

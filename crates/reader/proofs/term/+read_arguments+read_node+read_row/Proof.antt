@@ -5,7 +5,7 @@ use Prim.Native.Nat.{ℕ, _+_, _-_, _*_, _≤_, _<_}
 use lib.ListN.{length}
 use borrow.Author.Tests.{not-true, not-false, ltb-true, ltb-false}
 use Rattle.terms.specs.Signature.{symbolOf}
-use Rattle.format.specs.Reading.{bitSource}
+use Rattle.format.specs.Reading.{Node, bitSource}
 use Rattle.format.specs.Format.{forestReader}
 use Rattle.symbols.specs.Table.{signatureOf}
 use Rattle.bits.specs.Cursor.{nodeReading}
@@ -106,8 +106,11 @@ read-arguments-returns : (t : ℕ) → read-arguments-lts.Need-returns (
   read-row.Post,
 ) (read-arguments-at t) read-arguments.Post
 read-arguments-returns t c =
-    row-fault (bitSource (c .before .before .before .before .before .before .before .before .before .before .args .book .now)) (signatureOf (c .before .before .before .before .before .before .before .before .before .before .args .table .now)) (c .before .before .before .before .before .before .before .before .before .before .args .limit) (c .before .before .before .before .before .before .before .before .before .before .args .index) (c .before .before .before .before .before .before .before .before .before .before .args .arity) (c .before .before .before .before .before .before .before .before .before .before .args .cursor .at) (c .before .before .before .before .before .before .before .before .before .before .args .words .now) (c .before .before .before .before .before .before .before .before .before .before .args .owed - 1) _ _
-    (rw (c .before .code .given .1) at (c .before .before .before .before .before .read-row .ensures))
+    let a = c .before .before .before .before .before .before .before .before .before .before .args in
+    let σ = signatureOf (a .table .now) in
+    let source = bitSource (a .book .now) in
+    row-fault source σ (a .limit) (a .index) (a .arity) (a .cursor .at) (a .words .now) (a .owed - 1) _ _ (rw (c .before
+    .code .given .1) at (c .before .before .before .before .before .read-row .ensures))
 
 read-arguments-same-length-2 : (t : ℕ) → read-arguments-lts.Need-same-length-2 (
   read-row-below t,
@@ -120,7 +123,11 @@ read-arguments-returns-2 : (t : ℕ) → read-arguments-lts.Need-returns-2 (
   read-row.Post,
 ) (read-arguments-at t) read-arguments.Post
 read-arguments-returns-2 t c =
-    row-taken (bitSource (c .before .before .before .before .before .before .before .before .before .before .args .book .now)) (signatureOf (c .before .before .before .before .before .before .before .before .before .before .args .table .now)) (c .before .before .before .before .before .before .before .before .before .before .args .limit) (c .before .before .before .before .before .before .before .before .before .before .args .index) (c .before .before .before .before .before .before .before .before .before .before .args .arity) (c .before .before .before .before .before .before .before .before .before .before .args .cursor .at) (c .before .before .before .before .before .before .before .before .before .before .args .words .now) (c .before .before .before .before .before .before .before .before .before .before .args .owed - 1) _ _ (c .before .before .before .before .before .read-row .last .1 .1 .0)
+    let a = c .before .before .before .before .before .before .before .before .before .before .args in
+    let σ = signatureOf (a .table .now) in
+    let source = bitSource (a .book .now) in
+    row-taken source σ (a .limit) (a .index) (a .arity) (a .cursor .at) (a .words .now) (a .owed - 1) _ _ (c .before
+    .before .before .before .before .read-row .last .1 .1 .0)
     (rw (c .before .end .given .1) at (c .before .before .before .before .before .read-row .ensures))
 
 read-node-returns : (t : ℕ) → read-node-lts.Need-returns (
@@ -135,7 +142,14 @@ read-node-returns : (t : ℕ) → read-node-lts.Need-returns (
   read-arguments-below t,
   read-arguments.Post,
 ) (read-node-at t) read-node.Post
-read-node-returns t c = (none-left (bitSource (c .before .before .before .before .args .book .now)) (signatureOf (c .before .before .before .before .args .table .now)) (c .before .before .before .before .args .limit) (c .before .before .before .before .args .index) (c .before .before .before .before .args .owed) (c .before .before .before .before .args .cursor .at) (c .before .before .before .before .args .words .now) (c .before .before .before .before .pre .1 .2) (c .if1 .taken), tt)
+read-node-returns t c =
+    let a = c .before .before .before .before .args in
+    let σ = signatureOf (a .table .now) in
+    let source = bitSource (a .book .now) in (
+      none-left source σ (a .limit) (a .index) (a .owed) (a .cursor .at) (a .words .now) (c .before .before .before
+          .before .pre .1 .2) (c .if1 .taken),
+      tt,
+    )
 
 read-node-node-requires : (t : ℕ) → read-node-lts.Need-node-requires (
   node-reads.Asked,
@@ -275,11 +289,14 @@ read-node-add-t27 : (t : ℕ) → read-node-lts.Need-add-t27 (
   read-arguments-below t,
   read-arguments.Post,
 ) (read-node-at t) read-node.Post
-read-node-add-t27 t c = omega (
-  arith,
-  node-lt (c .before .before .before .before .before .before .before .before .before .before .before .before .before .before .before .args .book .now) (c .before .before .before .before .before .before .before .before .before .before .before .before .before .before .before .args .cursor .at) (record { word = c .before .before .before .before .before .before .before .before .word2 .given .0 .0; offset = c .before .before .before .before .before .before .before .before .before .before .before .before .before .before .before .args .cursor .at + 1 }) _
-      (sym (c .before .before .before .before .before .before .before .before .before .before .node .ensures .0) ∙ ap (nodeReading (c .before .before .before .before .before .before .before .before .before .before .before .before .before .before .before .args .cursor .at)) (c .before .before .before .before .before .before .before .before .word2 .given .1)),
-)
+read-node-add-t27 t c =
+    let a = c .before .before .before .before .before .before .before .before .before .before .before .before .before
+    .before .before .args in
+    let got = c .before .before .before .before .before .before .before .before .word2 .given in
+    let v : Node = record { word = got .0 .0; offset = a .cursor .at + 1 } in
+    let read = sym (c .before .before .before .before .before .before .before .before .before .before .node .ensures .0)
+    ∙ ap (nodeReading (a .cursor .at)) (got .1) in
+    omega (arith, node-lt (a .book .now) (a .cursor .at) v _ read)
 
 read-node-same-length : (t : ℕ) → read-node-lts.Need-same-length (
   node-reads.Asked,
@@ -307,12 +324,24 @@ read-node-returns-2 : (t : ℕ) → read-node-lts.Need-returns-2 (
   read-arguments-below t,
   read-arguments.Post,
 ) (read-node-at t) read-node.Post
-read-node-returns-2 t c = (
-  no-symbol (bitSource (c .before .before .before .before .before .before .before .before .before .before .before .before .before .before .before .args .book .now)) (signatureOf (c .before .before .before .before .before .before .before .before .before .before .before .before .before .before .before .args .table .now)) (c .before .before .before .before .before .before .before .before .before .before .before .before .before .before .before .args .limit) (c .before .before .before .before .before .before .before .before .before .before .before .before .before .before .before .args .index) (c .before .before .before .before .before .before .before .before .before .before .before .before .before .before .before .args .owed) (c .before .before .before .before .before .before .before .before .before .before .before .before .before .before .before .args .cursor .at) (c .before .before .before .before .before .before .before .before .before .before .before .before .before .before .before .args .words .now) (c .before .before .before .before .before .before .before .before .before .before .before .before .before .before .before .pre .1 .2) (omega arith) (record { word = c .before .before .before .before .before .before .before .before .word2 .given .0 .0; offset = c .before .before .before .before .before .before .before .before .before .before .before .before .before .before .before .args .cursor .at + 1 }) (c .before .before .before .before .before .before .before .before .word2 .given .0 .1 .0)
-      (sym (c .before .before .before .before .before .before .before .before .before .before .node .ensures .0) ∙ ap (nodeReading (c .before .before .before .before .before .before .before .before .before .before .before .before .before .before .before .args .cursor .at)) (c .before .before .before .before .before .before .before .before .word2 .given .1)) (rw (c .before .before .before .before .before .before .before .before .word2 .given .1) at (c .before .before .before .before .before .before .before .before .before .before .node .ensures .1))
-      (ltb-false _ _ (sym (c .before .before .has-symbol .ensures) ∙ not-true _ (c .before .if2 .taken))),
-  tt,
-)
+read-node-returns-2 t c =
+    let a = c .before .before .before .before .before .before .before .before .before .before .before .before .before
+    .before .before .args in
+    let σ = signatureOf (a .table .now) in
+    let source = bitSource (a .book .now) in
+    let got = c .before .before .before .before .before .before .before .before .word2 .given in
+    let v : Node = record { word = got .0 .0; offset = a .cursor .at + 1 } in
+    let read = sym (c .before .before .before .before .before .before .before .before .before .before .node .ensures .0)
+    ∙ ap (nodeReading (a .cursor .at)) (got .1) in
+    let kind = rw (got .1) at (c .before .before .before .before .before .before .before .before .before .before .node
+    .ensures .1) in
+    let unknown = ltb-false _ _ (sym (c .before .before .has-symbol .ensures) ∙ not-true _ (c .before .if2 .taken)) in (
+      no-symbol source σ (a .limit) (a .index) (a .owed) (a .cursor .at) (a .words .now) (c .before .before .before
+          .before .before .before .before .before .before .before .before .before .before .before .before .pre .1 .2)
+          (omega
+          arith) v (got .0 .1 .0) read kind unknown,
+      tt,
+    )
 
 read-node-arity-requires : (t : ℕ) → read-node-lts.Need-arity-requires (
   node-reads.Asked,
@@ -396,12 +425,26 @@ read-node-returns-3 : (t : ℕ) → read-node-lts.Need-returns-3 (
   read-arguments-below t,
   read-arguments.Post,
 ) (read-node-at t) read-node.Post
-read-node-returns-3 t c = (
-  rw (c .before .before .before .before .before .before .put-word2 .ensures, c .before .arity .ensures .0) (symbol-taken (bitSource (c .before .before .before .before .before .before .before .before .before .before .before .before .before .before .before .before .args .book .now)) (signatureOf (c .before .before .before .before .before .before .before .before .before .before .before .before .before .before .before .before .args .table .now)) (c .before .before .before .before .before .before .before .before .before .before .before .before .before .before .before .before .args .limit) (c .before .before .before .before .before .before .before .before .before .before .before .before .before .before .before .before .args .index) (c .before .before .before .before .before .before .before .before .before .before .before .before .before .before .before .before .args .owed) (c .before .before .before .before .before .before .before .before .before .before .before .before .before .before .before .before .args .cursor .at) (c .before .before .before .before .before .before .before .before .before .before .before .before .before .before .before .before .args .words .now) (c .before .before .before .before .before .before .before .before .before .before .before .before .before .before .before .before .pre .1 .2) (omega arith) (record { word = c .before .before .before .before .before .before .before .before .before .word2 .given .0 .0; offset = c .before .before .before .before .before .before .before .before .before .before .before .before .before .before .before .before .args .cursor .at + 1 }) (c .before .before .before .before .before .before .before .before .before .word2 .given .0 .1 .0)
-      (sym (c .before .before .before .before .before .before .before .before .before .before .before .node .ensures .0) ∙ ap (nodeReading (c .before .before .before .before .before .before .before .before .before .before .before .before .before .before .before .before .args .cursor .at)) (c .before .before .before .before .before .before .before .before .before .word2 .given .1)) (rw (c .before .before .before .before .before .before .before .before .before .word2 .given .1) at (c .before .before .before .before .before .before .before .before .before .before .before .node .ensures .1))
-      (ltb-true _ _ (sym (c .before .before .before .has-symbol .ensures) ∙ not-false _ (c .before .before .if2 .left)))),
-  omega arith,
-)
+read-node-returns-3 t c =
+    let a = c .before .before .before .before .before .before .before .before .before .before .before .before .before
+    .before .before .before .args in
+    let σ = signatureOf (a .table .now) in
+    let source = bitSource (a .book .now) in
+    let got = c .before .before .before .before .before .before .before .before .before .word2 .given in
+    let v : Node = record { word = got .0 .0; offset = a .cursor .at + 1 } in
+    let read = sym (c .before .before .before .before .before .before .before .before .before .before .before .node
+    .ensures .0) ∙ ap (nodeReading (a .cursor .at)) (got .1) in
+    let kind = rw (got .1) at (c .before .before .before .before .before .before .before .before .before .before .before
+    .node .ensures .1) in
+    let known = ltb-true _ _ (sym (c .before .before .before .has-symbol .ensures) ∙ not-false _ (c .before .before .if2
+    .left)) in
+    let so = symbol-taken source σ (a .limit) (a .index) (a .owed) (a .cursor .at) (a .words .now) (c .before .before
+    .before .before .before .before .before .before .before .before .before .before .before .before .before .before .pre
+    .1 .2) (omega arith) v (got .0 .1 .0) read kind known in (
+      rw (c .before .before .before .before .before .before .put-word2 .ensures, c .before .arity .ensures .0) so,
+      omega
+          arith,
+    )
 
 read-node-add-t31 : (t : ℕ) → read-node-lts.Need-add-t31 (
   node-reads.Asked,
@@ -444,13 +487,27 @@ read-node-returns-4 : (t : ℕ) → read-node-lts.Need-returns-4 (
   read-arguments.Post,
 ) (read-node-at t) read-node.Post
 read-node-returns-4 t c =
-    let f = symbolOf (signatureOf (c .before .before .before .before .before .before .before .before .before .before .before .before .before .before .before .before .before .args .table .now)) (c .before .before .before .before .before .before .before .before .before .before .word2 .given .0 .0) in
-    let all : c .before .before .arity .result ≡ f .arity + (c .before .before .before .before .before .before .before .before .before .before .before .before .before .before .before .before .before .args .owed - 1) = omega (arith, c .before .before .arity .ensures .0) in (
-      rw (c .before .before .before .before .before .before .before .put-word2 .ensures, all) (symbol-taken (bitSource (c .before .before .before .before .before .before .before .before .before .before .before .before .before .before .before .before .before .args .book .now)) (signatureOf (c .before .before .before .before .before .before .before .before .before .before .before .before .before .before .before .before .before .args .table .now)) (c .before .before .before .before .before .before .before .before .before .before .before .before .before .before .before .before .before .args .limit) (c .before .before .before .before .before .before .before .before .before .before .before .before .before .before .before .before .before .args .index) (c .before .before .before .before .before .before .before .before .before .before .before .before .before .before .before .before .before .args .owed) (c .before .before .before .before .before .before .before .before .before .before .before .before .before .before .before .before .before .args .cursor .at) (c .before .before .before .before .before .before .before .before .before .before .before .before .before .before .before .before .before .args .words .now) (c .before .before .before .before .before .before .before .before .before .before .before .before .before .before .before .before .before .pre .1 .2) (omega arith) (record { word = c .before .before .before .before .before .before .before .before .before .before .word2 .given .0 .0; offset = c .before .before .before .before .before .before .before .before .before .before .before .before .before .before .before .before .before .args .cursor .at + 1 }) (c .before .before .before .before .before .before .before .before .before .before .word2 .given .0 .1 .0)
-          (sym (c .before .before .before .before .before .before .before .before .before .before .before .before .node .ensures .0) ∙ ap (nodeReading (c .before .before .before .before .before .before .before .before .before .before .before .before .before .before .before .before .before .args .cursor .at)) (c .before .before .before .before .before .before .before .before .before .before .word2 .given .1)) (rw (c .before .before .before .before .before .before .before .before .before .before .word2 .given .1) at (c .before .before .before .before .before .before .before .before .before .before .before .before .node .ensures .1))
-          (ltb-true _ _ (sym (c .before .before .before .before .has-symbol .ensures) ∙ not-false _ (c .before .before .before .if2 .left)))),
-      omega arith,
-    )
+    let a = c .before .before .before .before .before .before .before .before .before .before .before .before .before
+    .before .before .before .before .args in
+    let σ = signatureOf (a .table .now) in
+    let source = bitSource (a .book .now) in
+    let got = c .before .before .before .before .before .before .before .before .before .before .word2 .given in
+    let v : Node = record { word = got .0 .0; offset = a .cursor .at + 1 } in
+    let read = sym (c .before .before .before .before .before .before .before .before .before .before .before .before
+    .node .ensures .0) ∙ ap (nodeReading (a .cursor .at)) (got .1) in
+    let kind = rw (got .1) at (c .before .before .before .before .before .before .before .before .before .before .before
+    .before .node .ensures .1) in
+    let known = ltb-true _ _ (sym (c .before .before .before .before .has-symbol .ensures) ∙ not-false _ (c .before
+    .before .before .if2 .left)) in
+    let so = symbol-taken source σ (a .limit) (a .index) (a .owed) (a .cursor .at) (a .words .now) (c .before .before
+    .before .before .before .before .before .before .before .before .before .before .before .before .before .before
+    .before .pre .1 .2) (omega arith) v (got .0 .1 .0) read kind known in
+    let all : c .before .before .arity .result ≡ symbolOf σ (got .0 .0) .arity + (a .owed - 1) = omega (
+      arith,
+      c .before
+          .before .arity .ensures .0,
+    ) in
+    (rw (c .before .before .before .before .before .before .before .put-word2 .ensures, all) so, omega arith)
 
 read-node-add-read-arguments : (t : ℕ) → read-node-lts.Need-add-read-arguments (
   node-reads.Asked,
@@ -492,11 +549,16 @@ read-node-returns-5 : (t : ℕ) → read-node-lts.Need-returns-5 (
   read-arguments-below t,
   read-arguments.Post,
 ) (read-node-at t) read-node.Post
-read-node-returns-5 t c = (
-  bad-node (bitSource (c .before .before .before .before .before .before .before .before .args .book .now)) (signatureOf (c .before .before .before .before .before .before .before .before .args .table .now)) (c .before .before .before .before .before .before .before .before .args .limit) (c .before .before .before .before .before .before .before .before .args .index) (c .before .before .before .before .before .before .before .before .args .owed) (c .before .before .before .before .before .before .before .before .args .cursor .at) (c .before .before .before .before .before .before .before .before .args .words .now) (c .before .before .before .before .before .before .before .before .pre .1 .2) (omega arith) _ _
-      (sym (c .before .before .before .node .ensures .0) ∙ ap (nodeReading (c .before .before .before .before .before .before .before .before .args .cursor .at)) (c .before .offset .given .1)),
-  tt,
-)
+read-node-returns-5 t c =
+    let a = c .before .before .before .before .before .before .before .before .args in
+    let σ = signatureOf (a .table .now) in
+    let source = bitSource (a .book .now) in
+    let read = sym (c .before .before .before .node .ensures .0) ∙ ap (nodeReading (a .cursor .at)) (c .before .offset
+    .given .1) in (
+      bad-node source σ (a .limit) (a .index) (a .owed) (a .cursor .at) (a .words .now) (c .before .before .before
+          .before .before .before .before .before .pre .1 .2) (omega arith) _ _ read,
+      tt,
+    )
 
 read-node-same-length-4 : (t : ℕ) → read-node-lts.Need-same-length-4 (
   node-reads.Asked,
@@ -524,11 +586,21 @@ read-node-returns-6 : (t : ℕ) → read-node-lts.Need-returns-6 (
   read-arguments-below t,
   read-arguments.Post,
 ) (read-node-at t) read-node.Post
-read-node-returns-6 t c = (
-  rw (c .before .before .put-word .ensures) (variable-taken (bitSource (c .before .before .before .before .before .before .before .before .before .before .before .before .args .book .now)) (signatureOf (c .before .before .before .before .before .before .before .before .before .before .before .before .args .table .now)) (c .before .before .before .before .before .before .before .before .before .before .before .before .args .limit) (c .before .before .before .before .before .before .before .before .before .before .before .before .args .index) (c .before .before .before .before .before .before .before .before .before .before .before .before .args .owed) (c .before .before .before .before .before .before .before .before .before .before .before .before .args .cursor .at) (c .before .before .before .before .before .before .before .before .before .before .before .before .args .words .now) (c .before .before .before .before .before .before .before .before .before .before .before .before .pre .1 .2) (omega arith) (record { word = c .before .before .before .before .before .word .given .0 .0; offset = c .before .before .before .before .before .before .before .before .before .before .before .before .args .cursor .at + 1 }) (c .before .before .before .before .before .word .given .0 .1 .0)
-      (sym (c .before .before .before .before .before .before .before .node .ensures .0) ∙ ap (nodeReading (c .before .before .before .before .before .before .before .before .before .before .before .before .args .cursor .at)) (c .before .before .before .before .before .word .given .1)) (rw (c .before .before .before .before .before .word .given .1) at (c .before .before .before .before .before .before .before .node .ensures .1))),
-  omega arith,
-)
+read-node-returns-6 t c =
+    let a = c .before .before .before .before .before .before .before .before .before .before .before .before .args in
+    let σ = signatureOf (a .table .now) in
+    let source = bitSource (a .book .now) in
+    let got = c .before .before .before .before .before .word .given in
+    let v : Node = record { word = got .0 .0; offset = a .cursor .at + 1 } in
+    let read = sym (c .before .before .before .before .before .before .before .node .ensures .0) ∙ ap (nodeReading (a
+    .cursor .at)) (got .1) in
+    let kind = rw (got .1) at (c .before .before .before .before .before .before .before .node .ensures .1) in (
+      rw (c .before .before .put-word .ensures) (variable-taken source σ (a .limit) (a .index) (a .owed) (a .cursor .at)
+          (a .words .now) (c .before .before .before .before .before .before .before .before .before .before .before
+          .before
+          .pre .1 .2) (omega arith) v (got .0 .1 .0) read kind),
+      omega arith,
+    )
 
 read-node-same-length-5 : (t : ℕ) → read-node-lts.Need-same-length-5 (
   node-reads.Asked,
@@ -542,7 +614,8 @@ read-node-same-length-5 : (t : ℕ) → read-node-lts.Need-same-length-5 (
   read-arguments-below t,
   read-arguments.Post,
 ) (read-node-at t) read-node.Post
-read-node-same-length-5 t c = c .before .before .read-arguments .kept .1 .1 .0 ∙ c .before .before .before .before .before .before .before .before .before .before .before .put-word2 .kept .0
+read-node-same-length-5 t c = c .before .before .read-arguments .kept .1 .1 .0 ∙ c .before .before .before .before
+    .before .before .before .before .before .before .before .put-word2 .kept .0
 
 read-node-returns-7 : (t : ℕ) → read-node-lts.Need-returns-7 (
   node-reads.Asked,
@@ -557,18 +630,46 @@ read-node-returns-7 : (t : ℕ) → read-node-lts.Need-returns-7 (
   read-arguments.Post,
 ) (read-node-at t) read-node.Post
 read-node-returns-7 t c =
-    let rest = rw (c .before .before .before .before .before .before .before .before .before .before .before .put-word2 .ensures, c .before .before .before .before .before .before .arity .ensures .0) at (c .before .before .read-arguments .ensures) in (
-      rest-more (bitSource (c .before .before .before .before .before .before .before .before .before .before .before .before .before .before .before .before .before .before .before .before .before .args .book .now)) (signatureOf (c .before .before .before .before .before .before .before .before .before .before .before .before .before .before .before .before .before .before .before .before .before .args .table .now)) (c .before .before .before .before .before .before .before .before .before .before .before .before .before .before .before .before .before .before .before .before .before .args .limit) (c .before .before .before .before .before .before .before .before .before .before .before .before .before .before .before .before .before .before .before .before .before .args .index) (c .before .before .before .before .before .before .before .before .before .before .before .before .before .before .before .before .before .before .before .before .before .args .owed) (c .before .before .before .before .before .before .before .before .before .before .before .before .before .before .before .before .before .before .before .before .before .args .cursor .at) (c .before .before .before .before .before .before .before .before .before .before .before .before .before .before .before .before .before .before .before .before .before .args .words .now) _ _ _ _
-          (symbol-taken (bitSource (c .before .before .before .before .before .before .before .before .before .before .before .before .before .before .before .before .before .before .before .before .before .args .book .now)) (signatureOf (c .before .before .before .before .before .before .before .before .before .before .before .before .before .before .before .before .before .before .before .before .before .args .table .now)) (c .before .before .before .before .before .before .before .before .before .before .before .before .before .before .before .before .before .before .before .before .before .args .limit) (c .before .before .before .before .before .before .before .before .before .before .before .before .before .before .before .before .before .before .before .before .before .args .index) (c .before .before .before .before .before .before .before .before .before .before .before .before .before .before .before .before .before .before .before .before .before .args .owed) (c .before .before .before .before .before .before .before .before .before .before .before .before .before .before .before .before .before .before .before .before .before .args .cursor .at) (c .before .before .before .before .before .before .before .before .before .before .before .before .before .before .before .before .before .before .before .before .before .args .words .now) (c .before .before .before .before .before .before .before .before .before .before .before .before .before .before .before .before .before .before .before .before .before .pre .1 .2) (omega arith) (record { word = c .before .before .before .before .before .before .before .before .before .before .before .before .before .before .word2 .given .0 .0; offset = c .before .before .before .before .before .before .before .before .before .before .before .before .before .before .before .before .before .before .before .before .before .args .cursor .at + 1 }) (c .before .before .before .before .before .before .before .before .before .before .before .before .before .before .word2 .given .0 .1 .0)
-          (sym (c .before .before .before .before .before .before .before .before .before .before .before .before .before .before .before .before .node .ensures .0) ∙ ap (nodeReading (c .before .before .before .before .before .before .before .before .before .before .before .before .before .before .before .before .before .before .before .before .before .args .cursor .at)) (c .before .before .before .before .before .before .before .before .before .before .before .before .before .before .word2 .given .1)) (rw (c .before .before .before .before .before .before .before .before .before .before .before .before .before .before .word2 .given .1) at (c .before .before .before .before .before .before .before .before .before .before .before .before .before .before .before .before .node .ensures .1))
-          (ltb-true _ _ (sym (c .before .before .before .before .before .before .before .before .has-symbol .ensures) ∙ not-false _ (c .before .before .before .before .before .before .before .if2 .left)))) (c .before .before .read-arguments .result) (c .before .before .read-arguments .last .1 .1 .0) rest,
-      beyond-rest _ (c .before .before .before .before .before .before .before .before .before .before .before .before .before .before .before .before .before .before .before .before .before .args .limit) (c .before .before .before .before .before .before .before .before .before .before .before .before .before .before .before .before .before .before .before .before .before .args .index) _ _ _ (c .before .before .read-arguments .result) (c .before .before .read-arguments .last .1 .1 .0) rest,
+    let a = c .before .before .before .before .before .before .before .before .before .before .before .before .before
+    .before .before .before .before .before .before .before .before .args in
+    let σ = signatureOf (a .table .now) in
+    let start = c .before .before .before .before .before .before .before .before .before .before .before .before
+    .before .before .before .before .before .before .before .before .before in
+    let less : a .index < a .limit = omega (
+      arith,
+      c .before .before .before .before .before .before .before .before
+          .before .before .before .before .before .before .before .before .before .if1 .left,
+      start .pre .1 .1,
+    ) in
+    let source = bitSource (a .book .now) in
+    let got = c .before .before .before .before .before .before .before .before .before .before .before .before .before
+    .before .word2 .given in
+    let v : Node = record { word = got .0 .0; offset = a .cursor .at + 1 } in
+    let read = sym (c .before .before .before .before .before .before .before .before .before .before .before .before
+    .before .before .before .before .node .ensures .0) ∙ ap (nodeReading (a .cursor .at)) (got .1) in
+    let kind = rw (got .1) at (c .before .before .before .before .before .before .before .before .before .before .before
+    .before .before .before .before .before .node .ensures .1) in
+    let known = ltb-true _ _ (sym (c .before .before .before .before .before .before .before .before .has-symbol
+    .ensures) ∙ not-false _ (c .before .before .before .before .before .before .before .if2 .left)) in
+    let so = symbol-taken source σ (a .limit) (a .index) (a .owed) (a .cursor .at) (a .words .now) (c .before .before
+    .before .before .before .before .before .before .before .before .before .before .before .before .before .before
+    .before .before .before .before .before .pre .1 .2) less v (got .0 .1 .0) read kind known in
+    let r = c .before .before .read-arguments in
+    let rest = rw (
+      c .before .before .before .before .before .before .before .before .before .before .before .put-word2
+          .ensures,
+      c .before .before .before .before .before .before .arity .ensures .0,
+    ) at (r .ensures) in (
+      rest-more source σ (a .limit) (a .index) (a .owed) (a .cursor .at) (a .words .now) _ _ _ _ so (r .result) (r .last
+          .1 .1 .0) rest,
+      beyond-rest _ (a .limit) (a .index) _ _ _ (r .result) (r .last .1 .1 .0) rest,
     )
 
 abbrev read-row-Inv-loop : read-row-lts.InvT-loop
 read-row-Inv-loop book table words₀ index limit owed end₀ here₀ left₀ words end here left =
     (length words ≡ length words₀) ×
-    RestOwed (forestReader (bitSource book) (signatureOf table)) limit index owed (here₀ .at) words₀ (Owed end here left)
+    RestOwed (forestReader (bitSource book) (signatureOf table)) limit index owed (here₀ .at) words₀ (Owed end here
+    left)
     words
 
 abbrev read-row-μ-loop : read-row-lts.MeasureT-loop
@@ -582,16 +683,29 @@ read-row-loop-holds :
     read-row.Post
     read-row-Inv-loop
     read-row-μ-loop
-read-row-loop-holds t c = (
-  refl,
-  none-taken (bitSource (c .before .before .before .args .book .now)) (signatureOf (c .before .before .before .args .table .now)) (c .before .before .before .args .limit) (c .before .before .before .args .index) (c .before .before .before .args .owed) (c .before .before .before .args .cursor .at) (c .before .before .before .args .words .now) (c .before .before .before .pre .1 .1) _ refl (c .before .before .before .args .cursor) refl,
-)
+read-row-loop-holds t c =
+    let a = c .before .before .before .args in
+    let σ = signatureOf (a .table .now) in
+    let source = bitSource (a .book .now) in (
+      refl,
+      none-taken source σ (a .limit) (a .index) (a .owed) (a .cursor .at) (a .words .now) (c .before .before
+          .before .pre .1 .1) _ refl (a .cursor) refl,
+    )
 
 read-row-read-node-requires : (t : ℕ) → read-row-lts.Need-read-node-requires (
   read-node-below t,
   read-node.Post,
 ) (read-row-at t) read-row.Post read-row-Inv-loop read-row-μ-loop
-read-row-read-node-requires t c κs = let so = c .before .before .loop .inv .1 in omega (arith, so .2, so .3, c .before .before .before .before .before .before .pre .0, c .before .before .before .before .before .before .pre .1 .0, c .before .before .before .before .before .before .pre .1 .1)
+read-row-read-node-requires t c κs = let so = c .before .before .loop .inv .1 in omega (
+  arith,
+  so .2,
+  so .3,
+  c .before
+      .before .before .before .before .before .pre .0,
+  c .before .before .before .before .before .before .pre .1 .0,
+  c
+      .before .before .before .before .before .before .pre .1 .1,
+)
 
 read-row-enum-known-code : (t : ℕ) → read-row-lts.Need-enum-known-code (
   read-node-below t,
@@ -607,7 +721,8 @@ read-row-same-length :
     read-row.Post
     read-row-Inv-loop
     read-row-μ-loop
-read-row-same-length t c = c .before .before .before .before .before .read-node .kept .1 .1 .0 ∙ c .before .before .before .before .before .before .before .before .loop .inv .0
+read-row-same-length t c = c .before .before .before .before .before .read-node .kept .1 .1 .0 ∙ c .before .before
+    .before .before .before .before .before .before .loop .inv .0
 
 read-row-returns :
     (t : ℕ) →
@@ -618,8 +733,15 @@ read-row-returns :
     read-row-Inv-loop
     read-row-μ-loop
 read-row-returns t c =
-    rw (c .before .code .given .1) at (rest-more (bitSource (c .before .before .before .before .before .before .before .before .before .before .before .before .args .book .now)) (signatureOf (c .before .before .before .before .before .before .before .before .before .before .before .before .args .table .now)) (c .before .before .before .before .before .before .before .before .before .before .before .before .args .limit) (c .before .before .before .before .before .before .before .before .before .before .before .before .args .index) (c .before .before .before .before .before .before .before .before .before .before .before .before .args .owed) (c .before .before .before .before .before .before .before .before .before .before .before .before .args .cursor .at) (c .before .before .before .before .before .before .before .before .before .before .before .before .args .words .now) (c .before .before .before .before .before .before .before .before .loop .end) (c .before .before .before .before .before .before .before .before .loop .here) (c .before .before .before .before .before .before .before .before .loop .left) (c .before .before .before .before .before .before .before .before .loop .words)
-    (c .before .before .before .before .before .before .before .before .loop .inv .1) (c .before .before .before .before .before .read-node .result) (c .before .before .before .before .before .read-node .last .1 .1 .0) (c .before .before .before .before .before .read-node .ensures .0))
+    let a = c .before .before .before .before .before .before .before .before .before .before .before .before .args in
+    let σ = signatureOf (a .table .now) in
+    let source = bitSource (a .book .now) in
+    let l = c .before .before .before .before .before .before .before .before .loop in
+    let r = c .before .before .before .before .before .read-node in
+    let so = rest-more source σ (a .limit) (a .index) (a .owed) (a .cursor .at) (a .words .now) (l .end) (l .here) (l
+    .left) (l .words) (l .inv .1) (r .result)
+    (r .last .1 .1 .0) (r .ensures .0) in
+    rw (c .before .code .given .1) at so
 
 read-row-enum-known-next-end : (t : ℕ) → read-row-lts.Need-enum-known-next-end (
   read-node-below t,
@@ -636,8 +758,10 @@ read-row-loop-less :
     read-row-Inv-loop
     read-row-μ-loop
 read-row-loop-less t c =
-    let rest = rw (c .before .next-end .given .1) at (c .before .before .before .before .before .read-node .ensures .0) in
-    let beyond = rw (c .before .next-end .given .1) at (c .before .before .before .before .before .read-node .ensures .1) in
+    let r = c .before .before .before .before .before .read-node in
+    let given = c .before .next-end .given .1 in
+    let rest = rw given at (r .ensures .0) in
+    let beyond = rw given at (r .ensures .1) in
     omega (arith, rest .3, beyond)
 
 read-row-loop-again :
@@ -648,11 +772,16 @@ read-row-loop-again :
     read-row.Post
     read-row-Inv-loop
     read-row-μ-loop
-read-row-loop-again t c = (
-  c .before .before .before .before .before .read-node .kept .1 .1 .0 ∙ c .before .before .before .before .before .before .before .before .loop .inv .0,
-  rw (c .before .next-end .given .1) at (rest-more (bitSource (c .before .before .before .before .before .before .before .before .before .before .before .before .args .book .now)) (signatureOf (c .before .before .before .before .before .before .before .before .before .before .before .before .args .table .now)) (c .before .before .before .before .before .before .before .before .before .before .before .before .args .limit) (c .before .before .before .before .before .before .before .before .before .before .before .before .args .index) (c .before .before .before .before .before .before .before .before .before .before .before .before .args .owed) (c .before .before .before .before .before .before .before .before .before .before .before .before .args .cursor .at) (c .before .before .before .before .before .before .before .before .before .before .before .before .args .words .now) (c .before .before .before .before .before .before .before .before .loop .end) (c .before .before .before .before .before .before .before .before .loop .here) (c .before .before .before .before .before .before .before .before .loop .left) (c .before .before .before .before .before .before .before .before .loop .words)
-      (c .before .before .before .before .before .before .before .before .loop .inv .1) (c .before .before .before .before .before .read-node .result) (c .before .before .before .before .before .read-node .last .1 .1 .0) (c .before .before .before .before .before .read-node .ensures .0)),
-)
+read-row-loop-again t c =
+    let a = c .before .before .before .before .before .before .before .before .before .before .before .before .args in
+    let σ = signatureOf (a .table .now) in
+    let source = bitSource (a .book .now) in
+    let l = c .before .before .before .before .before .before .before .before .loop in
+    let r = c .before .before .before .before .before .read-node in
+    let so = rest-more source σ (a .limit) (a .index) (a .owed) (a .cursor .at) (a .words .now) (l .end) (l .here) (l
+    .left) (l .words) (l .inv .1) (r .result)
+    (r .last .1 .1 .0) (r .ensures .0) in
+    (r .kept .1 .1 .0 ∙ l .inv .0, rw (c .before .next-end .given .1) at so)
 
 read-row-same-length-2 : (t : ℕ) → read-row-lts.Need-same-length-2 (
   read-node-below t,
@@ -669,8 +798,12 @@ read-row-returns-2 :
     read-row-Inv-loop
     read-row-μ-loop
 read-row-returns-2 t c =
-    rest-done (bitSource (c .before .before .before .before .before .args .book .now)) (signatureOf (c .before .before .before .before .before .args .table .now)) (c .before .before .before .before .before .args .limit) (c .before .before .before .before .before .args .index) (c .before .before .before .before .before .args .owed) (c .before .before .before .before .before .args .cursor .at) (c .before .before .before .before .before .args .words .now) (c .before .loop .end) (c .before .loop .here) (c .before .loop .left) (c .before .loop .words)
-    (c .before .loop .inv .1) (omega arith)
+    let a = c .before .before .before .before .before .args in
+    let σ = signatureOf (a .table .now) in
+    let source = bitSource (a .book .now) in
+    let l = c .before .loop in
+    rest-done source σ (a .limit) (a .index) (a .owed) (a .cursor .at) (a .words .now) (l .end) (l .here) (l .left) (l
+    .words) (l .inv .1) (omega arith)
 
 pub +read-arguments+read-node+read-row-spec : {M : Type 1} → statement M
 +read-arguments+read-node+read-row-spec =

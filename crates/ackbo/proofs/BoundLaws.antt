@@ -1,10 +1,10 @@
 -- The numbers of every reply are below 2^63, so that they fit the values that cross the boundary.
 --     decoded-small, encoded-small, compared-small     of an answer's count, and of an error's offset
 --     marked-small                                     of the counts and the score, and of an error's offset
-use mathlib.Core.List.{List, [], _∷_}
-use mathlib.Core.Path.{_≡_, refl, sym, ap, _∙_}
-use mathlib.Core.Bool.{Bool, true, false, cond}
-use Prim.Native.Nat.{ℕ, _*_, _/_, _^_, _≤_, _<_}
+use mathlib.Core.List.{List}
+use mathlib.Core.Path.{_≡_, refl, sym, _∙_}
+use mathlib.Core.Bool.{Bool, true, false}
+use Prim.Native.Nat.{ℕ, _*_, _^_, _<_}
 use native.Mathlib.Omega.{arith}
 use native.Mathlib.Nat.{div-le-self}
 use lib.ListN.{length, length-map}
@@ -25,8 +25,9 @@ use Rattle.format.specs.Replies.Reply.{accepted, refused}
 use Rattle.format.specs.Statements.IsRead.{fromBytes}
 use Rattle.format.specs.Operations.{write, decoded, encoded}
 use Rattle.format.proofs.Theorems.{readable-admissible, faults-within}
-use Rattle.comparing.specs.Comparing.{Comparison, comparison, comparedRight, comparedTerms, compared}
+use Rattle.comparing.specs.Comparing.{comparison, comparedRight, comparedTerms, compared}
 use Rattle.marking.specs.Marking.{Summary, summaryOf, marksOf, isDecreasing, decreasingCount, marked}
+use Rattle.marking.proofs.RuleLaws.{length-choose}
 use Rattle.marking.proofs.MarkLaws.{fault-small}
 
 -- A number of a signed 64-bit value.
@@ -77,7 +78,8 @@ write-small code front output h =
 book-small : (bytes : List ℕ) (code offset : ℕ) → readBytes bytes ≡ fault code offset → Small offset
 book-small bytes code offset e = omega (arith, fault-small bytes code offset e)
 
-pub decoded-small : (bytes words : List ℕ) → Small (length words) → Small (measure (λ n. n) (decoded bytes words .reply))
+pub decoded-small : (bytes words : List ℕ) → Small (length words) → Small
+    (measure (λ n. n) (decoded bytes words .reply))
 unfolding decoded
 decoded-small bytes words h =
     let k : RuleFile → Reply (Written ℕ) = λ file. write wordsTooShort (unpacked file) words in
@@ -130,21 +132,22 @@ marked-small bytes marks m h =
 rule-marks : (file : RuleFile) → length (marksOf (systemOf file)) ≡ length (file .rules)
 rule-marks file = length-map (systemOf file .rules) _ ∙ length-map (file .rules) _
 
-falling-few : (marks : List ℕ) → decreasingCount marks ≤ length marks
-falling-few [] = omega arith
-falling-few (m ∷ l) =
-    byTest (isDecreasing m) (λ e. rw e (omega (arith, falling-few l))) λ e. rw e (omega (arith, falling-few l))
-
 pub rules-small : (file : RuleFile) → length (file .rules) < 1024 → Small (summaryOf (marksOf (systemOf file)) .rules)
 rules-small file h = omega (arith, rule-marks file)
 
 pub decreasing-small : (file : RuleFile) → length (file .rules) < 1024 →
     Small (summaryOf (marksOf (systemOf file)) .decreasing)
-decreasing-small file h = omega (arith, rule-marks file, falling-few (marksOf (systemOf file)))
+decreasing-small file h = omega (arith, rule-marks file, length-choose isDecreasing (marksOf (systemOf file)))
 
 pub score-small : (file : RuleFile) → length (file .rules) < 1024 →
     Small (summaryOf (marksOf (systemOf file)) .score)
 score-small file h =
     let marks = marksOf (systemOf file) in
     byTest (eqb (length marks) 0) (λ e. rw e (omega arith))
-    λ e. rw e (omega (arith, div-le-self (100 * decreasingCount marks) (length marks), rule-marks file, falling-few marks))
+    λ e. rw e (omega (
+      arith,
+      div-le-self (100 * decreasingCount marks) (length marks),
+      rule-marks file,
+      length-choose
+          isDecreasing marks,
+    ))

@@ -90,7 +90,8 @@ table-of bytes table file end symbols rules words offset n e p = (
   rw (p .signature) (readable-admissible file (fromBytes bytes end e) .0),
 )
 
-pub numbered-relation : (σ : Signature) (s t : Term) → relationOf (relationNumbered (order.relation σ s t)) ≡ relation σ s t
+pub numbered-relation : (σ : Signature) (s t : Term) → relationOf (relationNumbered (order.relation σ s t)) ≡ relation σ
+    s t
 unfolding order.relation relation
 numbered-relation σ s t =
     byTest (isGreater σ s t) (λ a. rw a) λ a. byTest (isGreater σ t s) (λ b. rw (a, b))

@@ -55,7 +55,8 @@ cases =
     []
 
 cases-hold : map (λ (c : Case). compared book (c .left) (c .right)) cases ≡ map (λ (c : Case). c .reply) cases
-unfolding compared comparedTerms comparedRight relation readBytes readTerm fileReader symbolsReader symbolReader rulesReader forestReader bitField
+unfolding compared comparedTerms comparedRight relation readBytes readTerm fileReader symbolsReader symbolReader
+    rulesReader forestReader bitField
     wordBelow paddingReader endReader forestOf isGreater isGreaterTo decreasingMark rootMark flattenedMark noneOftener
     isEquivalent isEquivalentTo rowEqual rowGreater multisetEqual multisetGreater
 cases-hold = refl

@@ -62,12 +62,15 @@ module _ (σ : Signature) where
     module _ (f : ℕ) (e : getD s i 0 ≡ f) (g : getD t j 0 ≡ f) where
       roots-elements : f < 256 → symbolOf σ f .ac ≡ true →
           isEquivalent σ (partAt σ s i) (partAt σ t j)
-          ≡ multisetEqual (isEquivalent σ) (elementsAt σ f s (i + 1) (symbolOf σ f .arity)) (elementsAt σ f t (j + 1) (symbolOf σ f .arity))
-      roots-elements v a = ap₂ (isEquivalent σ) (rw e at (symbol σ s i h (rw e v))) (rw g at (symbol σ t j k (rw g v))) ∙ rw (isEquivalent-app σ, eqb-self f, a)
+          ≡ multisetEqual (isEquivalent σ) (elementsAt σ f s (i + 1) (symbolOf σ f .arity))
+          (elementsAt σ f t (j + 1) (symbolOf σ f .arity))
+      roots-elements v a = ap₂ (isEquivalent σ) (rw e at (symbol σ s i h (rw e v))) (rw g at (symbol σ t j k (rw g v)))
+          ∙ rw (isEquivalent-app σ, eqb-self f, a)
 
       roots-rows : length (σ .symbols) ≤ 256 → symbolOf σ f .ac ≡ false →
           isEquivalent σ (partAt σ s i) (partAt σ t j)
-          ≡ rowEqual (isEquivalent σ) (partsAt σ s (i + 1) (symbolOf σ f .arity)) (partsAt σ t (j + 1) (symbolOf σ f .arity))
+          ≡ rowEqual (isEquivalent σ) (partsAt σ s (i + 1) (symbolOf σ f .arity))
+          (partsAt σ t (j + 1) (symbolOf σ f .arity))
       unfolding rowEqual
       roots-rows few a =
           byOrder f 256
@@ -117,7 +120,8 @@ module _ {table s sk t tk : List ℕ} (S : Sides table s sk t tk) where
           r ≡ alikeAt table s i t j
       equivalent-elements a q =
           (rw d at q)
-          ∙ sym (roots-elements (signatureOf table) s i t j h k (getD s i 0) refl (sym e) (ac-small table (S .small) _ a) a)
+          ∙ sym (roots-elements (signatureOf table) s i t j h k (getD s i 0) refl (sym e)
+          (ac-small table (S .small) _ a) a)
 
       pub equivalent-rows : {r : Bool} → symbolOf (signatureOf table) (getD s i 0) .ac ≡ false →
           r ≡ rowsAlike table s (i + 1) t (j + 1) n → r ≡ alikeAt table s i t j
@@ -136,7 +140,8 @@ module _ {table s sk t tk : List ℕ} (S : Sides table s sk t tk) where
     unfolding rowEqual
     rows-step p =
         let σ = signatureOf table in
-        ap₂ (rowEqual (isEquivalent σ)) (row-next σ s i (S .left .complete) n p a) (row-next σ t j (S .right .complete) n p b)
+        ap₂ (rowEqual (isEquivalent σ)) (row-next σ s i (S .left .complete) n p a)
+        (row-next σ t j (S .right .complete) n p b)
 
     pub rows-unlike : 0 < n → false ≡ alikeAt table s i t j → false ≡ rowsAlike table s i t j n
     rows-unlike p e = rw (rows-step p, ← e)
@@ -174,7 +179,8 @@ module _ {table s sk t tk : List ℕ} (S : Sides table s sk t tk) where
           r ≡ elementsAlike table f s i n (termsAt table t offsets m)
       cancelled-more q out o d h =
           let σ = signatureOf table in
-          (rw (d, prepared-size (S .left) i (omega arith)) at h) ∙ rw (elements-other σ s i (S .left .complete) f n p a e)
+          (rw (d, prepared-size (S .left) i (omega arith)) at h) ∙ rw
+          (elements-other σ s i (S .left .complete) f n p a e)
           (sym (equal-without (isEquivalent σ) _ _ _ _ (removed-one table (partAt σ s i) P F q out o)))
 
 -- The invariants of the two scans: what is still ahead answers for the whole.

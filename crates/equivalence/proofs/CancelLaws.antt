@@ -32,17 +32,19 @@ module _ (table : List ℕ) where
   abbrev leftFrom : List ℕ → List ℕ → ℕ → ℕ → List ℕ → List ℕ → ℕ → Rest Term
   leftFrom s ps k n t qs m = cancel (isEquivalent (signatureOf table)) (restFrom s ps k n) (termsAt table t qs m)
 
-pub record Cancelling (table s t ps₀ : List ℕ) (n : ℕ) (qs₀ : List ℕ) (m₀ : ℕ) (ps qs : List ℕ) (k m kept : ℕ) : Type 0 where
-  pub behind : kept ≤ k
-  pub within : k ≤ n
-  pub fewer : m ≤ m₀
-  pub left : Offsets (signatureOf table) s ps n (termsAt table s ps n)
-  pub right : Offsets (signatureOf table) t qs m (termsAt table t qs m)
-  pub sameLeft : termsAt table s ps kept ++ leftFrom table s ps k n t qs m .left ≡ leftAt table s ps₀ n t qs₀ m₀ .left
-  pub sameRight : leftFrom table s ps k n t qs m .right ≡ leftAt table s ps₀ n t qs₀ m₀ .right
+pub record Cancelling (table s t ps₀ : List ℕ) (n : ℕ) (qs₀ : List ℕ) (m₀ : ℕ) (ps qs : List ℕ) (k m kept : ℕ) : Type 0
+  where
+    pub behind : kept ≤ k
+    pub within : k ≤ n
+    pub fewer : m ≤ m₀
+    pub left : Offsets (signatureOf table) s ps n (termsAt table s ps n)
+    pub right : Offsets (signatureOf table) t qs m (termsAt table t qs m)
+    pub sameLeft : termsAt table s ps kept ++ leftFrom table s ps k n t qs m .left ≡ leftAt table s ps₀ n t qs₀ m₀ .left
+    pub sameRight : leftFrom table s ps k n t qs m .right ≡ leftAt table s ps₀ n t qs₀ m₀ .right
 
 pub cancelling-start : (table s t ps : List ℕ) (n : ℕ) (qs : List ℕ) (m : ℕ) →
-    Offsets (signatureOf table) s ps n (termsAt table s ps n) → Offsets (signatureOf table) t qs m (termsAt table t qs m) →
+    Offsets (signatureOf table) s ps n (termsAt table s ps n) → Offsets (signatureOf table) t qs m
+    (termsAt table t qs m) →
     Cancelling table s t ps n qs m ps qs 0 m 0
 cancelling-start table s t ps n qs m P Q = record {
   behind = omega arith;
@@ -114,13 +116,15 @@ module _ {table s t ps₀ : List ℕ} {n : ℕ} {qs₀ : List ℕ} {m₀ : ℕ} 
         }
 
     module _ {r : ℕ} (F : First (λ (x : ℕ). alikeAt table s (getD ps k 0) t (getD qs x 0)) m r) where
-      pub cancelling-kept : r ≡ m → Cancelling table s t ps₀ n qs₀ m₀ (set ps kept (getD ps k 0)) qs (k + 1) m (kept + 1)
+      pub cancelling-kept : r ≡ m → Cancelling table s t ps₀ n qs₀ m₀ (set ps kept (getD ps k 0)) qs (k + 1) m
+          (kept + 1)
       cancelling-kept q =
           let σ = signatureOf table in
           let d : termsAt table s stored (kept + 1) ≡ termsAt table s ps kept ++ first ∷ [] =
           offset-added σ s ps kept (getD ps k 0) _ kept-offsets (C .left .inside k l)
           (omega (arith, C .left .few, C .behind)) .there in
-          let e = left-step ∙ ap (spend first (cancel (isEquivalent σ) (restFrom table s ps (k + 1) n)) (termsAt table t qs m))
+          let e = left-step ∙ ap (spend first (cancel (isEquivalent σ) (restFrom table s ps (k + 1) n))
+          (termsAt table t qs m))
           (removed-none table first (C .right) F q) in
           record {
             behind = omega (arith, C .behind);
@@ -136,7 +140,8 @@ module _ {table s t ps₀ : List ℕ} {n : ℕ} {qs₀ : List ℕ} {m₀ : ℕ} 
           length out ≡ length qs → Cancelling table s t ps₀ n qs₀ m₀ ps out (k + 1) (m - 1) kept
       cancelling-spent out q o z =
           let σ = signatureOf table in
-          let e = left-step ∙ ap (spend first (cancel (isEquivalent σ) (restFrom table s ps (k + 1) n)) (termsAt table t qs m))
+          let e = left-step ∙ ap (spend first (cancel (isEquivalent σ) (restFrom table s ps (k + 1) n))
+          (termsAt table t qs m))
           (removed-one table first (C .right) F q out o) in
           record {
             behind = omega (arith, C .behind);

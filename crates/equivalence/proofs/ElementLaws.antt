@@ -23,7 +23,8 @@ use Rattle.equivalence.specs.Offsets.{Offsets, termsAt}
 use Rattle.equivalence.proofs.PartLaws.{symbol}
 use Rattle.equivalence.proofs.FormedLaws.{part-formed}
 use Rattle.equivalence.proofs.OffsetLaws.{offset-added, offsets-length}
-use Rattle.equivalence.proofs.StepLaws.{elements-own, elements-other, prepared-size, part-small, step-some, step-next}
+use Rattle.equivalence.proofs.StepLaws.{elements-own, elements-other, prepared-size, part-small, step-some}
+use Rattle.equivalence.proofs.StepLaws.{step-next}
 use Rattle.equivalence.proofs.StepLaws.{step-own}
 
 -- ---- how many elements

@@ -47,11 +47,13 @@ map-append f [] m = refl
 map-append f (a ∷ l) m = ap (_∷_ (f a)) (map-append f l m)
 
 module _ (σ : Signature) where
-  pub offset-added : (ws offsets : List ℕ) (k j : ℕ) (l : List Term) → Offsets σ ws offsets k l → j < length ws → k < 64 →
+  pub offset-added : (ws offsets : List ℕ) (k j : ℕ) (l : List Term) → Offsets σ ws offsets k l → j < length ws → k < 64
+      →
       Offsets σ ws (set offsets k j) (k + 1) (l ++ partAt σ ws j ∷ [])
   offset-added ws offsets k j l h i f =
       let room = h .room in
-      let e : take (k + 1) (set offsets k j) ≡ take k offsets ++ j ∷ [] = rw add-one (take-suc-set offsets k j (omega arith)) in
+      let e : take (k + 1) (set offsets k j) ≡ take k offsets ++ j ∷ [] = rw add-one
+      (take-suc-set offsets k j (omega arith)) in
       record {
         room = length-set offsets k j ∙ h .room;
         few = omega arith;
@@ -69,7 +71,8 @@ length-map g (a ∷ l) = ap suc (length-map g l)
 
 pub offsets-length : {σ : Signature} {ws ps : List ℕ} {m : ℕ} {l : List Term} → Offsets σ ws ps m l → length l ≡ m
 offsets-length {σ} {ws} {ps} {m} P =
-    ap length (sym (P .there)) ∙ length-map (partAt σ ws) (take m ps) ∙ length-take-le m ps (omega (arith, P .room, P .few))
+    ap length (sym (P .there)) ∙ length-map (partAt σ ws) (take m ps) ∙ length-take-le m ps
+    (omega (arith, P .room, P .few))
 
 -- ---- the list as it stands
 

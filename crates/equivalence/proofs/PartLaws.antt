@@ -81,7 +81,8 @@ module _ (σ : Signature) where
         let e : ts ≡ partAt σ ws i ∷ drop 1 ts = first ts n p s in
         let k : total (take 1 ts) ≡ size (partAt σ ws i) = ap (λ (l : List Term). total (take 1 l)) e ∙ omega arith in
         let a = after us 1 (complete-drop ws i c) (omega arith) in
-        e ∙ ap (_∷_ (partAt σ ws i)) (sym a ∙ ap (λ (m : ℕ). forestOf σ (drop m us)) k ∙ ap (forestOf σ) (drop-drop (size (partAt σ ws i)) i ws))
+        e ∙ ap (_∷_ (partAt σ ws i)) (sym a ∙ ap (λ (m : ℕ). forestOf σ (drop m us)) k ∙ ap (forestOf σ)
+        (drop-drop (size (partAt σ ws i)) i ws))
 
     pub next-parts : (n : ℕ) → Stand σ ws i (suc n) →
         partsAt σ ws i (suc n) ≡ partAt σ ws i ∷ partsAt σ ws (i + size (partAt σ ws i)) n
@@ -169,6 +170,7 @@ module _ (σ : Signature) where
     terms = s;
   }
 
-  pub size-fits : (ws : List ℕ) (i n : ℕ) → Complete σ ws → Stand σ ws i n → 0 < n → i + size (partAt σ ws i) ≤ length ws
+  pub size-fits : (ws : List ℕ) (i n : ℕ) → Complete σ ws → Stand σ ws i n → 0 < n → i + size (partAt σ ws i) ≤ length
+      ws
   size-fits ws i n c s p =
       omega (arith, ap total (next ws i c n s p), total-forest (drop i ws), length-drop i ws, inside ws i n s p)

@@ -21,7 +21,8 @@ use Rattle.equivalence.proofs.StepLaws.{part-root, part-small, keyed-si
 
 -- ---- gathering
 
-pub offset-more : (keys : List ℕ) (i n : ℕ) → 0 < n → offsetAfter keys (i + sizeIn keys i) (n - 1) ≡ offsetAfter keys i n
+pub offset-more : (keys : List ℕ) (i n : ℕ) → 0 < n → offsetAfter keys (i + sizeIn keys i) (n - 1) ≡ offsetAfter keys i
+    n
 offset-more keys i zero p = absurd (omega arith)
 offset-more keys i (suc n) p = let d : suc n - 1 ≡ n = omega arith in rw d
 
@@ -35,7 +36,8 @@ hash-more ac f ws keys before i (suc n) p = let d : suc n - 1 ≡ n = omega arit
 
 module _ (σ : Signature) (few : length (σ .symbols) ≤ 256) (ws keys : List ℕ) (c : Complete σ ws)
     (short : length ws ≤ 128) where
-  offset-parts : (n i : ℕ) → Stand σ ws i n → KeyedFrom σ ws keys i → offsetAfter keys i n ≡ i + total (partsAt σ ws i n)
+  offset-parts : (n i : ℕ) → Stand σ ws i n → KeyedFrom σ ws keys i → offsetAfter keys i n ≡ i + total
+      (partsAt σ ws i n)
   offset-parts zero i s m = omega arith
   offset-parts (suc n) i s m =
       let h = inside σ ws i (suc n) s (omega arith) in
@@ -88,7 +90,8 @@ module _ (σ : Signature) (few : length (σ .symbols) ≤ 256) (ws keys : List �
 
       hash-here : g ≡ hash σ (partAt σ ws i)
       hash-here =
-          (rw (d, b) at q) ∙ hash-parts (getD ws i 0) argumentCount (i + 1) 0 (inner-stand σ ws i h c) m ∙ sym hash-inner
+          (rw (d, b) at q) ∙ hash-parts (getD ws i 0) argumentCount (i + 1) 0 (inner-stand σ ws i h c) m ∙ sym
+          hash-inner
 
       keyed-here : (v : ℕ) → length ws ≤ length keys → v ≡ 16777216 * g + 256 * getD ws i 0 + (e - i) →
           KeyedFrom σ ws (set keys i v) i

@@ -16,7 +16,8 @@ use Rattle.terms.specs.Term.{Term, size}
 use Rattle.terms.proofs.TermLaws.{size-pos}
 use Rattle.equivalence.specs.Parts.{partAt, partsAt, elementsAt, IsNode, Stand, Stands, Complete}
 use Rattle.equivalence.specs.Keys.{rootWord, hash, keyOf, KeyedFrom, Prepared, sizeIn}
-use Rattle.equivalence.proofs.PartLaws.{total, complete-drop, next-parts, next-stand, variable, symbol, stand-one}
+use Rattle.equivalence.proofs.PartLaws.{total, complete-drop, next-parts, next-stand, variable, symbol}
+use Rattle.equivalence.proofs.PartLaws.{stand-one}
 use Rattle.equivalence.proofs.PartLaws.{inner-stand, own-stand, own-elements, other-elements, stands, size-fits}
 
 pub total-take : (n : ℕ) (l : List Term) → total (take n l) ≤ total l
@@ -69,7 +70,8 @@ module _ (σ : Signature) (ws : List ℕ) (c : Complete σ ws) (k : ℕ) (h : k 
 
   pub part-root : rootWord (partAt σ ws k) ≡ getD ws k 0
   part-root =
-      byOrder (getD ws k 0) 256 (λ v. ap rootWord (symbol σ ws k h v)) λ v. ap rootWord (variable σ ws k h v) ∙ omega arith
+      byOrder (getD ws k 0) 256 (λ v. ap rootWord (symbol σ ws k h v)) λ v. ap rootWord (variable σ ws k h v) ∙ omega
+      arith
 
   pub node-range : length (σ .symbols) ≤ 256 → getD ws k 0 < 272
   node-range few = let d = rw (drop-cons ws k 0 h) at (complete-drop σ ws k c) in go few (d .0)
@@ -96,5 +98,6 @@ module _ {σ : Signature} {ws keys : List ℕ} (P : Prepared σ ws keys) where
     pub step-next : {w : ℕ} → w ≡ sizeIn keys i → Stands σ ws (i + w) (n - 1)
     step-next {w} e = stands-next σ ws i (P .complete) n w p s (e ∙ prepared-size i (omega arith))
 
-    pub step-own : (f : ℕ) {a : ℕ} → getD ws i 0 ≡ f → f < 256 → a ≡ symbolOf σ f .arity → Stands σ ws (i + 1) (a + (n - 1))
+    pub step-own : (f : ℕ) {a : ℕ} → getD ws i 0 ≡ f → f < 256 → a ≡ symbolOf σ f .arity → Stands σ ws (i + 1)
+        (a + (n - 1))
     step-own f {a} e v g = stands-own σ ws i (P .complete) f n a p s e v g

@@ -75,4 +75,5 @@ offsetAfter keys i (suc n) = offsetAfter keys (i + sizeIn keys i) n
 module _ (ac : Bool) (f : ℕ) (ws keys : List ℕ) where
   abbrev pub hashAfter : ℕ → ℕ → ℕ → ℕ
   hashAfter before i zero = before
-  hashAfter before i (suc n) = hashAfter (added ac f before (getD ws i 0) (getD keys i 0 / 16777216)) (i + sizeIn keys i) n
+  hashAfter before i (suc n) = hashAfter (added ac f before (getD ws i 0) (getD keys i 0 / 16777216))
+      (i + sizeIn keys i) n

@@ -37,10 +37,12 @@ module _ (table : List ℕ) where
 
   abbrev pub rowsAlike : List ℕ → ℕ → List ℕ → ℕ → ℕ → Bool
   rowsAlike s i t j n =
-      rowEqual (isEquivalent (signatureOf table)) (partsAt (signatureOf table) s i n) (partsAt (signatureOf table) t j n)
+      rowEqual (isEquivalent (signatureOf table)) (partsAt (signatureOf table) s i n)
+      (partsAt (signatureOf table) t j n)
 
   abbrev pub elementsAlike : ℕ → List ℕ → ℕ → ℕ → List Term → Bool
-  elementsAlike f s i n ts = multisetEqual (isEquivalent (signatureOf table)) (elementsAt (signatureOf table) f s i n) ts
+  elementsAlike f s i n ts = multisetEqual (isEquivalent (signatureOf table)) (elementsAt (signatureOf table) f s i n)
+      ts
 
   -- The terms at the first m of offsets.
   abbrev pub termsAt : List ℕ → List ℕ → ℕ → List Term

@@ -22,6 +22,7 @@ use Rattle.format.specs.Files.{readBytes}
 use Rattle.format.specs.Errors.{marksTooShort}
 use Rattle.format.specs.Replies.{Reply, Written, _>>_, demand, outcome}
 use Rattle.format.specs.Replies.Reply.{accepted, refused}
+use Rattle.marking.proofs.RuleLaws.{length-choose}
 use Rattle.marking.specs.Marking.{marksOf, isDecreasing, decreasingCount, Summary, summaryOf, marked}
 
 -- ---- lists
@@ -38,17 +39,12 @@ getD-member (x ∷ l) a zero h = List·Memᴰ·head refl
 getD-member (x ∷ l) a (suc i) h = List·Memᴰ·tail (getD-member l a i (omega arith))
 
 module _ {A : Type 0} (p : A → Bool) where
-  length-choose : (l : List A) → length (choose p l) ≤ length l
-  length-choose [] = omega arith
-  length-choose (a ∷ l) =
-      byTest (p a) (λ e. rw e (omega (arith, length-choose l))) λ e. rw e (omega (arith, length-choose l))
-
   -- Where as many are chosen as there are, each is chosen.
   all-chosen : (l : List A) → length (choose p l) ≡ length l → (a : A) → List·Memᴰ a l → p a ≡ true
   all-chosen (b ∷ l) h a m =
       byTest (p b)
       (λ e. ⊎-elim (λ q. rw q e) (λ k. all-chosen l (omega (arith, rw e at h)) a k) (List·Memᴰ·cases-cons m))
-      λ e. absurd (omega (arith, length-choose l, rw e at h))
+      λ e. absurd (omega (arith, length-choose p l, rw e at h))
   all-chosen [] h a m = absurd (List·Memᴰ·not-nil m)
 
 -- ---- marking

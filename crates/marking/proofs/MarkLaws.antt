@@ -66,5 +66,12 @@ module _ (bytes marks : List ℕ) where
     mark-written rules decreasing score out k h d q w =
         let n : length (marksOf (systemOf file)) ≡ length (file .rules) =
         length-map (systemOf file .rules) _ ∙ length-map (file .rules) _ in
-        let fits = le-leb (length (file .rules)) (length marks) (omega arith) in
-        (rw (e, fits, q, k, n, ← d), w ∙ rw (e, fits, sets-eq (marksOf (systemOf file)) marks 0 (omega arith), zero-add))
+        let fits = le-leb (length (file .rules)) (length marks) (omega arith) in (
+          rw (e, fits, q, k, n, ← d),
+          w ∙ rw (
+            e,
+            fits,
+            sets-eq (marksOf (systemOf file)) marks 0 (omega arith),
+            zero-add,
+          ),
+        )

@@ -53,7 +53,8 @@ module _ (source : Source) (σ : Signature) where
       (done : List Sides) × After source σ rules last count i at done × (length done ≡ i)
       × (decreasing ≡ decreasingCount (sidesMarks σ done)) × Put out₀ end₀ (sidesLines σ 0 done) end out
 
-  pub written-none : (count start : ℕ) (out₀ : List ℕ) (end₀ : ℕ) → WrittenSoFar count start out₀ end₀ 0 start 0 end₀ out₀
+  pub written-none : (count start : ℕ) (out₀ : List ℕ) (end₀ : ℕ) → WrittenSoFar count start out₀ end₀ 0 start 0 end₀
+      out₀
   written-none count start out₀ end₀ rules last e =
       ([], after-none source σ rules last count start e, refl, refl, (sym (add-zero end₀), refl))
 
@@ -65,7 +66,8 @@ module _ (source : Source) (σ : Signature) where
       (after : ℕ) (out' : List ℕ) →
       Put out end (line (decimal i ∷ decimal m ∷ signedDecimal (subℕ left right) ∷ [])) after out' →
       WrittenSoFar count start out₀ end₀ (i + 1) next (decreasing + n) after out'
-  written-more count start out₀ end₀ i at decreasing end out so h m left right next n step one after out' p rules last e =
+  written-more count start out₀ end₀ i at decreasing end out so h m left right next n step one after out' p rules last e
+      =
       let (done, a, l, d, w) = so rules last e in
       let (r, stop, f, b) = after-more source σ rules last count i at done a h in
       let (x, y, z, v) = step r stop f in
@@ -75,7 +77,8 @@ module _ (source : Source) (σ : Signature) where
         rw v b,
         c,
         q,
-        rw (lines-snoc 0 done r, k, ← x, ← y, ← z) (put-append out₀ end₀ (sidesLines σ 0 done) _ end out after out' w p),
+        rw (lines-snoc 0 done r, k, ← x, ← y, ← z)
+            (put-append out₀ end₀ (sidesLines σ 0 done) _ end out after out' w p),
       )
 
   pub written-all : (count start : ℕ) (out₀ : List ℕ) (end₀ i at decreasing end : ℕ) (out : List ℕ) →
@@ -89,12 +92,14 @@ module _ (source : Source) (σ : Signature) where
 
 -- ---- the last two lines
 
-pub put-verdict : (l : List ℕ) (at rules decreasing score next : ℕ) (mid : List ℕ) (r : ℕ) (out : List ℕ) (word : String) →
+pub put-verdict : (l : List ℕ) (at rules decreasing score next : ℕ) (mid : List ℕ) (r : ℕ) (out : List ℕ)
+    (word : String) →
     score ≡ scoreOf decreasing rules → cond (eqb decreasing rules) "accepted" "returned" ≡ word →
     Put l at (line (ascii "score" ∷ decimal score ∷ [])) next mid → Put mid next (line (ascii word ∷ [])) r out →
     Put l at (summaryLines (record { rules = rules; decreasing = decreasing; score = scoreOf decreasing rules })) r out
 put-verdict l at rules decreasing score next mid r out word e w p q =
-    rw (← e, w) (put-append l at (line (ascii "score" ∷ decimal score ∷ [])) (line (ascii word ∷ [])) next mid r out p q)
+    rw (← e, w) (put-append l at (line (ascii "score" ∷ decimal score ∷ [])) (line (ascii word ∷ [])) next mid r out p
+    q)
 
 -- ---- the whole text
 
@@ -118,7 +123,8 @@ module _ (bytes : List ℕ) where
         rules ≡ length (file .rules) → decreasing ≡ decreasingCount (sidesMarks (file .signature) (file .rules)) →
         Put l 0 (line (ascii "rules" ∷ decimal rules ∷ [])) start l₁ →
         Put l₁ start (sidesLines (file .signature) 0 (file .rules)) stop l₂ →
-        Put l₂ stop (summaryLines (record { rules = rules; decreasing = decreasing; score = scoreOf decreasing rules })) r out →
+        Put l₂ stop (summaryLines (record { rules = rules; decreasing = decreasing; score = scoreOf decreasing rules }))
+        r out →
         r ≤ length l → take r out ≡ report bytes
     unfolding report
     report-marks rules decreasing start l l₁ stop l₂ r out n d p q v h =

@@ -1,7 +1,7 @@
 -- Rules read one after another, and their marks.
 --     After                                     what is read after some rules: after-none, after-more, after-all
 --     Marked, marked-none, marked-more, marked-all     what a loop over the rules has counted and stored
---     decreasing-one, decreasing-append         how many marks are those of the order
+--     decreasing-one, decreasing-append, length-choose     how many marks are those of the order
 use mathlib.Core.List.{List, [], _∷_, _++_, map, append-assoc, append-nil}
 use mathlib.Core.Path.{_≡_, refl, sym, ap, _∙_}
 use mathlib.Core.Bool.{Bool, true, false, cond, false≢true}
@@ -14,6 +14,7 @@ use lib.Dec.{leb}
 use borrow.Author.Tests.{le-leb, lt-leb}
 use Rattle.multisets.specs.Multiset.{choose}
 use Rattle.multisets.proofs.MultisetMaps.{choose-append}
+use Rattle.multisets.proofs.Relations.{byTest}
 use Rattle.terms.specs.Signature.{Signature}
 use Rattle.terms.specs.Words.{termOf}
 use Rattle.terms.specs.Order.{mark}
@@ -93,8 +94,14 @@ decreasing-above m h k = rw (le-leb 1 m h, lt-leb m 6 k)
 pub decreasing-within : (m : ℕ) → 1 ≤ m → m ≤ 6 → decreasingCount (m ∷ []) ≡ 1
 decreasing-within m h k = rw (le-leb 1 m h, le-leb m 6 k)
 
+pub length-choose : {A : Type 0} (p : A → Bool) (l : List A) → length (choose p l) ≤ length l
+length-choose p [] = omega arith
+length-choose p (a ∷ l) =
+    byTest (p a) (λ e. rw e (omega (arith, length-choose p l))) λ e. rw e (omega (arith, length-choose p l))
+
 pub decreasing-append : (l m : List ℕ) → decreasingCount (l ++ m) ≡ decreasingCount l + decreasingCount m
-decreasing-append l m = ap length (choose-append isDecreasing l m) ∙ length-append (choose isDecreasing l) (choose isDecreasing m)
+decreasing-append l m = ap length (choose-append isDecreasing l m) ∙ length-append (choose isDecreasing l)
+    (choose isDecreasing m)
 
 -- ---- what a loop over the rules has counted and stored
 

@@ -79,7 +79,8 @@ module _ (table : List ℕ) where
     pub above-at : (k : ℕ) → k < n → greaterAt table s (getD ps k 0) t q ≡ true → someAbove s ps n t q ≡ true
     above-at k h f =
         let e = length-take-le n ps (omega (arith, P .room, P .few)) in
-        some-at (λ a. isGreater σ a (partAt σ t q)) (partAt σ s) (take n ps) k (omega arith) (rw (getD-take n ps k 0 h) f)
+        some-at (λ a. isGreater σ a (partAt σ t q)) (partAt σ s) (take n ps) k (omega arith)
+        (rw (getD-take n ps k 0 h) f)
 
   module _ (s ps : List ℕ) (n : ℕ) {t qs : List ℕ} {m : ℕ} (Q : Offsets σ t qs m (termsAt table t qs m)) where
     abbrev test : Term → Bool
@@ -90,7 +91,8 @@ module _ (table : List ℕ) where
     unfolding covered
     covered-all h =
         let e = length-take-le m qs (omega (arith, Q .room, Q .few)) in
-        sym (every-all test (partAt σ t) (take m qs) λ k l. let z : k < m = omega arith in rw (getD-take m qs k 0 z) (h k z))
+        sym (every-all test (partAt σ t) (take m qs) λ k l. let z : k < m = omega arith in rw (getD-take m qs k 0 z)
+        (h k z))
 
     pub covered-not : (k : ℕ) → k < m → someAbove s ps n t (getD qs k 0) ≡ false →
         false ≡ covered table (termsAt table s ps n) (termsAt table t qs m)

@@ -17,7 +17,8 @@ use Rattle.terms.specs.Signature.{Signature, symbolOf, AcBinary}
 use Rattle.terms.specs.Term.{Term, Terms, row, weight, occurrences, isVar, variableCount, flattenings, WellFormed}
 use Rattle.terms.specs.Term.Term.{var, app}
 use Rattle.terms.specs.Equivalence.{Equivalent, isEquivalent}
-use Rattle.terms.specs.Order.{noneOftener, variables, rootAbove, rootBelow, highPart, lowPart, joinedHigh, flattenedMark}
+use Rattle.terms.specs.Order.{noneOftener, variables, rootAbove, rootBelow, highPart, lowPart, joinedHigh}
+use Rattle.terms.specs.Order.{flattenedMark}
 use Rattle.terms.specs.Order.{rootMark, decreasingMark, isGreater, mark}
 use Rattle.terms.proofs.EquivalenceLaws.{isEquivalent-equivalence, symbol-of-isEquivalent, arguments-of-isEquivalent}
 use Rattle.terms.proofs.EquivalenceMeasures.{root-resp-equivalent, measure-resp-equivalent}
@@ -93,7 +94,12 @@ module _ (σ : Signature) where
   root-level greater (app f ss) (var y) e = refl
   root-level greater (app f ss) (app g ts) e =
       let a = arguments-of-isEquivalent σ f g ss ts e in
-      rw (← symbol-of-isEquivalent σ f g ss ts e, le-ltb (symbolOf σ f .precedence) (symbolOf σ f .precedence) (omega arith), eqb-self f)
+      rw (
+        ← symbol-of-isEquivalent σ f g ss ts e,
+        le-ltb (symbolOf σ f .precedence) (symbolOf σ f .precedence)
+            (omega arith),
+        eqb-self f,
+      )
       (byTest (symbolOf σ f .ac)
       (λ c. rw (c, flattened-level greater f (flattenings f ss) (flattenings f ts) (rw c at a)))
       λ c. rw (c, rows-level like greater (row ss) (row ts) (rw c at a)))

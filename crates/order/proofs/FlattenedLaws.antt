@@ -120,7 +120,8 @@ module _ {σ : Signature} {f : ℕ} {ws : List ℕ} {ts : List Term} {above belo
   pub parted-few : a + v ≤ length ts
   parted-few = omega (arith, offsets-length (B .high), offsets-length (B .vars), above-variables σ f ts)
 
-module _ (table : List ℕ) {f : ℕ} {s t : List ℕ} {ss ts : List Term} {sh sl sv th tl tv : List ℕ} {a b v m a' b' v' m' : ℕ}
+module _ (table : List ℕ) {f : ℕ} {s t : List ℕ} {ss ts : List Term} {sh sl sv th tl tv : List ℕ}
+    {a b v m a' b' v' m' : ℕ}
     (A : Parted (signatureOf table) f s ss sh sl sv a b v m)
     (B : Parted (signatureOf table) f t ts th tl tv a' b' v' m') where
   -- The high part of the right with the variables that the left does not cancel.
@@ -130,8 +131,10 @@ module _ (table : List ℕ) {f : ℕ} {s t : List ℕ} {ss ts : List Term} {sh s
   joined-offsets h = rw (A .vars .there, B .vars .there, B .high .there) at h
 
   module _ {out : List ℕ} {r : ℕ}
-      (J : Offsets (signatureOf table) t out r (joinedHigh (signatureOf table) (isEquivalent (signatureOf table)) f ss ts)) where
-    pub high-of : {c : ℕ} → c ≡ verdict table (termsAt table s sh a) (termsAt table t out r) → c ≡ highVerdict table f ss ts
+      (J : Offsets (signatureOf table) t out r (joinedHigh (signatureOf table) (isEquivalent (signatureOf table)) f ss
+      ts)) where
+    pub high-of : {c : ℕ} → c ≡ verdict table (termsAt table s sh a) (termsAt table t out r) → c ≡ highVerdict table f
+        ss ts
     high-of h = h ∙ ap₂ (verdict table) (A .high .there) (J .there)
 
     pub high-nodes : sum size (termsAt table s sh a) + sum size (termsAt table t out r) ≤ sum size ss + sum size ts

@@ -22,4 +22,5 @@ module _ (x y : ℕ) (h : x < 9223372036854775808) (k : y < 9223372036854775808)
 
   pub difference-fits : SFits w64 (subℕ x y)
   difference-fits =
-      byOrder x y (λ l. rw (lt-ltb x y l) (record { sfits = omega arith })) λ l. rw (le-ltb x y l) (record { sfits = omega arith })
+      byOrder x y (λ l. rw (lt-ltb x y l) (record { sfits = omega arith })) λ l. rw (le-ltb x y l)
+      (record { sfits = omega arith })

@@ -60,7 +60,19 @@ module _ (σ : Signature) (s t : Term) where
 
       pub whole-ten : m ≤ 0 → false ≡ isEquivalent σ s t → 10 ≡ mark σ s t
       whole-ten k a =
-          rw (whole, ← e, ← p, ← q, ← h, le-ltb y x (omega arith), eq-eqb y x (sym l), le-ltb 0 m k, le-ltb x y (omega arith), ← a)
+          rw (
+            whole,
+            ← e,
+            ← p,
+            ← q,
+            ← h,
+            le-ltb y x (omega arith),
+            eq-eqb y x (sym l),
+            le-ltb 0 m k,
+            le-ltb x y
+                (omega arith),
+            ← a,
+          )
 
 -- ---- the relation
 
@@ -71,7 +83,8 @@ module _ (σ : Signature) (like greater : Term → Term → Bool) where
       byTest (highGreater σ like greater f ss ts) (λ e. rw e (omega arith))
       λ e. byTest (highEqual σ like f ss ts)
       (λ d. byTest (ltb (length ts) (length ss)) (λ h. rw (e, d, h) (omega arith))
-      λ h. byTest (eqb (length ts) (length ss) && lowGreater σ like greater f ss ts) (λ k. rw (e, d, h, k) (omega arith))
+      λ h. byTest (eqb (length ts) (length ss) && lowGreater σ like greater f ss ts)
+      (λ k. rw (e, d, h, k) (omega arith))
       λ k. rw (e, d, h, k) (omega arith))
       λ d. rw (e, d) (omega arith)
 

@@ -105,7 +105,8 @@ above-variables σ f ts =
     )
 
 module _ (σ : Signature) (f : ℕ) (xs ys : List Term) where
-  high-apart : (w : Term → ℕ) → sum w (highPart σ f ys) + sum w (cancel (isEquivalent σ) (variables xs) (variables ys) .right) ≤ sum w ys
+  high-apart : (w : Term → ℕ) → sum w (highPart σ f ys) + sum w
+      (cancel (isEquivalent σ) (variables xs) (variables ys) .right) ≤ sum w ys
   high-apart w =
       omega (
         arith,
@@ -114,7 +115,12 @@ module _ (σ : Signature) (f : ℕ) (xs ys : List Term) where
       )
 
   pub joined-sum : sum size (joinedHigh σ (isEquivalent σ) f xs ys) ≤ sum size ys
-  joined-sum = omega (arith, high-apart size, sum-append size (highPart σ f ys) (cancel (isEquivalent σ) (variables xs) (variables ys) .right))
+  joined-sum = omega (
+    arith,
+    high-apart size,
+    sum-append size (highPart σ f ys)
+        (cancel (isEquivalent σ) (variables xs) (variables ys) .right),
+  )
 
 module _ (σ : Signature) (f : ℕ) (ws : List ℕ) (i n : ℕ) where
   pub elements-sum : sum size (elementsAt σ f ws i n) ≤ total (partsAt σ ws i n)
@@ -140,7 +146,8 @@ module _ {σ : Signature} {ws keys : List ℕ} (P : Prepared σ ws keys) where
   inner-stands i n h e = stands-inner σ ws i (P .complete) (getD ws i 0) n h refl e
 
   module _ {i n w : ℕ} (s : Stands σ ws i n) (p : 0 < n) (e : w ≡ sizeIn keys i) where
-    pub next-total : (total (partsAt σ ws i n) ≡ size (partAt σ ws i) + total (partsAt σ ws (i + w) (n - 1))) × (w ≡ size (partAt σ ws i))
+    pub next-total : (total (partsAt σ ws i n) ≡ size (partAt σ ws i) + total (partsAt σ ws (i + w) (n - 1))) ×
+        (w ≡ size (partAt σ ws i))
     next-total =
         let d : w ≡ size (partAt σ ws i) = e ∙ prepared-size P i (omega arith) in
         (rw d (ap total (row-next σ ws i (P .complete) n p s)), d)

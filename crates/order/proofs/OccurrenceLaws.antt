@@ -27,7 +27,11 @@ use Rattle.order.specs.Sums.{digit, digitsWithin, termSum}
 pub within-zero : (n a b : ℕ) → b ≡ 0 → digitsWithin n a b ≡ true
 unfolding digitsWithin
 within-zero zero a b e = refl
-within-zero (suc n) a b e = rw (le-leb (b % 256) (a % 256) (omega arith), within-zero n (a / 256) (b / 256) (omega arith))
+within-zero (suc n) a b e = rw (
+  le-leb (b % 256) (a % 256) (omega arith),
+  within-zero n (a / 256) (b / 256)
+      (omega arith),
+)
 
 pub within-none : (n a b : ℕ) → n ≡ 0 → digitsWithin n a b ≡ true
 unfolding digitsWithin
@@ -38,7 +42,8 @@ unfolding digitsWithin
 within-not zero a b p h = absurd (omega arith)
 within-not (suc n) a b p h = rw (lt-leb (b % 256) (a % 256) h)
 
-pub within-more : (n a b : ℕ) → 0 < n → b % 256 ≤ a % 256 → digitsWithin (n - 1) (a / 256) (b / 256) ≡ digitsWithin n a b
+pub within-more : (n a b : ℕ) → 0 < n → b % 256 ≤ a % 256 → digitsWithin (n - 1) (a / 256) (b / 256) ≡ digitsWithin n a
+    b
 unfolding digitsWithin
 within-more zero a b p h = absurd (omega arith)
 within-more (suc n) a b p h = let d : suc n - 1 ≡ n = omega arith in rw (d, le-leb (b % 256) (a % 256) h)
@@ -84,7 +89,8 @@ module _ (s t : Term) (p : size s < 256) (q : size t < 256) where
   within-all zero k h = refl
   within-all (suc n) k h =
       let (a, b, c, d) = step k n in
-      rw (a, b, c, d, le-leb _ _ (h k (omega arith) (omega arith))) (within-all n (suc k) λ x l m. h x (omega arith) (omega arith))
+      rw (a, b, c, d, le-leb _ _ (h k (omega arith) (omega arith)))
+      (within-all n (suc k) λ x l m. h x (omega arith) (omega arith))
 
   within-each : (n k : ℕ) → digitsWithin n (packed k n s) (packed k n t) ≡ true → (x : ℕ) → k ≤ x → x < k + n →
       occurrences x t ≤ occurrences x s
@@ -107,7 +113,8 @@ module _ (s t : Term) (p : size s < 256) (q : size t < 256) where
       false ≡ noneOftener variableCount s t
   oftener-of k h e =
       byTest (noneOftener variableCount s t)
-      (λ d. absurd (false≢true (sym e ∙ within-all 8 k λ x l m. noneOftener-facts variableCount s t .0 d x (omega arith))))
+      (λ d. absurd (false≢true (sym e ∙ within-all 8 k λ x l m. noneOftener-facts variableCount s t .0 d x
+      (omega arith))))
       λ d. sym d
 
   pub oftener-low : digitsWithin 8 (packed 0 8 s) (packed 0 8 t) ≡ false → false ≡ noneOftener variableCount s t
@@ -118,7 +125,8 @@ module _ (s t : Term) (p : size s < 256) (q : size t < 256) where
 
 -- ---- by the sums at two offsets
 
-module _ (table : List ℕ) {s sk t tk : List ℕ} (P : Prepared (signatureOf table) s sk) (Q : Prepared (signatureOf table) t tk)
+module _ (table : List ℕ) {s sk t tk : List ℕ} (P : Prepared (signatureOf table) s sk)
+    (Q : Prepared (signatureOf table) t tk)
     (i j : ℕ) (h : i < length s) (k : j < length t) where
   abbrev σ : Signature
   σ = signatureOf table

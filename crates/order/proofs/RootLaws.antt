@@ -41,9 +41,11 @@ module _ {table s sk t tk : List ℕ} (S : Sides table s sk t tk) {i j n : ℕ} 
   unfolding rowGreater
   lex-step p =
       let σ = signatureOf table in
-      ap₂ (rowGreater (isEquivalent σ) (isGreater σ)) (row-next σ s i (S .left .complete) n p a) (row-next σ t j (S .right .complete) n p b)
+      ap₂ (rowGreater (isEquivalent σ) (isGreater σ)) (row-next σ s i (S .left .complete) n p a)
+      (row-next σ t j (S .right .complete) n p b)
 
-  pub lex-here : {r : Bool} → 0 < n → false ≡ alikeAt table s i t j → r ≡ greaterAt table s i t j → r ≡ rowsGreater table s i t j n
+  pub lex-here : {r : Bool} → 0 < n → false ≡ alikeAt table s i t j → r ≡ greaterAt table s i t j → r ≡ rowsGreater
+      table s i t j n
   lex-here p e h = h ∙ rw (lex-step p, ← e)
 
   pub lex-more : {w v : ℕ} {r : Bool} → 0 < n → true ≡ alikeAt table s i t j → w ≡ sizeIn sk i → v ≡ sizeIn tk j →
@@ -81,7 +83,8 @@ module _ (table s : List ℕ) (i : ℕ) (t : List ℕ) (j : ℕ) (h : i < length
       unfolding rootMark
       both-symbols = ap₂ (rootMark σ (isEquivalent σ) (isGreater σ)) (symbol σ s i h v) (symbol σ t j k u)
 
-      pub root-above : symbolOf σ (getD t j 0) .precedence < symbolOf σ (getD s i 0) .precedence → 2 ≡ rootAt table s i t j
+      pub root-above : symbolOf σ (getD t j 0) .precedence < symbolOf σ (getD s i 0) .precedence → 2 ≡ rootAt table s i
+          t j
       unfolding rootMark
       root-above l = rw (both-symbols, lt-ltb _ _ l)
 
@@ -99,12 +102,30 @@ module _ (table s : List ℕ) (i : ℕ) (t : List ℕ) (j : ℕ) (h : i < length
           pub root-row : symbolOf σ (getD s i 0) .ac ≡ false → true ≡ rowsGreater table s (i + 1) t (j + 1) n →
               3 ≡ rootAt table s i t j
           unfolding rootMark
-          root-row c q = let z = rw d at q in rw (both-symbols, le-ltb _ _ l, ← e, eqb-self (getD s i 0), c, row-arguments, row-arguments, ← z)
+          root-row c q = let z = rw d at q in rw (
+            both-symbols,
+            le-ltb _ _ l,
+            ← e,
+            eqb-self (getD s i 0),
+            c,
+            row-arguments,
+            row-arguments,
+            ← z,
+          )
 
           pub root-none : symbolOf σ (getD s i 0) .ac ≡ false → false ≡ rowsGreater table s (i + 1) t (j + 1) n →
               0 ≡ rootAt table s i t j
           unfolding rootMark
-          root-none c q = let z = rw d at q in rw (both-symbols, le-ltb _ _ l, ← e, eqb-self (getD s i 0), c, row-arguments, row-arguments, ← z)
+          root-none c q = let z = rw d at q in rw (
+            both-symbols,
+            le-ltb _ _ l,
+            ← e,
+            eqb-self (getD s i 0),
+            c,
+            row-arguments,
+            row-arguments,
+            ← z,
+          )
 
 -- ---- the mark
 
@@ -112,7 +133,8 @@ abbrev byFew : Bool → ℕ → ℕ → ℕ → ℕ
 byFew few x y m = cond few (cond (ltb y x) 1 (cond (eqb y x) m 0)) 0
 
 module _ (table s : List ℕ) (i : ℕ) (t : List ℕ) (j : ℕ) where
-  mark-step : markAt table s i t j ≡ byFew (noneOftenerAt table s i t j) (weightAt table s i) (weightAt table t j) (rootAt table s i t j)
+  mark-step : markAt table s i t j ≡ byFew (noneOftenerAt table s i t j) (weightAt table s i) (weightAt table t j)
+      (rootAt table s i t j)
   unfolding decreasingMark
   mark-step = refl
 
@@ -125,9 +147,10 @@ module _ (table s : List ℕ) (i : ℕ) (t : List ℕ) (j : ℕ) where
       byTest (noneOftenerAt table s i t j)
       (λ f. rw (mark-step, f, ← d, ← e, le-ltb y x (omega arith), ne-eqb y x z)) λ f. rw (mark-step, f)
 
-  module _ (f : true ≡ noneOftenerAt table s i t j) {x y : ℕ} (d : x ≡ weightAt table s i) (e : y ≡ weightAt table t j) where
-    pub mark-heavier : y < x → 1 ≡ markAt table s i t j
-    mark-heavier l = rw (mark-step, ← f, ← d, ← e, lt-ltb y x l)
+  module _ (f : true ≡ noneOftenerAt table s i t j) {x y : ℕ} (d : x ≡ weightAt table s i) (e : y ≡ weightAt table t j)
+    where
+      pub mark-heavier : y < x → 1 ≡ markAt table s i t j
+      mark-heavier l = rw (mark-step, ← f, ← d, ← e, lt-ltb y x l)
 
-    pub mark-root : {r : ℕ} → x ≡ y → r ≡ rootAt table s i t j → r ≡ markAt table s i t j
-    mark-root q h = h ∙ rw (mark-step, ← f, ← d, ← e, le-ltb y x (omega arith), eq-eqb y x (sym q))
+      pub mark-root : {r : ℕ} → x ≡ y → r ≡ rootAt table s i t j → r ≡ markAt table s i t j
+      mark-root q h = h ∙ rw (mark-step, ← f, ← d, ← e, le-ltb y x (omega arith), eq-eqb y x (sym q))

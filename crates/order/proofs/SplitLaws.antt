@@ -64,7 +64,8 @@ module _ (table t offsets : List ℕ) (k : ℕ) (r : length offsets ≡ 64) (l :
   module _ (q : Term → Bool) (out : List ℕ) (a : ℕ)
       (O : Offsets (signatureOf table) t out a (choose q (termsAt table t offsets k))) where
     chosen : q here ≡ true → getD offsets k 0 < length t → a ≤ k →
-        Offsets (signatureOf table) t (set out a (getD offsets k 0)) (a + 1) (choose q (termsAt table t offsets (k + 1)))
+        Offsets (signatureOf table) t (set out a (getD offsets k 0)) (a + 1)
+        (choose q (termsAt table t offsets (k + 1)))
     chosen e h s =
         rw (terms-more, choose-last, e)
         (offset-added (signatureOf table) t out a (getD offsets k 0) _ O h (omega arith))
@@ -119,7 +120,8 @@ module _ {table : List ℕ} {f : ℕ} {t offsets above below vars : List ℕ} {k
           belows = omega (arith, S .belows);
           variables = omega (arith, S .variables);
           parted = record {
-            high = chosen table t offsets k (P .room) few (rootAbove σ f) above a (D .high) (rw d (lt-ltb rank ownRank u))
+            high = chosen table t offsets k (P .room) few (rootAbove σ f) above a (D .high)
+                (rw d (lt-ltb rank ownRank u))
                 (P .inside k l) (S .aboves);
             low = passed table t offsets k (P .room) few (rootBelow σ f) below b (D .low)
                 (rw d (le-ltb ownRank rank (omega arith)));
@@ -157,8 +159,10 @@ module _ {table : List ℕ} {f : ℕ} {t offsets above below vars : List ℕ} {k
           belows = omega (arith, S .belows);
           variables = omega (arith, S .variables);
           parted = record {
-            high = passed table t offsets k (P .room) few (rootAbove σ f) above a (D .high) (rw d (le-ltb rank ownRank w));
-            low = passed table t offsets k (P .room) few (rootBelow σ f) below b (D .low) (rw d (le-ltb ownRank rank u));
+            high = passed table t offsets k (P .room) few (rootAbove σ f) above a (D .high)
+                (rw d (le-ltb rank ownRank w));
+            low = passed table t offsets k (P .room) few (rootBelow σ f) below b (D .low)
+                (rw d (le-ltb ownRank rank u));
             vars = passed table t offsets k (P .room) few isVar vars v (D .vars) (rw d);
             whole = whole-more;
           };
@@ -168,7 +172,8 @@ module _ {table : List ℕ} {f : ℕ} {t offsets above below vars : List ℕ} {k
 
 module _ (table t ps₀ qs : List ℕ) (k : ℕ) where
   abbrev pub Joined : List ℕ → ℕ → Type 0
-  Joined ps x = (l : List Term) → Offsets (signatureOf table) t ps₀ k l → Offsets (signatureOf table) t ps (k + x) (l ++ termsAt table t qs x)
+  Joined ps x = (l : List Term) → Offsets (signatureOf table) t ps₀ k l → Offsets (signatureOf table) t ps (k + x)
+      (l ++ termsAt table t qs x)
 
   pub joined-none : Joined ps₀ 0
   joined-none l h = rw (add-zero, append-nil) h

@@ -29,7 +29,8 @@ pub sum-more : (σ : Signature) (kind : ℕ) (ws : List ℕ) (i sum v : ℕ) →
     sum + v ≡ wordSum σ kind (drop (i - 1) ws)
 sum-more σ kind ws i sum v p h e d =
     let f : i - 1 + 1 ≡ i = omega arith in
-    let n : wordSum σ kind (drop (i - 1) ws) ≡ nodeSum σ kind (getD ws (i - 1) 0) + wordSum σ kind (drop (i - 1 + 1) ws) =
+    let n : wordSum σ kind (drop (i - 1) ws) ≡ nodeSum σ kind (getD ws (i - 1) 0) + wordSum σ kind (drop (i - 1 + 1) ws)
+    =
     rw (drop-cons ws (i - 1) 0 (omega arith), add-one) in
     omega (arith, rw f at n)
 

@@ -39,7 +39,8 @@ module _ (σ : Signature) (few : length (σ .symbols) ≤ 256) (v w : ℕ → �
     nodes-words (var x) f =
         let e : firstVariable + x - firstVariable ≡ x = omega arith in
         rw (le-ltb (firstVariable + x) firstVariable (omega arith), e) (omega arith)
-    nodes-words (app f ts) h = rw (lt-ltb f firstVariable (omega (arith, h .0))) (omega (arith, nodes-wordsOf ts (h .2)))
+    nodes-words (app f ts) h = rw (lt-ltb f firstVariable (omega (arith, h .0)))
+        (omega (arith, nodes-wordsOf ts (h .2)))
 
     nodes-wordsOf : (ts : Terms) → WellFormeds σ ts → nodes v w (wordsOf ts) ≡ measures v w ts
     nodes-wordsOf nil h = refl
@@ -51,10 +52,12 @@ pub whole-sum : (σ : Signature) → length (σ .symbols) ≤ 256 → (kind : �
 whole-sum σ few kind ws (t, h, e) =
     rw (e, termOf-words σ few t h) (nodes-words σ few (atVariable σ kind) (atSymbol σ kind) t h)
 
-pub whole-formed : (σ : Signature) → length (σ .symbols) ≤ 256 → (ws : List ℕ) → IsTerm σ ws → WellFormed σ (termOf σ ws)
+pub whole-formed : (σ : Signature) → length (σ .symbols) ≤ 256 → (ws : List ℕ) → IsTerm σ ws → WellFormed σ
+    (termOf σ ws)
 whole-formed σ few ws (t, h, e) = rw (e, termOf-words σ few t h) h
 
-pub whole-small : (σ : Signature) → length (σ .symbols) ≤ 256 → (ws : List ℕ) → IsTerm σ ws → size (termOf σ ws) ≡ length ws
+pub whole-small : (σ : Signature) → length (σ .symbols) ≤ 256 → (ws : List ℕ) → IsTerm σ ws → size (termOf σ ws) ≡
+    length ws
 whole-small σ few ws (t, h, e) = rw (e, termOf-words σ few t h) (sym (length-words t))
 
 -- ---- two terms
@@ -138,5 +141,6 @@ level-weights L =
 -- The margin by totals.
 pub totals-margin : {table s t : List ℕ} → Whole table s t → {a b : Totals} → Totalled (signatureOf table) s a →
     Totalled (signatureOf table) t b →
-    subℕ (a .weight) (b .weight) ≡ margin (signatureOf table) (termOf (signatureOf table) s) (termOf (signatureOf table) t)
+    subℕ (a .weight) (b .weight) ≡ margin (signatureOf table) (termOf (signatureOf table) s)
+    (termOf (signatureOf table) t)
 totals-margin S A B = ap₂ subℕ (left-weight S A B) (right-weight S A B)

@@ -8,7 +8,8 @@ use Rattle.multisets.specs.Multiset.{every, some, multisetEqual, multisetGreate
 use Rattle.terms.specs.Signature.{Signature, AcBinary}
 use Rattle.terms.specs.Term.{Term, variableCount, weight}
 use Rattle.terms.specs.Equivalence.{isEquivalent}
-use Rattle.terms.specs.Order.{noneOftener, variables as variablesOf, highPart, lowPart, joinedHigh, flattenedMark, rootMark, decreasingMark, isGreater}
+use Rattle.terms.specs.Order.{noneOftener, variables as variablesOf, highPart, lowPart, joinedHigh, flattenedMark}
+use Rattle.terms.specs.Order.{rootMark, decreasingMark, isGreater}
 use Rattle.symbols.specs.Table.{signatureOf}
 use Rattle.equivalence.specs.Parts.{IsTerm, partAt, partsAt, elementsAt}
 use Rattle.equivalence.specs.Keys.{Sides}
@@ -73,7 +74,8 @@ module _ (table : List ℕ) where
   rowsGreater s i t j n = rowGreater (isEquivalent σ) (isGreater σ) (partsAt σ s i n) (partsAt σ t j n)
 
   abbrev pub flattenedAt : ℕ → List ℕ → ℕ → List ℕ → ℕ → ℕ → ℕ
-  flattenedAt f s i t j n = flattenedMark σ (isEquivalent σ) (isGreater σ) f (elementsAt σ f s i n) (elementsAt σ f t j n)
+  flattenedAt f s i t j n = flattenedMark σ (isEquivalent σ) (isGreater σ) f (elementsAt σ f s i n)
+      (elementsAt σ f t j n)
 
   -- Each of ys has a greater one in xs.
   unfoldable pub covered : List Term → List Term → Bool
@@ -81,7 +83,8 @@ module _ (table : List ℕ) where
 
   -- 2: xs is above ys as a multiset; 1: they are equivalent; 0: neither.
   unfoldable pub verdict : List Term → List Term → ℕ
-  verdict xs ys = cond (multisetGreater (isEquivalent σ) (isGreater σ) xs ys) 2 (cond (multisetEqual (isEquivalent σ) xs ys) 1 0)
+  verdict xs ys = cond (multisetGreater (isEquivalent σ) (isGreater σ) xs ys) 2
+      (cond (multisetEqual (isEquivalent σ) xs ys) 1 0)
 
   -- The verdicts on the high parts and on the low parts of two flattenings for f.
   abbrev pub highVerdict : ℕ → List Term → List Term → ℕ

@@ -23,7 +23,8 @@ digits-enough zero m n h l = absurd (omega arith)
 digits-enough (suc k) zero n h l = absurd (omega arith)
 digits-enough (suc k) (suc m) n h l =
     byOrder n 10 (λ s. rw (lt-ltb n 10 s))
-    λ s. rw (le-ltb n 10 s) (ap (λ (ds : List ℕ). ds ++ ((48 + n % 10) ∷ [])) (digits-enough k m (n / 10) (omega arith) (omega arith)))
+    λ s. rw (le-ltb n 10 s) (ap (λ (ds : List ℕ). ds ++ ((48 + n % 10) ∷ []))
+    (digits-enough k m (n / 10) (omega arith) (omega arith)))
 
 pub decimal-small : (n : ℕ) → n < 10 → decimal n ≡ (48 + n) ∷ []
 unfolding digits
@@ -33,14 +34,20 @@ pub decimal-large : (n : ℕ) → 10 ≤ n → decimal n ≡ decimal (n / 10) ++
 unfolding digits
 decimal-large n h =
     rw (le-ltb n 10 h)
-    (ap (λ (ds : List ℕ). ds ++ ((48 + n % 10) ∷ [])) (digits-enough n (suc (n / 10)) (n / 10) (omega arith) (omega arith)))
+    (ap (λ (ds : List ℕ). ds ++ ((48 + n % 10) ∷ []))
+    (digits-enough n (suc (n / 10)) (n / 10) (omega arith) (omega arith)))
 
 length-digits : (k n : ℕ) → length (digits k n) ≤ k
 unfolding digits
 length-digits zero n = omega arith
 length-digits (suc k) n =
     byOrder n 10 (λ s. rw (lt-ltb n 10 s) (omega arith))
-    λ s. rw (le-ltb n 10 s) (omega (arith, length-append (digits k (n / 10)) ((48 + n % 10) ∷ []), length-digits k (n / 10)))
+    λ s. rw (le-ltb n 10 s) (omega (
+      arith,
+      length-append (digits k (n / 10)) ((48 + n % 10) ∷ []),
+      length-digits k
+          (n / 10),
+    ))
 
 pub length-decimal : (n : ℕ) → length (decimal n) ≤ suc n
 length-decimal n = length-digits (suc n) n

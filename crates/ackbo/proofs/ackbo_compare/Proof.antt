@@ -30,11 +30,13 @@ put-error-requires c κs =
     let (left, right) = c .before .before .before .before .before .before .before .before .good .1 in
     let small = compared-small (a .book .now) (a .left .now) (a .right .now)
     (omega (arith, left .1)) (omega (arith, right .0 .1)) in
-    offset-small (λ s. 0) _ small _ (rw (c .before .before .error .given .1) at (c .before .before .before .before .compare .ensures))
+    offset-small (λ s. 0) _ small _ (rw (c .before .before .error .given .1) at
+    (c .before .before .before .before .compare .ensures))
 
 returns : tie.Need-returns
 returns c =
-    let entry = c .before .before .before .before .before .before .before .before .before .before .before .args .reply .now in
+    let entry =
+    c .before .before .before .before .before .before .before .before .before .before .before .args .reply .now in
     let gave = c .before .before .before .before .before .before .before .compare .ensures in
     let known = c .before .before .before .before .before .comparison .given in
     let relation = c .before .before .relation-value in

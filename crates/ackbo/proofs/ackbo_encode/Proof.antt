@@ -17,7 +17,8 @@ put-counts-requires c κs =
     let a = c .before .before .before .before .before .before .before .before .before .before .args in
     let good = c .before .before .before .before .before .before .before .before .before .before .good in
     let reply = c .before .before .before .before .before .before .encode .ensures .0 in
-    let small = encoded-small (a .words .now) (a .book .now) (omega (arith, good .0 .1)) (omega (arith, good .1 .0 .1)) in
+    let small = encoded-small (a .words .now) (a .book .now) (omega (arith, good .0 .1)) (omega (arith, good .1 .0 .1))
+    in
     (value-small (λ n. n) _ small _ (rw (c .before .before .count .given .1) at reply), omega arith, omega arith)
 
 enum-known-error : tie.Need-enum-known-error
@@ -28,7 +29,8 @@ put-error-requires c κs =
     let a = c .before .before .before .before .before .before .before .before .before .before .args in
     let good = c .before .before .before .before .before .before .before .before .before .before .good in
     let reply = c .before .before .before .before .before .before .encode .ensures .0 in
-    let small = encoded-small (a .words .now) (a .book .now) (omega (arith, good .0 .1)) (omega (arith, good .1 .0 .1)) in
+    let small = encoded-small (a .words .now) (a .book .now) (omega (arith, good .0 .1)) (omega (arith, good .1 .0 .1))
+    in
     offset-small (λ n. n) _ small _ (rw (c .before .before .error .given .1) at reply)
 
 same-length : tie.Need-same-length
@@ -36,7 +38,8 @@ same-length c = search needs
 
 returns : tie.Need-returns
 returns c =
-    let entry = c .before .before .before .before .before .before .before .before .before .before .before .args .reply .now in
+    let entry =
+    c .before .before .before .before .before .before .before .before .before .before .before .args .reply .now in
     let gave = c .before .before .before .before .before .before .before .encode .ensures in
     let reply = rw (c .before .before .before .count .given .1) at (gave .0) in
     let (code, values) =
@@ -48,7 +51,8 @@ same-length-2 c = search needs
 
 returns-2 : tie.Need-returns-2
 returns-2 c =
-    let entry = c .before .before .before .before .before .before .before .before .before .before .before .args .reply .now in
+    let entry =
+    c .before .before .before .before .before .before .before .before .before .before .before .args .reply .now in
     let gave = c .before .before .before .before .before .before .before .encode .ensures in
     let reply = rw (c .before .before .before .error .given .1) at (gave .0) in
     let (code, values) =

@@ -38,7 +38,8 @@ same-length c = search needs
 
 returns : tie.Need-returns
 returns c =
-    let entry = c .before .before .before .before .before .before .before .before .before .before .before .args .reply .now in
+    let entry =
+    c .before .before .before .before .before .before .before .before .before .before .before .args .reply .now in
     let gave = c .before .before .before .before .before .before .before .mark .ensures in
     let reply = rw (c .before .before .before .rules .given .1) at (gave .0) in
     let (code, values) =
@@ -50,7 +51,8 @@ same-length-2 c = search needs
 
 returns-2 : tie.Need-returns-2
 returns-2 c =
-    let entry = c .before .before .before .before .before .before .before .before .before .before .before .args .reply .now in
+    let entry =
+    c .before .before .before .before .before .before .before .before .before .before .before .args .reply .now in
     let gave = c .before .before .before .before .before .before .before .mark .ensures in
     let reply = rw (c .before .before .before .error .given .1) at (gave .0) in
     let (code, values) =

@@ -18,7 +18,8 @@ put-reply-requires c κs = search needs
 returns : tie.Need-returns
 returns c =
     let offset = c .before .signed in
-    let input = toZ-pos w64 (c .before .before .before .args .input) (omega (arith, c .before .before .before .fits .input)) in (
+    let input = toZ-pos w64 (c .before .before .before .args .input)
+    (omega (arith, c .before .before .before .fits .input)) in (
       c .put-reply .ensures .0,
       c .put-reply .ensures .1 ∙
           rw (toZ-ofZ w64 (offset .result) (record { sfits = offset .ok }), offset .ensures, input),

@@ -38,7 +38,8 @@ returns c =
     let σ = signatureOf (a .table .now) in
     let ((small, admissible), (left, right)) = c .before .before .before .before .before .before .before .before .pre in
     let S = whole-terms small admissible left right in
-    let margin = c .margin .ensures ∙ totals-margin S (c .before .before .before .before .total .ensures .0) (c .before .before .before .total2 .ensures .0) in
+    let margin = c .margin .ensures ∙ totals-margin S (c .before .before .before .before .total .ensures .0)
+    (c .before .before .before .total2 .ensures .0) in
     rw (toZ-ofZ w64 (c .margin .result) (record { sfits = c .margin .ok }))
     (terms-read σ (termOf σ (a .left .now)) (termOf σ (a .right .now)) _ _ _ (c .before .numbered .ensures)
     (c .before .before .relation .ensures) margin)

@@ -54,7 +54,8 @@ slice-aggregate-write-all : tie.Need-slice-aggregate-write-all
 slice-aggregate-write-all c =
     let n : length (c .before .before .report .last .1 .0) ≡ 65536 =
     c .before .before .report .kept .1 .0 ∙ sym (c .before .before .before .before .before .large-buffer .ensures) in
-    sym (length-take-le _ (c .before .before .report .last .1 .0) (omega (arith, c .before .before .report .ensures .1)))
+    sym (length-take-le _ (c .before .before .report .last .1 .0)
+    (omega (arith, c .before .before .report .ensures .1)))
 
 -- src/main.rt:19:5
 write-all-requires : tie.Need-write-all-requires

@@ -16,7 +16,12 @@ word-at-requires : tie.Need-word-at-requires
 word-at-requires c κs = search needs
 
 returns : tie.Need-returns
-returns c = rw (symbol-at (c .before .before .before .args .table .now), ← c .before .wide .ensures .0, ← c .word-at .ensures)
+returns c = rw (
+  symbol-at (c .before .before .before .args .table .now),
+  ← c .before .wide .ensures .0,
+  ←
+      c .word-at .ensures,
+)
 
 pub is-ac-spec : {M : Type 1} → statement M
 is-ac-spec = tie.close (tie.spec wide-requires mul-word-at add-word-at word-at-requires returns)

@@ -16,7 +16,8 @@ word-at-requires : tie.Need-word-at-requires
 word-at-requires c κs = search needs
 
 returns : tie.Need-returns
-returns c = rw (symbol-at (c .before .before .before .args .table .now), ← c .before .wide .ensures .0) (c .word-at .ensures)
+returns c = rw (symbol-at (c .before .before .before .args .table .now), ← c .before .wide .ensures .0)
+    (c .word-at .ensures)
 
 pub precedence-spec : {M : Type 1} → statement M
 precedence-spec =

@@ -19,7 +19,8 @@ abbrev μ-loop : tie.MeasureT-loop
 μ-loop table s sk ps₀ n t tk qs₀ m k₀ left₀ right₀ ps qs k left right = n - k
 
 loop-holds : tie.Need-loop-holds Inv-loop μ-loop
-loop-holds c = cancelling-start _ _ _ _ _ _ _ (c .before .before .before .pre .1 .0) (c .before .before .before .pre .1 .1)
+loop-holds c = cancelling-start _ _ _ _ _ _ _ (c .before .before .before .pre .1 .0)
+    (c .before .before .before .pre .1 .1)
 
 element-copy-out-p : tie.Need-element-copy-out-p Inv-loop μ-loop
 element-copy-out-p c = search needs
@@ -29,8 +30,14 @@ wide-byte-requires c κs = search needs
 
 partner-requires : tie.Need-partner-requires Inv-loop μ-loop
 partner-requires c κs =
-    let g = c .before .before .before .before .loop .inv in
-    (c .before .before .before .before .before .before .before .before .pre .0, (rw (c .before .wide-byte .ensures .0) (g .left .inside (c .before .before .before .before .loop .k) (omega arith)), g .right))
+    let g = c .before .before .before .before .loop .inv in (
+      c .before .before .before .before .before .before .before .before .pre .0,
+      (
+        rw (c .before .wide-byte .ensures .0) (g .left .inside (c .before .before .before .before .loop .k)
+            (omega arith)),
+        g .right,
+      ),
+    )
 
 element-write-ps : tie.Need-element-write-ps Inv-loop μ-loop
 element-write-ps c = search needs
@@ -46,10 +53,15 @@ loop-less c = search needs
 
 loop-again : tie.Need-loop-again Inv-loop μ-loop
 loop-again c =
-    cancelling-kept (c .before .before .before .before .before .before .loop .inv) (omega arith) (rw (c .before .before .before .wide-byte .ensures .0) at (c .before .partner .ensures)) (c .if1 .taken)
+    cancelling-kept (c .before .before .before .before .before .before .loop .inv) (omega arith)
+    (rw (c .before .before .before .wide-byte .ensures .0) at (c .before .partner .ensures)) (c .if1 .taken)
 
 delete-requires : tie.Need-delete-requires Inv-loop μ-loop
-delete-requires c κs = (omega (arith, c .before .before .partner .ensures .within), omega arith, c .before .before .before .before .before .before .before .loop .inv .right .room)
+delete-requires c κs = (
+  omega (arith, c .before .before .partner .ensures .within),
+  omega arith,
+  c .before .before .before .before .before .before .before .loop .inv .right .room,
+)
 
 sub-right : tie.Need-sub-right Inv-loop μ-loop
 sub-right c = search needs
@@ -62,7 +74,9 @@ loop-less-2 c = search needs
 
 loop-again-2 : tie.Need-loop-again-2 Inv-loop μ-loop
 loop-again-2 c =
-    cancelling-spent (c .before .before .before .before .before .before .before .before .loop .inv) (omega arith) (rw (c .before .before .before .before .before .wide-byte .ensures .0) at (c .before .before .before .partner .ensures)) _ (c .before .before .if1 .left)
+    cancelling-spent (c .before .before .before .before .before .before .before .before .loop .inv) (omega arith)
+    (rw (c .before .before .before .before .before .wide-byte .ensures .0) at
+    (c .before .before .before .partner .ensures)) _ (c .before .before .if1 .left)
     (c .delete .ensures .0) (c .delete .ensures .1)
 
 returns : tie.Need-returns Inv-loop μ-loop

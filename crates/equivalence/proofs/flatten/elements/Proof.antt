@@ -13,7 +13,8 @@ use Rattle.equivalence.proofs.keys.size_at.Reads as size-at-reads
 use Rattle.symbols.proofs.arity.Reads as arity-reads
 
 abbrev Inv-loop : tie.InvT-loop
-Inv-loop table f words keys i n offsets₀ inner at₀ owed₀ k₀ offsets at owed k = Listing table f words i n offsets at owed k
+Inv-loop table f words keys i n offsets₀ inner at₀ owed₀ k₀ offsets at owed k = Listing table f words i n offsets at
+    owed k
 
 abbrev μ-loop : tie.MeasureT-loop
 μ-loop table f words keys i n offsets₀ inner at₀ owed₀ k₀ offsets at owed k = length words - at
@@ -22,7 +23,8 @@ arity-requires : tie.Need-arity-requires Inv-loop μ-loop
 arity-requires c κs = search needs
 
 loop-holds : tie.Need-loop-holds Inv-loop μ-loop
-loop-holds c = listing-start _ _ _ _ _ _ (c .before .before .before .pre .1 .1 .0) (c .before .before .before .pre .0 .1)
+loop-holds c = listing-start _ _ _ _ _ _ (c .before .before .before .pre .1 .1 .0)
+    (c .before .before .before .pre .0 .1)
 
 mul-if1 : tie.Need-mul-if1 Inv-loop μ-loop
 mul-if1 c = search needs
@@ -44,14 +46,18 @@ loop-less c = search needs
 
 loop-again : tie.Need-loop-again Inv-loop μ-loop
 loop-again c =
-    listing-own (c .before .before .before .before .before .before .before .pre .1 .0) (c .before .before .before .loop .inv) (omega arith) (c .if1 .taken) (omega arith) (c .before .before .before .before .arity .ensures .0)
+    listing-own (c .before .before .before .before .before .before .before .pre .1 .0)
+    (c .before .before .before .loop .inv) (omega arith) (c .if1 .taken) (omega arith)
+    (c .before .before .before .before .arity .ensures .0)
 
 cast-offsets : tie.Need-cast-offsets Inv-loop μ-loop
 cast-offsets c = search needs
 
 element-write-offsets : tie.Need-element-write-offsets Inv-loop μ-loop
 element-write-offsets c =
-    listing-room (c .before .before .before .before .before .before .before .pre .1 .0) (c .before .before .before .loop .inv) (omega arith) (c .if1 .left) (c .before .before .before .before .before .before .before .pre .1 .1 .1)
+    listing-room (c .before .before .before .before .before .before .before .pre .1 .0)
+    (c .before .before .before .loop .inv) (omega arith) (c .if1 .left)
+    (c .before .before .before .before .before .before .before .pre .1 .1 .1)
 
 add-k : tie.Need-add-k Inv-loop μ-loop
 add-k c = search needs
@@ -67,12 +73,15 @@ sub-owed-2 c = search needs
 
 loop-less-2 : tie.Need-loop-less-2 Inv-loop μ-loop
 loop-less-2 c =
-    let p = step-some (c .before .before .before .before .before .before .before .before .pre .1 .0) (c .before .before .before .before .loop .inv .terms) (omega arith) in
+    let p = step-some (c .before .before .before .before .before .before .before .before .pre .1 .0)
+    (c .before .before .before .before .loop .inv .terms) (omega arith) in
     omega (arith, c .size-at .ensures .0)
 
 loop-again-2 : tie.Need-loop-again-2 Inv-loop μ-loop
 loop-again-2 c =
-    listing-other (c .before .before .before .before .before .before .before .before .pre .1 .0) (c .before .before .before .before .loop .inv) (omega arith) (c .before .if1 .left) (c .size-at .ensures .0) (c .before .before .before .before .before .before .before .before .pre .1 .1 .1)
+    listing-other (c .before .before .before .before .before .before .before .before .pre .1 .0)
+    (c .before .before .before .before .loop .inv) (omega arith) (c .before .if1 .left) (c .size-at .ensures .0)
+    (c .before .before .before .before .before .before .before .before .pre .1 .1 .1)
 
 returns : tie.Need-returns Inv-loop μ-loop
 returns c = listing-done (c .before .before .before .before .before .pre .1 .0) (c .before .loop .inv) (omega arith)

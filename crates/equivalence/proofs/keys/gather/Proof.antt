@@ -50,7 +50,8 @@ loop-again c =
       omega arith,
       rw (c .before .before .key-at .ensures) (offset-more (a .keys .now) (l .at) (l .left) (omega arith)) ∙ l .inv .2,
       rw (c .added .ensures .0, c .before .word-at .ensures, c .before .before .key-at .ensures)
-          (hash-more (a .ac) (a .f) (a .words .now) (a .keys .now) (l .hash) (l .at) (l .left) (omega arith)) ∙ l .inv .3,
+          (hash-more (a .ac) (a .f) (a .words .now) (a .keys .now) (l .hash) (l .at) (l .left) (omega arith)) ∙
+          l .inv .3,
     )
 
 returns : tie.Need-returns Inv-loop μ-loop

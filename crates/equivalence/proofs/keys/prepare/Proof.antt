@@ -62,8 +62,10 @@ sub-keys : tie.Need-sub-keys Inv-loop μ-loop
 sub-keys c =
     let a = c .before .before .before .before .before .before .before .before .before .before .args in
     let l = c .before .before .before .before .before .before .before .loop in
-    let h = keyed-step (a .table .now) (a .words .now) (l .keys) (l .i) (omega arith) (c .before .before .before .before .before .before .before .before .before .before .pre .0) (omega arith)
-    (omega arith) (omega arith) (omega arith) (l .inv .2) (c .before .before .arity .ensures .0) (c .before .before .before .before .is-ac .ensures)
+    let h = keyed-step (a .table .now) (a .words .now) (l .keys) (l .i) (omega arith)
+    (c .before .before .before .before .before .before .before .before .before .before .pre .0) (omega arith)
+    (omega arith) (omega arith) (omega arith) (l .inv .2) (c .before .before .arity .ensures .0)
+    (c .before .before .before .before .is-ac .ensures)
     (c .before .gather .ensures .0) (c .before .gather .ensures .1 .0) in
     h .0
 
@@ -71,8 +73,10 @@ add-keys-2 : tie.Need-add-keys-2 Inv-loop μ-loop
 add-keys-2 c =
     let a = c .before .before .before .before .before .before .before .before .before .before .args in
     let l = c .before .before .before .before .before .before .before .loop in
-    let h = keyed-step (a .table .now) (a .words .now) (l .keys) (l .i) (omega arith) (c .before .before .before .before .before .before .before .before .before .before .pre .0) (omega arith)
-    (omega arith) (omega arith) (omega arith) (l .inv .2) (c .before .before .arity .ensures .0) (c .before .before .before .before .is-ac .ensures)
+    let h = keyed-step (a .table .now) (a .words .now) (l .keys) (l .i) (omega arith)
+    (c .before .before .before .before .before .before .before .before .before .before .pre .0) (omega arith)
+    (omega arith) (omega arith) (omega arith) (l .inv .2) (c .before .before .arity .ensures .0)
+    (c .before .before .before .before .is-ac .ensures)
     (c .before .gather .ensures .0) (c .before .gather .ensures .1 .0) in
     omega arith
 
@@ -89,8 +93,10 @@ loop-again : tie.Need-loop-again Inv-loop μ-loop
 loop-again c =
     let a = c .before .before .before .before .before .before .before .before .before .before .args in
     let l = c .before .before .before .before .before .before .before .loop in
-    let h = keyed-step (a .table .now) (a .words .now) (l .keys) (l .i) (omega arith) (c .before .before .before .before .before .before .before .before .before .before .pre .0) (omega arith)
-    (omega arith) (omega arith) (omega arith) (l .inv .2) (c .before .before .arity .ensures .0) (c .before .before .before .before .is-ac .ensures)
+    let h = keyed-step (a .table .now) (a .words .now) (l .keys) (l .i) (omega arith)
+    (c .before .before .before .before .before .before .before .before .before .before .pre .0) (omega arith)
+    (omega arith) (omega arith) (omega arith) (l .inv .2) (c .before .before .arity .ensures .0)
+    (c .before .before .before .before .is-ac .ensures)
     (c .before .gather .ensures .0) (c .before .gather .ensures .1 .0) in
     (omega arith, simp length-set (l .inv .1), h .2 _ (omega arith))
 

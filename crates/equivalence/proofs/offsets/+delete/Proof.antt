@@ -28,17 +28,23 @@ delete-add-if1 t c = search needs
 delete-add-offsets : (t : ℕ) → delete-lts.Need-add-offsets (delete-below t, delete.Post) (delete-at t) delete.Post
 delete-add-offsets t c = search needs
 
-delete-element-copy-out-offsets : (t : ℕ) → delete-lts.Need-element-copy-out-offsets (delete-below t, delete.Post) (delete-at t) delete.Post
+delete-element-copy-out-offsets : (t : ℕ) → delete-lts.Need-element-copy-out-offsets (delete-below t, delete.Post)
+    (delete-at t) delete.Post
 delete-element-copy-out-offsets t c = search needs
 
-delete-element-write-offsets : (t : ℕ) → delete-lts.Need-element-write-offsets (delete-below t, delete.Post) (delete-at t) delete.Post
+delete-element-write-offsets : (t : ℕ) → delete-lts.Need-element-write-offsets (delete-below t, delete.Post)
+    (delete-at t) delete.Post
 delete-element-write-offsets t c = search needs
 
 delete-add-delete : (t : ℕ) → delete-lts.Need-add-delete (delete-below t, delete.Post) (delete-at t) delete.Post
 delete-add-delete t c = search needs
 
-delete-delete-requires : (t : ℕ) → delete-lts.Need-delete-requires (delete-below t, delete.Post) (delete-at t) delete.Post
-delete-delete-requires t c κs = (omega arith, (omega arith, omega arith, simp length-set (c .before .before .before .pre .1 .2)))
+delete-delete-requires : (t : ℕ) → delete-lts.Need-delete-requires (delete-below t, delete.Post) (delete-at t)
+    delete.Post
+delete-delete-requires t c κs = (
+  omega arith,
+  (omega arith, omega arith, simp length-set (c .before .before .before .pre .1 .2)),
+)
 
 delete-returns : (t : ℕ) → delete-lts.Need-returns (delete-below t, delete.Post) (delete-at t) delete.Post
 delete-returns t c =
@@ -48,7 +54,11 @@ delete-returns t c =
     )
 
 delete-returns-2 : (t : ℕ) → delete-lts.Need-returns-2 (delete-below t, delete.Post) (delete-at t) delete.Post
-delete-returns-2 t c = (delete-last (c .before .args .offsets .now) (c .before .args .k) (c .before .args .m) (omega arith), refl)
+delete-returns-2 t c = (
+  delete-last (c .before .args .offsets .now) (c .before .args .k) (c .before .args .m)
+      (omega arith),
+  refl,
+)
 
 pub +delete-spec : {M : Type 1} → statement M
 +delete-spec =

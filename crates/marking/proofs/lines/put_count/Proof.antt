@@ -20,7 +20,8 @@ same-length c = search needs
 
 returns : tie.Need-returns
 returns c =
-    let a = c .before .before .before .before .before .before .before .before .before .before .before .before .before .before .args in
+    let a =
+    c .before .before .before .before .before .before .before .before .before .before .before .before .before .before .args in
     let w = a .word .now in
     let first = put-append (a .out .now) (a .at) w (32 ∷ []) _ _ _ _
     (c .before .before .before .before .before .before .before .before .before .before .put-bytes .ensures)
@@ -30,8 +31,12 @@ returns c =
       p .0,
       (
         p .1,
-        omega
-            (arith, c .before .before .before .before .before .before .before .before .before .before .put-bytes .ensures .0, c .before .before .before .before .before .before .put-byte .ensures .0, n .1 .1),
+        omega (
+          arith,
+          c .before .before .before .before .before .before .before .before .before .before .put-bytes .ensures .0,
+          c .before .before .before .before .before .before .put-byte .ensures .0,
+          n .1 .1,
+        ),
       ),
     )
 

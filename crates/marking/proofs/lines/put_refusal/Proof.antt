@@ -23,7 +23,8 @@ same-length c = search needs
 
 returns : tie.Need-returns
 returns c =
-    let a = c .before .before .before .before .before .before .before .before .before .before .before .before .before .before .args in
+    let a =
+    c .before .before .before .before .before .before .before .before .before .before .before .before .before .before .args in
     let p = put-first (a .out .now) (line (ascii "refusal" ∷ decimal (a .code) ∷ decimal (a .offset) ∷ [])) _ _
     (put-line3 (a .out .now) 0 (ascii "refusal") (decimal (a .code)) (decimal (a .offset)) _ _ _ _ _ _
     (c .before .before .before .before .before .before .before .before .before .before .put-bytes .ensures) (

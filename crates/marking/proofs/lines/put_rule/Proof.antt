@@ -24,7 +24,8 @@ same-length c = search needs
 
 returns : tie.Need-returns
 returns c =
-    let a = c .before .before .before .before .before .before .before .before .before .before .before .before .before .before .before .before .before .args in
+    let a =
+    c .before .before .before .before .before .before .before .before .before .before .before .before .before .before .before .before .before .args in
     let d = signedDecimal (subℕ (a .left) (a .right)) in
     let e = c .before .before .before .before .before .before .put-difference .ensures in
     let t = put-append _ _ d (10 ∷ []) _ _ _ _ (e .0, e .1 .0) (c .before .before .put-byte .ensures) in
@@ -33,8 +34,13 @@ returns c =
       p .0,
       (
         p .1,
-        omega
-            (arith, c .before .before .before .before .before .before .before .before .before .before .before .before .before .before .put-number .ensures .1 .1, c .before .before .before .before .before .before .before .before .before .before .put-number2 .ensures .1 .1, e .1 .1, c .before .before .put-byte .ensures .0),
+        omega (
+          arith,
+          c .before .before .before .before .before .before .before .before .before .before .before .before .before .before .put-number .ensures .1 .1,
+          c .before .before .before .before .before .before .before .before .before .before .put-number2 .ensures .1 .1,
+          e .1 .1,
+          c .before .before .put-byte .ensures .0,
+        ),
       ),
     )
 

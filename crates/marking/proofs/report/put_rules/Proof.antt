@@ -51,7 +51,9 @@ loop-less c = search needs
 
 loop-again : tie.Need-loop-again Inv-loop μ-loop
 loop-again c =
-    let a = c .before .before .before .before .before .before .before .before .before .before .before .before .before .args in
+    let a =
+    c .before .before .before .before .before .before .before .before .before .before .before .before .before .args
+    in
     let l = c .before .before .before .before .before .before .before .before .before .loop in
     let p = c .before .before .before .before .put-rule .ensures in (
       omega arith,

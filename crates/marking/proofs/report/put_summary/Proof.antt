@@ -25,7 +25,9 @@ same-length c = search needs
 
 returns : tie.Need-returns
 returns c =
-    let a = c .before .before .before .before .before .before .before .before .before .before .before .before .before .args in
+    let a =
+    c .before .before .before .before .before .before .before .before .before .before .before .before .before .args
+    in
     let n = c .before .before .before .before .before .before .before .before .put-count .ensures in (
       put-verdict (a .out .now) (a .at) (a .rules) (a .decreasing)
           (c .before .before .before .before .before .before .before .before .before .score .result) _ _ _ _ "accepted"
@@ -47,7 +49,9 @@ same-length-2 c = search needs
 
 returns-2 : tie.Need-returns-2
 returns-2 c =
-    let a = c .before .before .before .before .before .before .before .before .before .before .before .before .before .args in
+    let a =
+    c .before .before .before .before .before .before .before .before .before .before .before .before .before .args
+    in
     let n = c .before .before .before .before .before .before .before .before .put-count .ensures in (
       put-verdict (a .out .now) (a .at) (a .rules) (a .decreasing)
           (c .before .before .before .before .before .before .before .before .before .score .result) _ _ _ _ "returned"

@@ -79,7 +79,10 @@ put-rules-requires c κs =
     (rw (c .before .before .before .before .before .before .before .before .symbol-count .given .1) at
     (c .before .before .before .before .before .before .before .before .before .before .before .read-file .ensures)) in
     let n : length
-    (c .before .before .before .before .before .before .before .before .before .before .before .read-file .last .1 .0) ≡ 1021 = c .before .before .before .before .before .before .before .before .before .before .before .read-file .kept .1 .0 in (
+    (c .before .before .before .before .before .before .before .before .before .before .before .read-file .last .1 .0) ≡
+    1021 =
+    c .before .before .before .before .before .before .before .before .before .before .before .read-file .kept .1 .0
+    in (
       parts .short,
       table-of
           (c .before .before .before .before .before .before .before .before .before .before .before .before .before .before .before .args .book .now) _ file end _ _ _ _ (sym n) read parts,
@@ -90,7 +93,8 @@ put-rules-requires c κs =
 put-summary-requires : tie.Need-put-summary-requires
 put-summary-requires c κs =
     let (file, end, read, parts) =
-    (rw (c .before .before .before .before .before .before .before .before .before .before .before .before .symbol-count .given .1) at (c .before .before .before .before .before .before .before .before .before .before .before .before .before .before .before .read-file .ensures)) in (
+    (rw
+    (c .before .before .before .before .before .before .before .before .before .before .before .before .symbol-count .given .1) at (c .before .before .before .before .before .before .before .before .before .before .before .before .before .before .before .read-file .ensures)) in (
       omega (
         arith,
         parts .fewRules,
@@ -120,10 +124,12 @@ same-length-2 c = search needs
 returns-2 : tie.Need-returns-2
 returns-2 c =
     let (file, end, read, parts) =
-    (rw (c .before .before .before .before .before .before .before .before .before .before .before .before .before .before .before .symbol-count .given .1) at (c .before .before .before .before .before .before .before .before .before .before .before .before .before .before .before .before .before .before .read-file .ensures)) in
+    (rw
+    (c .before .before .before .before .before .before .before .before .before .before .before .before .before .before .before .symbol-count .given .1) at (c .before .before .before .before .before .before .before .before .before .before .before .before .before .before .before .before .before .before .read-file .ensures)) in
     let (d, w) = c .before .before .before .before .before .before .put-rules .ensures .0 (file .rules) (parts .end)
     (rw (parts .signature) (parts .rulesRead)) in
-    let k = c .before .before .before .before .before .before .before .before .before .before .before .put-count .ensures in
+    let k =
+    c .before .before .before .before .before .before .before .before .before .before .before .put-count .ensures in
     let t = c .before .before .put-summary .ensures in (
       report-marks
           (c .before .before .before .before .before .before .before .before .before .before .before .before .before .before .before .before .before .before .before .before .before .before .args .book .now) file end read _ _ _ (c .before .before .before .before .before .before .before .before .before .before .before .before .before .before .before .before .before .before .before .before .before .before .args .out .now) _ _ _ _ _ (parts .ruleCount)

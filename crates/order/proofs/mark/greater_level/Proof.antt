@@ -24,7 +24,8 @@ returns c =
     let a = c .before .before .before .before .before .before .args in
     let L = c .before .before .before .before .before .before .pre .1 in
     let σ = signatureOf (a .table .now) in
-    let none = sym (c .before .if1 .taken) ∙ c .before .before .within .ensures ∙ within-none (L .whole) (L .left) (L .right) in
+    let none = sym (c .before .if1 .taken) ∙ c .before .before .within .ensures ∙ within-none (L .whole) (L .left)
+    (L .right) in
     level-greater σ (termOf σ (a .s .now)) (termOf σ (a .t .now)) (level-weights L) none (c .root-mark .ensures) refl
 
 returns-2 : tie.Need-returns-2

@@ -20,7 +20,8 @@ returns c =
     let a = c .before .before .before .before .before .before .before .before .args in
     let (S, (A, B)) = c .before .before .before .before .before .before .before .before .pre in
     let σ = signatureOf (a .table .now) in
-    let none = sym (c .before .before .before .if1 .taken) ∙ c .before .before .before .before .within .ensures ∙ within-none S A B in
+    let none = sym (c .before .before .before .if1 .taken) ∙ c .before .before .before .before .within .ensures ∙
+    within-none S A B in
     whole-one σ (termOf σ (a .s .now)) (termOf σ (a .t .now)) none (left-weight S A B) (right-weight S A B)
     (c .if2 .taken)
 
@@ -29,7 +30,8 @@ returns-2 c =
     let a = c .before .before .before .before .before .before .before .before .before .before .before .args in
     let (S, (A, B)) = c .before .before .before .before .before .before .before .before .before .before .before .pre in
     let σ = signatureOf (a .table .now) in
-    let none = sym (c .before .before .before .before .before .before .if1 .taken) ∙ c .before .before .before .before .before .before .before .within .ensures ∙ within-none S A B in
+    let none = sym (c .before .before .before .before .before .before .if1 .taken) ∙
+    c .before .before .before .before .before .before .before .within .ensures ∙ within-none S A B in
     whole-eight σ (termOf σ (a .s .now)) (termOf σ (a .t .now)) none (left-weight S A B) (right-weight S A B)
     (c .if3 .taken)
 
@@ -38,7 +40,8 @@ mark-level-requires c κs =
     let (S, (A, B)) = c .before .before .before .before .before .before .before .before .before .before .before .pre in (
       S,
       (
-        sym (c .before .before .before .before .before .before .if1 .taken) ∙ c .before .before .before .before .before .before .before .within .ensures ∙ within-none S A B,
+        sym (c .before .before .before .before .before .before .if1 .taken) ∙
+            c .before .before .before .before .before .before .before .within .ensures ∙ within-none S A B,
         omega (arith, left-weight S A B, right-weight S A B),
       ),
     )
@@ -51,7 +54,8 @@ returns-4 c =
     let a = c .before .before .before .before .before .args in
     let (S, (A, B)) = c .before .before .before .before .before .pre in
     let σ = signatureOf (a .table .now) in
-    whole-seven σ (termOf σ (a .s .now)) (termOf σ (a .t .now)) (sym (c .if1 .left) ∙ c .before .within .ensures ∙ within-none S A B)
+    whole-seven σ (termOf σ (a .s .now)) (termOf σ (a .t .now))
+    (sym (c .if1 .left) ∙ c .before .within .ensures ∙ within-none S A B)
 
 pub mark-spec : {M : Type 1} → statement M
 mark-spec =

@@ -28,7 +28,8 @@ returns c =
     let a = c .before .before .before .before .before .before .before .before .args in
     let h = c .before .before .before .before .before .before .before .before .pre .1 in
     let σ = signatureOf (a .table .now) in
-    whole-root σ (termOf σ (a .s .now)) (termOf σ (a .t .now)) (h .0) refl refl (h .1) (c .before .root-mark-differing .ensures)
+    whole-root σ (termOf σ (a .s .now)) (termOf σ (a .t .now)) (h .0) refl refl (h .1)
+    (c .before .root-mark-differing .ensures)
     (c .if2 .taken)
 
 returns-2 : tie.Need-returns-2
@@ -36,8 +37,10 @@ returns-2 c =
     let a = c .before .before .before .before .before .before .before .before .args in
     let (S, h) = c .before .before .before .before .before .before .before .before .pre in
     let σ = signatureOf (a .table .now) in
-    let differ = roots-differ σ (a .s .now) 0 (a .t .now) 0 (left-some S) (right-some S) (c .before .before .if1 .taken) in
-    whole-ten σ (termOf σ (a .s .now)) (termOf σ (a .t .now)) (h .0) refl refl (h .1) (c .before .root-mark-differing .ensures)
+    let differ = roots-differ σ (a .s .now) 0 (a .t .now) 0 (left-some S) (right-some S) (c .before .before .if1 .taken)
+    in
+    whole-ten σ (termOf σ (a .s .now)) (termOf σ (a .t .now)) (h .0) refl refl (h .1)
+    (c .before .root-mark-differing .ensures)
     (c .if2 .left) (sym differ)
 
 mark-prepared-requires : tie.Need-mark-prepared-requires

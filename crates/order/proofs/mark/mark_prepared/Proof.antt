@@ -1,8 +1,7 @@
 use mathlib.Core.Path.{refl, sym, _∙_}
 use Rattle.terms.specs.Words.{termOf}
 use Rattle.symbols.specs.Table.{signatureOf}
-use Rattle.symbols.proofs.TableLaws.{few-at}
-use Rattle.equivalence.proofs.FormedLaws.{term-complete}
+use Rattle.order.proofs.WholeLaws.{left-complete, right-complete}
 use Rattle.order.proofs.EquivalentLaws.{mark-of-equivalent}
 use Rattle.order.proofs.MarkLaws.{whole-root, whole-ten}
 use Rattle.order.proofs.WholeLaws.{left-some, right-some, left-formed, right-formed, whole-sides}
@@ -16,24 +15,20 @@ use Rattle.order.proofs.mark.root_mark_whole.Reads as root-mark-whole-r
 
 prepare-requires : tie.Need-prepare-requires
 prepare-requires c κs =
-    let a = c .before .before .before .before .args in
-    let S = c .before .before .before .before .pre .0 in (
-      term-complete (signatureOf (a .table .now)) (few-at (a .table .now) (S .small)) (a .s .now) (S .left),
-      (S .small, S .leftShort, refl),
-    )
+    let S = c .before .before .before .before .pre .0 in
+    (left-complete S, (S .small, S .leftShort, refl))
 
 prepare-requires-2 : tie.Need-prepare-requires-2
 prepare-requires-2 c κs =
-    let a = c .before .before .before .before .before .before .args in
-    let S = c .before .before .before .before .before .before .pre .0 in (
-      term-complete (signatureOf (a .table .now)) (few-at (a .table .now) (S .small)) (a .t .now) (S .right),
-      (S .small, S .rightShort, refl),
-    )
+    let S = c .before .before .before .before .before .before .pre .0 in
+    (right-complete S, (S .small, S .rightShort, refl))
 
 equivalent-requires : tie.Need-equivalent-requires
 equivalent-requires c κs =
-    let S = c .before .before .before .before .before .before .before .before .before .pre .0 in
-    (whole-sides S (c .before .before .before .before .prepare .ensures) (c .before .before .prepare2 .ensures), (left-some S, right-some S))
+    let S = c .before .before .before .before .before .before .before .before .before .pre .0 in (
+      whole-sides S (c .before .before .before .before .prepare .ensures) (c .before .before .prepare2 .ensures),
+      (left-some S, right-some S),
+    )
 
 returns : tie.Need-returns
 returns c =
@@ -45,24 +40,34 @@ returns c =
 
 root-mark-whole-requires : tie.Need-root-mark-whole-requires
 root-mark-whole-requires c κs =
-    let S = c .before .before .before .before .before .before .before .before .before .before .before .before .before .pre .0 in
-    (whole-sides S (c .before .before .before .before .before .before .before .before .prepare .ensures) (c .before .before .before .before .before .before .prepare2 .ensures), (left-some S, right-some S))
+    let S =
+    c .before .before .before .before .before .before .before .before .before .before .before .before .before .pre .0 in (
+      whole-sides S (c .before .before .before .before .before .before .before .before .prepare .ensures)
+          (c .before .before .before .before .before .before .prepare2 .ensures),
+      (left-some S, right-some S),
+    )
 
 returns-2 : tie.Need-returns-2
 returns-2 c =
-    let a = c .before .before .before .before .before .before .before .before .before .before .before .before .before .before .before .args in
-    let h = c .before .before .before .before .before .before .before .before .before .before .before .before .before .before .before .pre .1 in
+    let a =
+    c .before .before .before .before .before .before .before .before .before .before .before .before .before .before .before .args in
+    let h =
+    c .before .before .before .before .before .before .before .before .before .before .before .before .before .before .before .pre .1 in
     let σ = signatureOf (a .table .now) in
-    whole-root σ (termOf σ (a .s .now)) (termOf σ (a .t .now)) (h .0) refl refl (h .1) (c .before .root-mark-whole .ensures)
+    whole-root σ (termOf σ (a .s .now)) (termOf σ (a .t .now)) (h .0) refl refl (h .1)
+    (c .before .root-mark-whole .ensures)
     (c .if2 .taken)
 
 returns-3 : tie.Need-returns-3
 returns-3 c =
-    let a = c .before .before .before .before .before .before .before .before .before .before .before .before .before .before .before .args in
-    let h = c .before .before .before .before .before .before .before .before .before .before .before .before .before .before .before .pre .1 in
+    let a =
+    c .before .before .before .before .before .before .before .before .before .before .before .before .before .before .before .args in
+    let h =
+    c .before .before .before .before .before .before .before .before .before .before .before .before .before .before .before .pre .1 in
     let σ = signatureOf (a .table .now) in
     let unlike = sym (c .before .before .before .before .if1 .left) in
-    whole-ten σ (termOf σ (a .s .now)) (termOf σ (a .t .now)) (h .0) refl refl (h .1) (c .before .root-mark-whole .ensures)
+    whole-ten σ (termOf σ (a .s .now)) (termOf σ (a .t .now)) (h .0) refl refl (h .1)
+    (c .before .root-mark-whole .ensures)
     (c .if2 .left) (unlike ∙ c .before .before .before .before .before .equivalent .ensures)
 
 pub mark-prepared-spec : {M : Type 1} → statement M

@@ -26,8 +26,10 @@ prepare-requires-2 c κs =
 
 equivalent-requires : tie.Need-equivalent-requires
 equivalent-requires c κs =
-    let S = c .before .before .before .before .before .before .before .before .before .pre .whole in
-    (whole-sides S (c .before .before .before .before .prepare .ensures) (c .before .before .prepare2 .ensures), (left-some S, right-some S))
+    let S = c .before .before .before .before .before .before .before .before .before .pre .whole in (
+      whole-sides S (c .before .before .before .before .prepare .ensures) (c .before .before .prepare2 .ensures),
+      (left-some S, right-some S),
+    )
 
 returns : tie.Need-returns
 returns c =
@@ -42,9 +44,14 @@ returns c =
 
 relation-unlike-requires : tie.Need-relation-unlike-requires
 relation-unlike-requires c κs =
-    let L = c .before .before .before .before .before .before .before .before .before .before .before .before .before .pre in
-    let unlike = sym (c .before .before .if1 .left) ∙ c .before .before .before .equivalent .ensures in
-    (whole-sides (L .whole) (c .before .before .before .before .before .before .before .before .prepare .ensures) (c .before .before .before .before .before .before .prepare2 .ensures), (L, unlike))
+    let L =
+    c .before .before .before .before .before .before .before .before .before .before .before .before .before .pre
+    in
+    let unlike = sym (c .before .before .if1 .left) ∙ c .before .before .before .equivalent .ensures in (
+      whole-sides (L .whole) (c .before .before .before .before .before .before .before .before .prepare .ensures)
+          (c .before .before .before .before .before .before .prepare2 .ensures),
+      (L, unlike),
+    )
 
 returns-2 : tie.Need-returns-2
 returns-2 c = search needs

@@ -24,7 +24,8 @@ returns-2 c =
     let a = c .before .before .before .before .before .before .args in
     let S = c .before .before .before .before .before .before .pre .0 in
     let σ = signatureOf (a .table .now) in
-    relation-equivalent σ (termOf σ (a .s .now)) (termOf σ (a .t .now)) (c .before .before .mark .ensures) (S .binary) (left-formed S)
+    relation-equivalent σ (termOf σ (a .s .now)) (termOf σ (a .t .now)) (c .before .before .mark .ensures) (S .binary)
+    (left-formed S)
     (right-formed S) (c .if2 .taken)
 
 mark-requires-2 : tie.Need-mark-requires-2
@@ -36,7 +37,8 @@ returns-3 : tie.Need-returns-3
 returns-3 c =
     let a = c .before .before .before .before .before .before .before .before .args in
     let σ = signatureOf (a .table .now) in
-    relation-less σ (termOf σ (a .s .now)) (termOf σ (a .t .now)) (c .before .before .before .before .mark .ensures) (c .before .mark2 .ensures) (omega arith)
+    relation-less σ (termOf σ (a .s .now)) (termOf σ (a .t .now)) (c .before .before .before .before .mark .ensures)
+    (c .before .mark2 .ensures) (omega arith)
     (c .if3 .taken)
 
 returns-4 : tie.Need-returns-4
@@ -44,7 +46,8 @@ returns-4 c =
     let a = c .before .before .before .before .before .before .before .before .args in
     let S = c .before .before .before .before .before .before .before .before .pre .0 in
     let σ = signatureOf (a .table .now) in
-    relation-none σ (termOf σ (a .s .now)) (termOf σ (a .t .now)) (c .before .before .before .before .mark .ensures) (c .before .mark2 .ensures) (omega arith)
+    relation-none σ (termOf σ (a .s .now)) (termOf σ (a .t .now)) (c .before .before .before .before .mark .ensures)
+    (c .before .mark2 .ensures) (omega arith)
     (S .binary) (left-formed S) (right-formed S) (c .before .before .if2 .left) (omega arith)
 
 pub relation-marked-spec : {M : Type 1} → statement M

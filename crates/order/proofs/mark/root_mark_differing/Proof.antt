@@ -35,14 +35,16 @@ returns-3 : tie.Need-returns-3
 returns-3 c =
     let a = c .before .before .before .before .before .before .before .before .before .before .args in
     let h = c .before .before .before .before .before .before .before .before .before .before .pre in
-    root-above (a .table .now) (a .s .now) 0 (a .t .now) 0 (h .0) (h .1) (c .before .before .before .before .if1 .left) (c .before .before .before .if2 .left)
+    root-above (a .table .now) (a .s .now) 0 (a .t .now) 0 (h .0) (h .1) (c .before .before .before .before .if1 .left)
+    (c .before .before .before .if2 .left)
     (omega (arith, c .before .before .precedence .ensures, c .before .precedence2 .ensures))
 
 returns-4 : tie.Need-returns-4
 returns-4 c =
     let a = c .before .before .before .before .before .before .before .before .before .before .args in
     let h = c .before .before .before .before .before .before .before .before .before .before .pre in
-    root-differ (a .table .now) (a .s .now) 0 (a .t .now) 0 (h .0) (h .1) (c .before .before .before .before .if1 .left) (c .before .before .before .if2 .left)
+    root-differ (a .table .now) (a .s .now) 0 (a .t .now) 0 (h .0) (h .1) (c .before .before .before .before .if1 .left)
+    (c .before .before .before .if2 .left)
     (omega (arith, c .before .before .precedence .ensures, c .before .precedence2 .ensures)) (h .2)
 
 pub root-mark-differing-spec : {M : Type 1} → statement M

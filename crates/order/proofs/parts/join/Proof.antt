@@ -38,8 +38,10 @@ loop-again c =
     let a = c .before .before .before .args in
     let h = c .before .before .before .pre .1 in (
       omega arith,
-      joined-more (a .table .now) (a .t .now) (a .ps .now) (a .qs .now) (a .k) (c .before .before .loop .ps) (c .before .before .loop .x)
-          (omega (arith, h .room, h .few)) (omega arith) (h .inside (c .before .before .loop .x) (omega arith)) (c .before .before .loop .inv .1),
+      joined-more (a .table .now) (a .t .now) (a .ps .now) (a .qs .now) (a .k) (c .before .before .loop .ps)
+          (c .before .before .loop .x)
+          (omega (arith, h .room, h .few)) (omega arith) (h .inside (c .before .before .loop .x) (omega arith))
+          (c .before .before .loop .inv .1),
     )
 
 returns : tie.Need-returns Inv-loop μ-loop

@@ -16,15 +16,33 @@ cancel-requires c κs = let h = c .before .before .before .before .before .pre i
 join-requires : tie.Need-join-requires
 join-requires c κs =
     let h = c .before .before .before .before .before .before .before .before .pre in (
-      omega (arith, surplus-few (c .before .before .before .before .before .before .before .before .args .table .now) (c .before .before .before .before .before .before .before .before .args .s .now) (c .before .before .before .before .before .before .before .before .args .sv .now) (c .before .before .before .before .before .before .before .before .args .a) (h .1 .1 .0) (c .before .before .cancel .ensures .1)),
-      offsets-own (signatureOf (c .before .before .before .before .before .before .before .before .args .table .now)) (c .before .before .before .before .before .before .before .before .args .t .now) _ _ _ (c .before .before .cancel .ensures .1),
+      omega (
+        arith,
+        surplus-few (c .before .before .before .before .before .before .before .before .args .table .now)
+            (c .before .before .before .before .before .before .before .before .args .s .now)
+            (c .before .before .before .before .before .before .before .before .args .sv .now)
+            (c .before .before .before .before .before .before .before .before .args .a) (h .1 .1 .0)
+            (c .before .before .cancel .ensures .1),
+      ),
+      offsets-own (signatureOf (c .before .before .before .before .before .before .before .before .args .table .now))
+          (c .before .before .before .before .before .before .before .before .args .t .now) _ _ _
+          (c .before .before .cancel .ensures .1),
     )
 
 add-result : tie.Need-add-result
-add-result c = omega (arith, surplus-few (c .before .before .before .before .before .before .before .before .before .args .table .now) (c .before .before .before .before .before .before .before .before .before .args .s .now) (c .before .before .before .before .before .before .before .before .before .args .sv .now) (c .before .before .before .before .before .before .before .before .before .args .a) (c .before .before .before .before .before .before .before .before .before .pre .1 .1 .0) (c .before .before .before .cancel .ensures .1))
+add-result c = omega (
+  arith,
+  surplus-few (c .before .before .before .before .before .before .before .before .before .args .table .now)
+      (c .before .before .before .before .before .before .before .before .before .args .s .now)
+      (c .before .before .before .before .before .before .before .before .before .args .sv .now)
+      (c .before .before .before .before .before .before .before .before .before .args .a)
+      (c .before .before .before .before .before .before .before .before .before .pre .1 .1 .0)
+      (c .before .before .before .cancel .ensures .1),
+)
 
 returns : tie.Need-returns
-returns c = rw (c .before .before .before .cancel .ensures .1 .there) at (c .join .ensures _ (c .before .before .before .before .before .before .before .before .before .pre .1 .1 .1 .0))
+returns c = rw (c .before .before .before .cancel .ensures .1 .there) at
+    (c .join .ensures _ (c .before .before .before .before .before .before .before .before .before .pre .1 .1 .1 .0))
 
 pub join-surplus-spec : {M : Type 1} → statement M
 join-surplus-spec = tie.close (tie.spec cancel-requires join-requires add-result returns)

@@ -11,11 +11,16 @@ use Rattle.equivalence.proofs.flatten.elements.Reads as elements-reads
 use Rattle.order.proofs.parts.split.Reads as split-reads
 
 elements-requires : tie.Need-elements-requires
-elements-requires c κs = let h = c .before .before .before .pre in ((h .1 .0 .0, refl), (h .0 .0, (h .0 .1, h .1 .0 .1)))
+elements-requires c κs = let h = c .before .before .before .pre in
+    ((h .1 .0 .0, refl), (h .0 .0, (h .0 .1, h .1 .0 .1)))
 
 split-requires : tie.Need-split-requires
-split-requires c κs =
-    (offsets-own (signatureOf (c .before .before .before .before .before .before .before .before .args .table .now)) (c .before .before .before .before .before .before .before .before .args .words .now) _ _ _ (c .before .before .before .before .elements .ensures), c .before .before .before .before .before .before .before .before .pre .1 .1)
+split-requires c κs = (
+  offsets-own (signatureOf (c .before .before .before .before .before .before .before .before .args .table .now))
+      (c .before .before .before .before .before .before .before .before .args .words .now) _ _ _
+      (c .before .before .before .before .elements .ensures),
+  c .before .before .before .before .before .before .before .before .pre .1 .1,
+)
 
 returns : tie.Need-returns
 returns c = rw (c .before .before .before .before .before .elements .ensures .there) at (c .split .ensures)

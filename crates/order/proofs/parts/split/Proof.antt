@@ -35,7 +35,12 @@ mul-word c = search needs
 
 shared-slice-read-word : tie.Need-shared-slice-read-word Inv-loop μ-loop
 shared-slice-read-word c =
-    omega (arith, c .before .wide-byte .ensures .0, c .before .before .before .before .before .before .before .before .pre .0 .inside (c .before .before .before .before .loop .k) (omega arith))
+    omega (
+      arith,
+      c .before .wide-byte .ensures .0,
+      c .before .before .before .before .before .before .before .before .pre .0 .inside
+          (c .before .before .before .before .loop .k) (omega arith),
+    )
 
 element-write-variables : tie.Need-element-write-variables Inv-loop μ-loop
 element-write-variables c = search needs
@@ -52,7 +57,9 @@ loop-less c = search needs
 loop-again : tie.Need-loop-again Inv-loop μ-loop
 loop-again c = (
   omega arith,
-  split-variable (c .before .before .before .before .before .loop .inv .1) (c .before .before .before .before .before .before .before .before .before .pre .0) (omega arith) (rw (c .before .before .wide-byte .ensures .0) at (c .if1 .taken)),
+  split-variable (c .before .before .before .before .before .loop .inv .1)
+      (c .before .before .before .before .before .before .before .before .before .pre .0) (omega arith)
+      (rw (c .before .before .wide-byte .ensures .0) at (c .if1 .taken)),
 )
 
 precedence-requires-2 : tie.Need-precedence-requires-2 Inv-loop μ-loop
@@ -73,8 +80,15 @@ loop-less-2 c = search needs
 loop-again-2 : tie.Need-loop-again-2 Inv-loop μ-loop
 loop-again-2 c = (
   omega arith,
-  split-above (c .before .before .before .before .before .before .before .loop .inv .1) (c .before .before .before .before .before .before .before .before .before .before .before .pre .0) (omega arith) (rw (c .before .before .before .before .wide-byte .ensures .0) at (c .before .before .if1 .left))
-      (rw (c .before .before .before .before .before .before .before .before .precedence .ensures, c .before .precedence2 .ensures, c .before .before .before .before .wide-byte .ensures .0) at (c .if2 .taken)),
+  split-above (c .before .before .before .before .before .before .before .loop .inv .1)
+      (c .before .before .before .before .before .before .before .before .before .before .before .pre .0) (omega arith)
+      (rw (c .before .before .before .before .wide-byte .ensures .0) at (c .before .before .if1 .left))
+      (rw (
+        c .before .before .before .before .before .before .before .before .precedence .ensures,
+        c .before .precedence2 .ensures,
+        c .before .before .before .before .wide-byte .ensures .0,
+      ) at
+      (c .if2 .taken)),
 )
 
 element-write-below : tie.Need-element-write-below Inv-loop μ-loop
@@ -92,8 +106,16 @@ loop-less-3 c = search needs
 loop-again-3 : tie.Need-loop-again-3 Inv-loop μ-loop
 loop-again-3 c = (
   omega arith,
-  split-below (c .before .before .before .before .before .before .before .before .loop .inv .1) (c .before .before .before .before .before .before .before .before .before .before .before .before .pre .0) (omega arith) (rw (c .before .before .before .before .before .wide-byte .ensures .0) at (c .before .before .before .if1 .left))
-      (rw (c .before .before .before .before .before .before .before .before .before .precedence .ensures, c .before .before .precedence2 .ensures, c .before .before .before .before .before .wide-byte .ensures .0) at (c .if3 .taken)),
+  split-below (c .before .before .before .before .before .before .before .before .loop .inv .1)
+      (c .before .before .before .before .before .before .before .before .before .before .before .before .pre .0)
+      (omega arith) (rw (c .before .before .before .before .before .wide-byte .ensures .0) at
+      (c .before .before .before .if1 .left))
+      (rw (
+        c .before .before .before .before .before .before .before .before .before .precedence .ensures,
+        c .before .before .precedence2 .ensures,
+        c .before .before .before .before .before .wide-byte .ensures .0,
+      ) at
+      (c .if3 .taken)),
 )
 
 add-k-4 : tie.Need-add-k-4 Inv-loop μ-loop
@@ -105,13 +127,27 @@ loop-less-4 c = search needs
 loop-again-4 : tie.Need-loop-again-4 Inv-loop μ-loop
 loop-again-4 c = (
   omega arith,
-  split-level (c .before .before .before .before .before .before .before .before .loop .inv .1) (c .before .before .before .before .before .before .before .before .before .before .before .before .pre .0) (omega arith) (rw (c .before .before .before .before .before .wide-byte .ensures .0) at (c .before .before .before .if1 .left))
-      (rw (c .before .before .before .before .before .before .before .before .before .precedence .ensures, c .before .before .precedence2 .ensures, c .before .before .before .before .before .wide-byte .ensures .0) at (c .if3 .left))
-      (rw (c .before .before .before .before .before .before .before .before .before .precedence .ensures, c .before .before .precedence2 .ensures, c .before .before .before .before .before .wide-byte .ensures .0) at (c .before .if2 .left)),
+  split-level (c .before .before .before .before .before .before .before .before .loop .inv .1)
+      (c .before .before .before .before .before .before .before .before .before .before .before .before .pre .0)
+      (omega arith) (rw (c .before .before .before .before .before .wide-byte .ensures .0) at
+      (c .before .before .before .if1 .left))
+      (rw (
+        c .before .before .before .before .before .before .before .before .before .precedence .ensures,
+        c .before .before .precedence2 .ensures,
+        c .before .before .before .before .before .wide-byte .ensures .0,
+      ) at
+      (c .if3 .left))
+      (rw (
+        c .before .before .before .before .before .before .before .before .before .precedence .ensures,
+        c .before .before .precedence2 .ensures,
+        c .before .before .before .before .before .wide-byte .ensures .0,
+      ) at
+      (c .before .if2 .left)),
 )
 
 returns : tie.Need-returns Inv-loop μ-loop
-returns c = let d : c .before .loop .k ≡ c .before .before .before .before .before .args .m = omega arith in rw (← d) (c .before .loop .inv .1 .parted)
+returns c = let d : c .before .loop .k ≡ c .before .before .before .before .before .args .m = omega arith in rw (← d)
+    (c .before .loop .inv .1 .parted)
 
 pub split-spec : {M : Type 1} → statement M
 split-spec =

@@ -21,7 +21,8 @@ returns : tie.Need-returns Inv-loop μ-loop
 returns c = let l = c .before .before .loop in sym (within-zero (l .n) (l .a) (l .b) (c .if1 .taken)) ∙ l .inv
 
 returns-2 : tie.Need-returns-2 Inv-loop μ-loop
-returns-2 c = let l = c .before .before .before .loop in sym (within-not (l .n) (l .a) (l .b) (omega arith) (c .if2 .taken)) ∙ l .inv
+returns-2 c = let l = c .before .before .before .loop in sym
+    (within-not (l .n) (l .a) (l .b) (omega arith) (c .if2 .taken)) ∙ l .inv
 
 sub-n : tie.Need-sub-n Inv-loop μ-loop
 sub-n c = search needs
@@ -30,7 +31,8 @@ loop-less : tie.Need-loop-less Inv-loop μ-loop
 loop-less c = search needs
 
 loop-again : tie.Need-loop-again Inv-loop μ-loop
-loop-again c = let l = c .before .before .before .loop in within-more (l .n) (l .a) (l .b) (omega arith) (c .if2 .left) ∙ l .inv
+loop-again c = let l = c .before .before .before .loop in within-more (l .n) (l .a) (l .b) (omega arith) (c .if2 .left)
+    ∙ l .inv
 
 returns-3 : tie.Need-returns-3 Inv-loop μ-loop
 returns-3 c = let l = c .before .loop in sym (within-none (l .n) (l .a) (l .b) (omega arith)) ∙ l .inv

@@ -19,11 +19,17 @@ power-requires c κs = search needs
 returns-2 : tie.Need-returns-2
 returns-2 c =
     let a = c .before .before .before .args in
-    let e : a .first + (a .x - a .first) ≡ a .x = omega arith in
-    (c .power .ensures .0 ∙ sym (place-at 8 (a .first) (a .x - a .first) (omega arith)) ∙ ap (digit (a .first) 8) e, omega arith)
+    let e : a .first + (a .x - a .first) ≡ a .x = omega arith in (
+      c .power .ensures .0 ∙ sym (place-at 8 (a .first) (a .x - a .first) (omega arith)) ∙ ap (digit (a .first) 8) e,
+      omega arith,
+    )
 
 returns-3 : tie.Need-returns-3
-returns-3 c = (sym (place-past (c .before .before .args .first) 8 (c .before .before .args .x) (omega arith)), omega arith)
+returns-3 c = (
+  sym (place-past (c .before .before .args .first) 8 (c .before .before .args .x) (omega arith)),
+  omega
+      arith,
+)
 
 pub place-spec : {M : Type 1} → statement M
 place-spec = tie.close (tie.spec returns power-requires returns-2 returns-3)

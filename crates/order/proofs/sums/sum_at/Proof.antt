@@ -36,13 +36,24 @@ mul-result-4 c = search needs
 
 element-copy-out-result-2 : tie.Need-element-copy-out-result-2
 element-copy-out-result-2 c =
-    omega (arith, part-fits (c .before .before .before .before .pre .0) (c .before .before .before .before .args .i) (c .before .before .before .before .pre .1 .1 .1), c .before .size-at .ensures .0, c .before .before .before .before .pre .1 .0 .room, c .before .before .before .before .pre .0 .short)
+    omega (
+      arith,
+      part-fits (c .before .before .before .before .pre .0) (c .before .before .before .before .args .i)
+          (c .before .before .before .before .pre .1 .1 .1),
+      c .before .size-at .ensures .0,
+      c .before .before .before .before .pre .1 .0 .room,
+      c .before .before .before .before .pre .0 .short,
+    )
 
 sub-result : tie.Need-sub-result
-sub-result c = part-sum (c .before .before .before .before .before .pre .0) (c .before .before .before .before .before .args .i) (c .before .before .before .before .before .pre .1 .1 .1) (c .before .before .before .before .before .pre .1 .0) (c .before .before .size-at .ensures .0) .0
+sub-result c = part-sum (c .before .before .before .before .before .pre .0)
+    (c .before .before .before .before .before .args .i) (c .before .before .before .before .before .pre .1 .1 .1)
+    (c .before .before .before .before .before .pre .1 .0) (c .before .before .size-at .ensures .0) .0
 
 returns : tie.Need-returns
-returns c = part-sum (c .before .before .before .before .before .pre .0) (c .before .before .before .before .before .args .i) (c .before .before .before .before .before .pre .1 .1 .1) (c .before .before .before .before .before .pre .1 .0) (c .before .before .size-at .ensures .0) .1
+returns c = part-sum (c .before .before .before .before .before .pre .0)
+    (c .before .before .before .before .before .args .i) (c .before .before .before .before .before .pre .1 .1 .1)
+    (c .before .before .before .before .before .pre .1 .0) (c .before .before .size-at .ensures .0) .1
 
 pub sum-at-spec : {M : Type 1} → statement M
 sum-at-spec =

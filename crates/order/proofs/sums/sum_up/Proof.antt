@@ -32,10 +32,12 @@ loop-holds c =
     let T = totalled-none σ (a .words .now) in
     let n = length (a .words .now) in (
       omega arith,
-      rw (c .put-sums .ensures) (stored-room (a .sums .now) n _ (omega arith) (c .before .before .before .before .pre .1)),
+      rw (c .put-sums .ensures) (stored-room (a .sums .now) n _ (omega arith)
+          (c .before .before .before .before .pre .1)),
       T,
       record { weight = omega arith; low = omega arith; high = omega arith },
-      rw (c .put-sums .ensures) (stored-from (a .sums .now) n _ (omega arith) (c .before .before .before .before .pre .1) σ (a .words .now) (c .before .before .before .before .pre .0) T
+      rw (c .put-sums .ensures) (stored-from (a .sums .now) n _ (omega arith)
+          (c .before .before .before .before .pre .1) σ (a .words .now) (c .before .before .before .before .pre .0) T
           λ kind l k p q. absurd (omega arith)),
     )
 
@@ -68,7 +70,8 @@ loop-again c =
       rw (c .put-sums2 .ensures) (stored-room (l .sums) (l .i - 1) _ (omega arith) (l .inv .1)),
       T,
       bounded-more (omega arith) (more .1 (length (a .words .now) - l .i) (l .inv .3)),
-      rw (c .put-sums2 .ensures) (stored-from (l .sums) (l .i - 1) _ (omega arith) (l .inv .1) σ (a .words .now) (c .before .before .before .before .before .before .before .before .before .before .pre .0) T
+      rw (c .put-sums2 .ensures) (stored-from (l .sums) (l .i - 1) _ (omega arith) (l .inv .1) σ (a .words .now)
+          (c .before .before .before .before .before .before .before .before .before .before .pre .0) T
           λ kind p k q. l .inv .4 kind p k (omega arith)),
     )
 

@@ -48,7 +48,8 @@ loop-again c =
     let l = c .before .before .before .loop in
     let more = c .with-node .ensures in (
       omega arith,
-      totalled-more (signatureOf (a .table .now)) (a .words .now) (l .i) (l .here) _ (omega arith) (l .inv .0) (l .inv .1) (more .0),
+      totalled-more (signatureOf (a .table .now)) (a .words .now) (l .i) (l .here) _ (omega arith) (l .inv .0)
+          (l .inv .1) (more .0),
       bounded-more (omega arith) (more .1 (length (a .words .now) - l .i) (l .inv .2)),
     )
 

@@ -1,7 +1,7 @@
 /* The four operations of libackbo.a, for C. Each is proved, for every input, to reply and to leave the lent memory as
-   its definition says (crates/format/specs/Operations.antt, crates/comparing/specs/Comparing.antt,
-   crates/marking/specs/Marking.antt); the caller owes valid pointers and lengths, and nothing else. A pointer
-   is not NULL, even where its length is 0.
+   its definition says (crates/ackbo/specs/Boundary.antt, over crates/format/specs/Operations.antt,
+   crates/comparing/specs/Comparing.antt and crates/marking/specs/Marking.antt); the caller owes valid pointers and
+   lengths, and nothing else. A pointer is not NULL, even where its length is 0.
 
    The result is 0, or the number of the refusal, 1 to 16. reply has room for three numbers: of a refusal the input at
    fault (0 the first), the place (a bit of a book, a word of a sheet or a term, from 0), and 0. A refused call changes

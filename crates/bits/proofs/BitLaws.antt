@@ -4,13 +4,13 @@
 --     field-three          the bits of a field, spelt from the three bytes
 --     field-two, field-one, field-last   a node's nine bits from two bytes or one, the last bits of a byte
 --     spelt-lt, spelt-add  a field is below 2 to its width; a field of m + n bits is one of m bits and one of n bits
-use mathlib.Core.Path.{_≡_, refl, sym, ap, _∙_}
+use mathlib.Core.Path.{_≡_, sym, ap, _∙_}
 use mathlib.Core.List.{List}
 use Prim.Native.Nat.{ℕ, zero, suc, _+_, _*_, _-_, _/_, _%_, _^_, _≤_, _<_}
 use native.Mathlib.Nat.{mod-one, pow-suc, one-mul, mod-lt, lt-of-lt-of-le, mul-assoc, mul-add-mod-self-right}
 use native.Mathlib.Nat.{add-zero, add-suc, add-assoc}
 use native.Mathlib.Omega.{arith}
-use lib.ListN.{length, getD}
+use lib.ListN.{getD}
 use lib.Pow.{pow-add, pow-pos, pow-mono, shl-exact, shr-shr, field, mod-pow-add}
 use lib.Arith.{digits-lt}
 use lib.Dec.{lit<}

@@ -3,7 +3,7 @@
 --     field-lt, field-next          a field that was read is below 2 to its width, and ends that much further on
 --     node-got, node-cut, node-none a node from nine bits, one whose number does not fit, one that has no tag
 --     node-lt                       a node that was read begins before the end
-use mathlib.Core.Path.{_≡_, refl, sym, ap, _∙_}
+use mathlib.Core.Path.{_≡_, sym, _∙_}
 use mathlib.Core.List.{List}
 use mathlib.Core.Bool.{Bool, true, false, cond}
 use Prim.Native.Nat.{ℕ, _+_, _*_, _-_, _/_, _^_, _≤_, _<_}
@@ -14,7 +14,7 @@ use lib.Dec.{leb}
 use borrow.Author.Tests.{le-leb, lt-leb, lt-ltb, le-ltb}
 use Rattle.format.specs.Errors.{fieldMissing}
 use Rattle.multisets.proofs.Relations.{byOrder}
-use Rattle.format.specs.Reading.{Reading, Node, spelt, bitAt, bitField, bitSource}
+use Rattle.format.specs.Reading.{Node, spelt, bitAt, bitField, bitSource}
 use Rattle.format.specs.Reading.Reading.{got, fault}
 use Rattle.bits.specs.Cursor.{nodeWidth, nodeWord}
 use Rattle.bits.proofs.BitLaws.{spelt-lt, spelt-add}

@@ -13,7 +13,6 @@ use Rattle.format.specs.Layout.{tagWidth}
 use Rattle.format.specs.Reading.{Reading, Source, spelt, bitAt}
 use Rattle.format.specs.Reading as reading
 use Rattle.format.specs.Reading.Reading.{got, fault}
-use Rattle.bits.specs.declared.BitCursor.{BitCursor}
 use Rattle.bits.specs.declared.Field.{Field}
 use Rattle.bits.specs.declared.Field.the-variants.{Got, Missing}
 use Rattle.bits.specs.declared.Node.{Node}

@@ -2,7 +2,6 @@
 --     accepted-counts    the output has as many
 use mathlib.Core.List.{List}
 use mathlib.Core.Path.{_≡_, sym}
-use mathlib.Core.Bool.{true, false}
 use Prim.Native.Nat.{ℕ, _≤_}
 use native.Mathlib.Omega.{arith}
 use lib.ListN.{length}

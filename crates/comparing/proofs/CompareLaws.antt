@@ -3,8 +3,7 @@
 --     left-fault, left-read, right-fault, right-read, book-fault, book-read     the replies
 --     numbered-relation, terms-read     the relation of a number is that of the terms
 use mathlib.Core.List.{List}
-use mathlib.Core.Path.{_≡_, refl, sym, ap, _∙_}
-use mathlib.Core.Bool.{true, false}
+use mathlib.Core.Path.{_≡_, sym, ap, _∙_}
 use Prim.Native.Nat.{ℕ, _+_, _*_, _≤_}
 use native.Mathlib.Omega.{arith}
 use lib.IntN.{ℤ}

@@ -4,14 +4,14 @@
 --     stored-file          the words of a file, stored in three parts
 --     decode-fault, decode-short, decode-written   the reply and the words afterwards
 use mathlib.Core.Path.{_≡_, refl, sym, ap, _∙_}
-use mathlib.Core.List.{List, [], _∷_, _++_, append-assoc, append-nil, map}
-use Prim.Native.Nat.{ℕ, suc, zero, _+_, _-_, _*_, _/_, _≤_, _<_}
+use mathlib.Core.List.{List, [], _∷_, _++_, map}
+use Prim.Native.Nat.{ℕ, suc, _+_, _-_, _*_, _≤_, _<_}
 use mathlib.Core.Bool.{false}
 use native.Mathlib.Numerals.{add-one}
 use native.Mathlib.Omega.{arith}
 use native.Mathlib.Nat.{zero-add}
 use borrow.Author.Tests.{lt-leb, le-leb}
-use lib.ListN.{length, length-append, getD, take, drop, set}
+use lib.ListN.{length, take, drop, set}
 use lib.Seq.{sets, sets-eq, take-suc, length-take-le}
 use Rattle.terms.specs.Signature.{Symbol, Signature, symbolOf}
 use Rattle.format.specs.Errors.{wordsTooShort}

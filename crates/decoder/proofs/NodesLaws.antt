@@ -4,8 +4,7 @@
 --     nodes-step, nodes-missing  the first of some nodes
 --     RestRead                   what a loop has yet to store; rest-all, rest-none, rest-missing, rest-more
 use mathlib.Core.Path.{_≡_, refl, sym, ap, _∙_}
-use mathlib.Core.List.{List, [], _∷_, _++_, append-assoc}
-use mathlib.Core.Bool.{true, false}
+use mathlib.Core.List.{List, [], _∷_, _++_}
 use Prim.Native.Nat.{ℕ, suc, zero, _+_, _-_, _≤_, _<_}
 use native.Mathlib.Omega.{arith}
 use native.Mathlib.Numerals.{add-one}
@@ -15,7 +14,7 @@ use Rattle.multisets.proofs.Relations.{byOrder}
 use Rattle.terms.specs.Signature.{Signature, symbolOf}
 use Rattle.terms.specs.Words.{firstVariable}
 use Rattle.format.specs.Layout.{maxNodes}
-use Rattle.format.specs.Reading.{Reading, andThen, give, Node, Source}
+use Rattle.format.specs.Reading.{Reading, andThen, Node, Source}
 use Rattle.format.specs.Reading.Reading.{got, fault}
 use Rattle.format.specs.Format.{Sides, forestReader, rulesReader}
 use Rattle.format.proofs.ForestLaws.{

@@ -3,15 +3,12 @@
 -- place",
 -- "Reply: words written"; "Book layout": "A sheet holds the same fields in the same order, a 16-bit word each".
 use mathlib.Core.Path.{_≡_}
-use mathlib.Core.List.{List, [], _∷_, _++_, map}
+use mathlib.Core.List.{List, [], _∷_}
 use Prim.Native.Nat.{ℕ}
-use Rattle.terms.specs.Signature.{Symbol}
 use Rattle.format.specs.Reading.{Source, Node}
 use Rattle.format.specs.Reading.Reading.{got}
-use Rattle.format.specs.Packing.{itemWord, symbolItems}
 use Rattle.format.specs.Replies.{Reply}
 use Rattle.format.specs.Replies.Reply.{accepted, refused}
-use Rattle.decoder.specs.declared.Error.{Error}
 use Rattle.decoder.specs.declared.DecodeReply.{DecodeReply}
 use Rattle.decoder.specs.declared.DecodeReply.the-variants.{Accepted, Refused}
 

@@ -14,7 +14,7 @@ use lib.Dec.{ltb}
 use borrow.Author.Tests.{lt-ltb, le-ltb}
 use Rattle.multisets.proofs.Relations.{byTest, byOrder}
 use Rattle.format.specs.Packing.{bitsOf, itemBits}
-use Rattle.format.specs.Packing.Item.{field, node}
+use Rattle.format.specs.Packing.Item.{node}
 use Rattle.files.proofs.ItemsLaws.{flat-append, items-add}
 use Rattle.files.specs.Items.{fieldWidth, itemAt, itemsFrom}
 use Rattle.encoder.specs.Items.{bitsTo}

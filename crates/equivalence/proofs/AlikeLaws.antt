@@ -3,16 +3,16 @@
 --     rows-none, -unlike, -more                     the arguments in their order
 --     cancelled-none, -own, -absent, -more          a flattening against a list
 --     Going, RowGoing                               the invariants of the scans
-use mathlib.Core.List.{List, [], _∷_, map}
+use mathlib.Core.List.{List}
 use mathlib.Core.Path.{_≡_, refl, sym, ap, ap₂, _∙_}
 use mathlib.Core.Bool.{Bool, true, false, _&&_, false≢true}
-use Prim.Native.Nat.{ℕ, suc, zero, _+_, _-_, _≤_, _<_}
+use Prim.Native.Nat.{ℕ, suc, _+_, _-_, _≤_, _<_}
 use native.Mathlib.Omega.{arith}
 use lib.Dec.{eqb}
 use lib.ListN.{length, getD, take, List·getD-eq-default}
 use borrow.Author.Tests.{ne-eqb}
 use Rattle.terms.specs.Signature.{Symbol, Signature, symbolOf}
-use Rattle.terms.specs.Term.{Term, Terms, size, sizes}
+use Rattle.terms.specs.Term.{Terms, size, sizes}
 use Rattle.terms.specs.Term.Term.{var, app}
 use Rattle.terms.specs.Words.{firstVariable}
 use Rattle.multisets.specs.Multiset.{rowEqual, multisetEqual}

@@ -2,10 +2,9 @@
 --     elements-few                     an AC symbol's flattening has at most 64 elements
 --     Listing                          what is listed and what is ahead make up the whole
 --     listing-own, listing-other       one step of the scan
-use mathlib.Core.List.{List, [], _∷_, _++_, append-assoc, append-nil}
-use mathlib.Core.Path.{_≡_, refl, sym, ap, _∙_}
-use mathlib.Core.Bool.{Bool, true, false, cond}
-use Prim.Native.Nat.{ℕ, suc, zero, _+_, _-_, _*_, _≤_, _<_}
+use mathlib.Core.List.{List, _∷_, _++_, append-assoc, append-nil}
+use mathlib.Core.Path.{_≡_, refl, ap}
+use Prim.Native.Nat.{ℕ, _+_, _-_, _*_, _≤_, _<_}
 use native.Mathlib.Omega.{arith}
 use lib.Dec.{eqb}
 use lib.ListN.{length, getD, set, length-append}
@@ -23,7 +22,7 @@ use Rattle.equivalence.specs.Offsets.{Offsets, termsAt}
 use Rattle.equivalence.proofs.PartLaws.{symbol}
 use Rattle.equivalence.proofs.FormedLaws.{part-formed}
 use Rattle.equivalence.proofs.OffsetLaws.{offset-added, offsets-length}
-use Rattle.equivalence.proofs.StepLaws.{elements-own, elements-other, prepared-size, part-small, step-some}
+use Rattle.equivalence.proofs.StepLaws.{elements-own, elements-other, prepared-size, part-small}
 use Rattle.equivalence.proofs.StepLaws.{step-next}
 use Rattle.equivalence.proofs.StepLaws.{step-own}
 

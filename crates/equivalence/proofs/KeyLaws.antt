@@ -2,22 +2,20 @@
 --     hash-resp-equivalent, key-of-equivalent   AC-equivalent terms have one hash, and one key
 --     key-size, key-hash                        what a key tells
 --     hashAfter-parts                           the hash by the keys of the arguments
-use mathlib.Core.List.{List, [], _∷_}
-use mathlib.Core.Path.{_≡_, refl, sym, ap, _∙_}
-use mathlib.Core.Bool.{Bool, true, false, cond}
-use Prim.Native.Nat.{ℕ, suc, zero, _+_, _*_, _/_, _%_, _≤_, _<_}
+use mathlib.Core.Path.{_≡_, refl, sym, _∙_}
+use mathlib.Core.Bool.{true, cond}
+use Prim.Native.Nat.{ℕ, _+_, _%_}
 use native.Mathlib.Omega.{arith}
 use native.Mathlib.Nat.{add-assoc, zero-add}
 use lib.Dec.{eqb}
 use Rattle.terms.specs.Signature.{Signature, symbolOf}
-use Rattle.terms.specs.Term.{Term, Terms, size, rootOf}
-use Rattle.terms.specs.Term.Term.{var, app}
-use Rattle.terms.specs.Term.Terms.{nil, cons}
+use Rattle.terms.specs.Term.{Term, Terms}
+use Rattle.terms.specs.Term.Term.{app}
 use Rattle.terms.specs.Equivalence.{Equivalent, Equivalents, pair}
 use Rattle.terms.specs.Equivalence.Equivalent.{same, back, then, under, exchange, regroup}
 use Rattle.terms.specs.Equivalence.Equivalents.{none, each}
 use Rattle.terms.proofs.EquivalenceMeasures.{measure-resp-equivalent}
-use Rattle.multisets.proofs.Relations.{byTest, eqb-self}
+use Rattle.multisets.proofs.Relations.{eqb-self}
 use Rattle.equivalence.specs.Keys.{rootWord, mixed, added, hash, hashes, keyOf}
 
 -- ---- AC-equivalent terms

@@ -1,20 +1,20 @@
 -- Preparing words: the key at an offset from the keys to its right.
 --     offset-more, hash-more     one argument more is gathered
 --     keyed-step                 the key at one offset more
-use mathlib.Core.List.{List, [], _∷_}
+use mathlib.Core.List.{List}
 use mathlib.Core.Bool.{Bool}
 use mathlib.Core.Path.{_≡_, refl, sym, ap, _∙_}
-use Prim.Native.Nat.{ℕ, suc, zero, _+_, _-_, _*_, _/_, _%_, _≤_, _<_}
+use Prim.Native.Nat.{ℕ, suc, zero, _+_, _-_, _*_, _/_, _≤_, _<_}
 use native.Mathlib.Omega.{arith}
-use lib.ListN.{length, getD, take, drop, set, length-drop, List·getD-eq-default}
+use lib.ListN.{length, getD, set, List·getD-eq-default}
 use lib.Seq.{getD-set-same, getD-set-other}
 use Rattle.multisets.proofs.Relations.{byOrder}
 use Rattle.terms.specs.Signature.{Symbol, Signature, symbolOf}
-use Rattle.terms.specs.Term.{Term, size, arguments}
+use Rattle.terms.specs.Term.{size, arguments}
 use Rattle.symbols.specs.Table.{signatureOf}
 use Rattle.symbols.proofs.TableLaws.{few-at}
 use Rattle.equivalence.specs.Parts.{partAt, partsAt, Stand, Complete}
-use Rattle.equivalence.specs.Keys.{rootWord, added, hash, hashes, keyOf, KeyedFrom, Prepared, sizeIn, offsetAfter}
+use Rattle.equivalence.specs.Keys.{added, hash, hashes, KeyedFrom, sizeIn, offsetAfter}
 use Rattle.equivalence.specs.Keys.{hashAfter}
 use Rattle.equivalence.proofs.PartLaws.{total, inside, next-parts, next-stand, variable, symbol, inner-stand}
 use Rattle.equivalence.proofs.StepLaws.{part-root, part-small, keyed-size, keyed-hash}

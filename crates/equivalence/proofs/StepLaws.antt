@@ -5,17 +5,17 @@
 --     step-some, step-next, step-own                  where the next terms stand
 use mathlib.Core.List.{List, [], _∷_}
 use mathlib.Core.Logic.{inl, inr}
-use mathlib.Core.Path.{_≡_, refl, sym, ap, _∙_}
-use Prim.Native.Nat.{ℕ, suc, zero, _+_, _-_, _*_, _/_, _%_, _≤_, _<_}
+use mathlib.Core.Path.{_≡_, ap, _∙_}
+use Prim.Native.Nat.{ℕ, suc, zero, _+_, _-_, _/_, _≤_, _<_}
 use native.Mathlib.Omega.{arith}
-use lib.ListN.{length, getD, take, drop}
+use lib.ListN.{length, getD, take}
 use lib.Seq.{drop-cons}
 use Rattle.multisets.proofs.Relations.{byOrder}
 use Rattle.terms.specs.Signature.{Signature, symbolOf}
 use Rattle.terms.specs.Term.{Term, size}
 use Rattle.terms.proofs.TermLaws.{size-pos}
-use Rattle.equivalence.specs.Parts.{partAt, partsAt, elementsAt, IsNode, Stand, Stands, Complete}
-use Rattle.equivalence.specs.Keys.{rootWord, hash, keyOf, KeyedFrom, Prepared, sizeIn}
+use Rattle.equivalence.specs.Parts.{partAt, partsAt, elementsAt, IsNode, Stands, Complete}
+use Rattle.equivalence.specs.Keys.{rootWord, hash, keyOf, Prepared, sizeIn}
 use Rattle.equivalence.proofs.PartLaws.{total, complete-drop, next-parts, next-stand, variable, symbol}
 use Rattle.equivalence.proofs.PartLaws.{stand-one}
 use Rattle.equivalence.proofs.PartLaws.{inner-stand, own-stand, own-elements, other-elements, stands, size-fits}

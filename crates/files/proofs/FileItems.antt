@@ -5,28 +5,27 @@
 --     file-items          the whole file
 use mathlib.Core.List.{List, [], _∷_, _++_, map, flatMap, append-assoc, append-nil}
 use mathlib.Core.Path.{_≡_, refl, sym, ap, _∙_}
-use mathlib.Core.Bool.{Bool, true, false, cond}
+use mathlib.Core.Bool.{true, cond}
 use Prim.Native.Nat.{ℕ, suc, zero, _+_, _-_, _*_, _%_, _≤_, _<_}
 use native.Mathlib.Nat.{add-zero, zero-add}
-use native.Mathlib.Numerals.{add-one}
 use native.Mathlib.Omega.{arith}
 use lib.ListN.{length, getD, take, drop, length-append}
 use lib.Seq.{drop-cons}
 use lib.Dec.{eqb, ltb}
-use borrow.Author.Tests.{lt-ltb, le-ltb, eq-eqb, ne-eqb}
+use borrow.Author.Tests.{lt-ltb, le-ltb}
 use Rattle.terms.specs.Signature.{Symbol, Signature}
 use Rattle.format.specs.Layout.{maxNodes}
 use Rattle.format.specs.Reading.{Reading, wordSource}
 use Rattle.format.specs.Reading.Reading.{got, fault}
 use Rattle.format.specs.Format.{Sides, RuleFile, forestReader, rulesReader, symbolReader, symbolsReader}
-use Rattle.format.specs.Packing.{Item, items, itemBits, ruleItems, symbolItems}
+use Rattle.format.specs.Packing.{Item, items, ruleItems, symbolItems}
 use Rattle.format.specs.Packing.Item.{field, node}
 use Rattle.format.proofs.ForestLaws.{forest-short}
-use Rattle.files.specs.Items.{fieldWidth, itemAt, itemsFrom}
+use Rattle.files.specs.Items.{itemAt, itemsFrom}
 use Rattle.files.specs.File.{HeaderAt}
 use Rattle.words.proofs.WordLaws.{on-read}
 use Rattle.words.proofs.TermLaws.{Front, forest-front}
-use Rattle.files.proofs.SymbolLaws.{SymbolAt, symbolWords, symbol-facts}
+use Rattle.files.proofs.SymbolLaws.{SymbolAt, symbol-facts}
 use Rattle.files.proofs.ItemsLaws.{items-add, flat-append}
 
 module _ (words : List ℕ) (nodes : ℕ) where

@@ -4,24 +4,21 @@
 --     body-symbols, body-rules, body-left, body-done    what follows a header, by how far it can be read
 use mathlib.Core.List.{List, [], _∷_}
 use mathlib.Core.Path.{_≡_, refl, sym, ap, _∙_}
-use mathlib.Core.Bool.{Bool, true, false, cond}
 use Prim.Native.Nat.{ℕ, suc, zero, _+_, _-_, _*_, _/_, _≤_, _<_}
 use native.Mathlib.Omega.{arith}
-use lib.ListN.{length, getD, take, drop, length-take, length-drop}
+use lib.ListN.{length, getD, take, drop, length-drop}
 use lib.Seq.{getD-take, length-take-le}
-use lib.Dec.{eqb}
 use borrow.Author.Tests.{eq-eqb, ne-eqb, lt-ltb}
-use Rattle.terms.specs.Signature.{Symbol, Signature, symbolOf}
-use Rattle.terms.specs.Words.{firstVariable}
+use Rattle.terms.specs.Signature.{Symbol, Signature}
 use Rattle.format.specs.Layout.{maxNodes}
 use Rattle.format.specs.Reading.{Reading, Source, andThen, require, give, wordBelow, wordSource}
 use Rattle.format.specs.Reading.Reading.{got, fault}
-use Rattle.format.specs.Format.{Sides, RuleFile, forestReader, rulesReader, symbolsReader, fileReader}
+use Rattle.format.specs.Format.{Sides, forestReader, rulesReader, symbolsReader, fileReader}
 use Rattle.format.specs.Files.{endReader}
 use Rattle.format.proofs.ReadingLaws.{andThen-same}
 use Rattle.format.proofs.ForestLaws.{argumentCount, known}
 use Rattle.format.specs.Errors.{noSuchSymbol}
-use Rattle.symbols.specs.Table.{symbolAt, symbolsAt, signatureOf}
+use Rattle.symbols.specs.Table.{symbolsAt, signatureOf}
 use Rattle.words.specs.declared.cursor.WordCursor.{WordCursor}
 use Rattle.words.specs.declared.cursor.Passed.the-variants as passing
 use Rattle.files.specs.declared.file.FileReading.{FileReading}

@@ -4,13 +4,13 @@
 --     rules-more     some rules are one and then the others
 use mathlib.Core.List.{List}
 use mathlib.Core.Path.{_≡_, refl, sym, ap, _∙_}
-use Prim.Native.Nat.{ℕ, suc, zero, _-_, _<_}
+use Prim.Native.Nat.{ℕ, suc, _-_, _<_}
 use native.Mathlib.Omega.{arith}
 use Rattle.terms.specs.Signature.{Signature}
 use Rattle.format.specs.Layout.{maxNodes}
 use Rattle.format.specs.Reading.{Reading, Reader, Source, andThen, give}
 use Rattle.format.specs.Reading.Reading.{got, fault}
-use Rattle.format.specs.Format.{Sides, forestReader, rulesReader}
+use Rattle.format.specs.Format.{forestReader, rulesReader}
 use Rattle.words.specs.declared.cursor.WordCursor.{WordCursor}
 use Rattle.words.specs.declared.cursor.Passed.{Passed}
 use Rattle.words.specs.declared.cursor.Passed.the-variants as passing

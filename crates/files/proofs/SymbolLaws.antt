@@ -1,10 +1,10 @@
 -- Laws of reading symbols from words.
 --     symbol-got                       the words of a symbol that is read
 --     symbol-facts                     where they end, and its rank
-use mathlib.Core.List.{List, [], _∷_, _++_}
-use mathlib.Core.Path.{_≡_, refl, sym, ap, _∙_}
-use mathlib.Core.Bool.{Bool, true, false, _||_, not}
-use Prim.Native.Nat.{ℕ, suc, zero, _+_, _-_, _*_, _/_, _≤_, _<_}
+use mathlib.Core.List.{List}
+use mathlib.Core.Path.{_≡_, sym, ap, _∙_}
+use mathlib.Core.Bool.{true, false, _||_, not}
+use Prim.Native.Nat.{ℕ, _+_, _-_, _≤_, _<_}
 use native.Mathlib.Omega.{arith}
 use lib.ListN.{length, getD}
 use lib.Dec.{eqb, leb}
@@ -12,8 +12,7 @@ use borrow.Author.Tests.{le-leb}
 use Rattle.terms.specs.Signature.{Symbol, leastWeight}
 use Rattle.format.specs.Reading.{Reading, wordBelow, wordSource}
 use Rattle.format.specs.Reading.Reading.{got, fault}
-use Rattle.format.specs.Format.{heldBy, symbolReader, symbolsReader}
-use Rattle.symbols.specs.Table.{symbolAt, symbolsAt, signatureOf}
+use Rattle.format.specs.Format.{heldBy, symbolReader}
 use Rattle.words.proofs.WordLaws.{WordAt, word-read, on-read, on-required}
 
 -- ---- one symbol

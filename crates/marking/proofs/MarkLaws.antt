@@ -1,29 +1,26 @@
 -- What marking gives back, by what its bytes read as.
 --     table-of                               the table that reading leaves
 --     mark-fault, mark-short, mark-written     the ends of marking
-use mathlib.Core.List.{List, _++_}
-use mathlib.Core.Path.{_≡_, refl, sym, ap, _∙_}
+use mathlib.Core.List.{List}
+use mathlib.Core.Path.{_≡_, _∙_}
 use Prim.Native.Nat.{ℕ, _+_, _*_, _^_, _≤_, _<_}
 use native.Mathlib.Omega.{arith}
 use native.Mathlib.Nat.{zero-add}
-use lib.ListN.{length, take, drop, length-map, length-take}
+use lib.ListN.{length, take, length-map}
 use lib.Seq.{sets, sets-eq, length-take-le}
 use borrow.Author.Tests.{le-leb, lt-leb}
 use Rattle.multisets.proofs.Relations.{byOrder}
-use Rattle.terms.specs.Signature.{Admissible}
 use Rattle.format.specs.Errors.{fileTooLong, marksTooShort}
 use Rattle.format.specs.Layout.{maxBytes}
 use Rattle.format.specs.Reading.Reading.{got, fault}
 use Rattle.format.specs.Format.{RuleFile, systemOf}
 use Rattle.format.specs.Files.{readBytes}
-use Rattle.format.specs.Replies.{Reply}
 use Rattle.format.specs.Replies.Reply.{accepted, refused}
 use Rattle.format.specs.Statements.IsRead.{fromBytes}
 use Rattle.format.proofs.Theorems.{readable-admissible, faults-within}
-use Rattle.symbols.specs.Table.{signatureOf}
 use Rattle.reader.specs.File.{FileParts}
 use Rattle.marking.specs.Marking.{marksOf, decreasingCount, scoreOf, marked}
-use Rattle.marking.specs.Rule.{IsTable, sidesMarks}
+use Rattle.marking.specs.Rule.{IsTable}
 
 pub table-of : (bytes table : List ℕ) (file : RuleFile) (end symbols rules words offset : ℕ) → 1021 ≡ length table →
     readBytes bytes ≡ got file end → FileParts bytes table file symbols rules words offset →

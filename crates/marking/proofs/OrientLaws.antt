@@ -2,19 +2,17 @@
 --     side-term        a side that is read from bits is the words of a well-formed term
 --     whole-terms      two terms as the order asks them
 --     right-known, left-known, left-unread     what is known of a rule that is read
-use mathlib.Core.List.{List, map}
-use mathlib.Core.Path.{_≡_, refl, sym, ap, _∙_}
+use mathlib.Core.List.{List}
+use mathlib.Core.Path.{_≡_, sym, ap, _∙_}
 use Prim.Native.Nat.{ℕ}
 use native.Mathlib.Omega.{arith}
 use Rattle.terms.specs.Signature.{Signature}
-use Rattle.terms.specs.Term.{Term, WellFormed}
-use Rattle.terms.specs.Words.{words, termOf}
+use Rattle.terms.specs.Words.{termOf}
 use Rattle.format.specs.Layout.{maxNodes}
 use Rattle.format.specs.Reading.{Reading, Source, bitSource}
 use Rattle.format.specs.Reading.Reading.{got, fault}
 use Rattle.format.specs.Format.{Sides, forestReader}
 use Rattle.format.specs.Packing.{Item}
-use Rattle.format.specs.Packing.Item.{node}
 use Rattle.format.specs.Statements.{IsTerm}
 use Rattle.format.proofs.ReadingLaws.{holds-got}
 use Rattle.format.proofs.SpellingLaws.{AllFit, Spells}

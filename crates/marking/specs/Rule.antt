@@ -2,7 +2,7 @@
 -- Renders: 01, "Replies and refusals", Marking: "One mark byte a rule is written".
 use mathlib.Core.List.{List}
 use mathlib.Core.Path.{_≡_}
-use Prim.Native.Nat.{ℕ, _≤_, _<_, _^_}
+use Prim.Native.Nat.{ℕ, _≤_}
 use lib.ListN.{length}
 use Rattle.terms.specs.Signature.{Signature, Admissible}
 use Rattle.terms.specs.Term.{weight}

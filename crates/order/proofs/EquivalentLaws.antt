@@ -2,9 +2,9 @@
 --     rows-level, multisets-level, flattened-level    rows, multisets and flattenings that are equal
 --     root-level, mark-of-equivalent                  terms that are AC-equivalent
 use mathlib.Core.List.{List, [], _∷_, append-nil}
-use mathlib.Core.Path.{_≡_, refl, sym, ap, _∙_}
+use mathlib.Core.Path.{_≡_, refl, sym, _∙_}
 use mathlib.Core.Bool.{Bool, true, false, cond, false≢true, and-eq-true-iff as both}
-use Prim.Native.Nat.{ℕ, _≤_, _<_}
+use Prim.Native.Nat.{ℕ}
 use native.Mathlib.Omega.{arith}
 use lib.Dec.{eqb}
 use lib.ListN.{length}
@@ -14,14 +14,14 @@ use Rattle.multisets.proofs.Relations.{byTest, eqb-self}
 use Rattle.multisets.proofs.MultisetLaws.{Respects, multisetEqual-length}
 use Rattle.multisets.proofs.MultisetMaps.{multisetEqual-choose}
 use Rattle.terms.specs.Signature.{Signature, symbolOf, AcBinary}
-use Rattle.terms.specs.Term.{Term, Terms, row, weight, occurrences, isVar, variableCount, flattenings, WellFormed}
+use Rattle.terms.specs.Term.{Term, Terms, row, weight, isVar, variableCount, flattenings, WellFormed}
 use Rattle.terms.specs.Term.Term.{var, app}
 use Rattle.terms.specs.Equivalence.{Equivalent, isEquivalent}
 use Rattle.terms.specs.Order.{noneOftener, variables, rootAbove, rootBelow, highPart, lowPart, joinedHigh}
 use Rattle.terms.specs.Order.{flattenedMark}
 use Rattle.terms.specs.Order.{rootMark, decreasingMark, isGreater, mark}
 use Rattle.terms.proofs.EquivalenceLaws.{isEquivalent-equivalence, symbol-of-isEquivalent, arguments-of-isEquivalent}
-use Rattle.terms.proofs.EquivalenceMeasures.{root-resp-equivalent, measure-resp-equivalent}
+use Rattle.terms.proofs.EquivalenceMeasures.{measure-resp-equivalent}
 use Rattle.terms.proofs.EquivalenceSound.{isEquivalent→Equivalent}
 use Rattle.terms.proofs.OrderLaws.{noneOftener-facts}
 use Rattle.equivalence.proofs.AlikeLaws.{var-app, app-var}

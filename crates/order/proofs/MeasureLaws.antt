@@ -4,7 +4,7 @@
 --     elements-sum, chosen-sum           the elements of a flattening
 --     inner-total, next-total            the terms inside a term, and after it
 --     partNodes, rowNodes, offsetNodes   what falls
-use mathlib.Core.List.{List, [], _∷_, _++_, map}
+use mathlib.Core.List.{List, [], _∷_, map}
 use mathlib.Core.Path.{_≡_, refl, ap, _∙_}
 use mathlib.Core.Bool.{Bool, true, false, false≢true}
 use Prim.Native.Nat.{ℕ, suc, zero, _+_, _-_, _≤_, _<_}

@@ -2,8 +2,8 @@
 --     lex-none, lex-here, lex-more                                  rows of arguments
 --     root-left, -right, -above, -differ, -elements, -row, -none    the mark by the roots
 --     mark-step, mark-oftener, -heavier, -lighter, -root            the mark of two terms, 1 to 6 or 0
-use mathlib.Core.List.{List, [], _∷_}
-use mathlib.Core.Path.{_≡_, refl, sym, ap, ap₂, _∙_}
+use mathlib.Core.List.{List}
+use mathlib.Core.Path.{_≡_, refl, sym, ap₂, _∙_}
 use mathlib.Core.Bool.{Bool, true, false, cond}
 use Prim.Native.Nat.{ℕ, _+_, _-_, _≤_, _<_}
 use native.Mathlib.Omega.{arith}
@@ -13,7 +13,7 @@ use borrow.Author.Tests.{lt-ltb, le-ltb, eq-eqb, ne-eqb}
 use Rattle.multisets.specs.Multiset.{rowGreater}
 use Rattle.multisets.proofs.Relations.{byTest, eqb-self}
 use Rattle.terms.specs.Signature.{Signature, symbolOf}
-use Rattle.terms.specs.Term.{Term, size, arguments}
+use Rattle.terms.specs.Term.{size, arguments}
 use Rattle.terms.specs.Term.Term.{app}
 use Rattle.terms.specs.Equivalence.{isEquivalent}
 use Rattle.terms.specs.Order.{rootMark, decreasingMark, isGreater}

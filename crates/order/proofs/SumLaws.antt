@@ -5,16 +5,13 @@
 --     node-weight, -nothing, -variable, -low, -high     what a node adds
 use mathlib.Core.List.{List, [], _∷_, _++_}
 use mathlib.Core.Path.{_≡_, refl, sym, ap, _∙_}
-use mathlib.Core.Bool.{Bool, true, false, cond}
 use Prim.Native.Nat.{ℕ, suc, zero, _+_, _-_, _*_, _%_, _^_, _≤_, _<_}
 use native.Mathlib.Omega.{arith}
 use native.Mathlib.Nat.{pow-succ'}
-use native.Mathlib.Numerals.{add-one}
-use lib.Dec.{ltb, eqb}
-use lib.ListN.{length, getD, take, drop, set, take-append-drop, length-set}
-use lib.Seq.{drop-cons, drop-length, getD-set-same, getD-set-other}
+use lib.Dec.{ltb}
+use lib.ListN.{length, getD, take, drop, take-append-drop}
 use borrow.Author.Tests.{lt-ltb, le-ltb, eq-eqb, ne-eqb}
-use Rattle.multisets.proofs.Relations.{byTest, byOrder}
+use Rattle.multisets.proofs.Relations.{byTest}
 use Rattle.terms.specs.Signature.{Signature, symbolOf}
 use Rattle.terms.specs.Term.{Term, size, measure, measures, arguments}
 use Rattle.terms.specs.Words.{firstVariable, grow, forestOf}

@@ -11,7 +11,7 @@ use lib.Seq.{drop-cons, drop-length, getD-set-same, getD-set-other}
 use Rattle.multisets.proofs.Relations.{byOrder}
 use Rattle.terms.specs.Signature.{Signature}
 use Rattle.order.specs.declared.sums.Totals.{Totals}
-use Rattle.order.specs.Sums.{nodeSum, wordSum, Bounded, Added, Totalled, Summed}
+use Rattle.order.specs.Sums.{nodeSum, wordSum, Bounded, Added, Totalled}
 
 pub bounded-more : {m n : ℕ} {r : Totals} → m ≤ n → Bounded m r → Bounded n r
 bounded-more h b = record {

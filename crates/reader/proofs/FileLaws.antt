@@ -4,7 +4,7 @@
 --     unpacked-parts, unpacked-length              the words of a file
 --     symbols-fault, rules-fault, padding-fault, body-read    what follows a header
 use mathlib.Core.Path.{_≡_, refl, sym, ap, _∙_}
-use mathlib.Core.List.{List, [], _∷_, _++_, append-assoc, map, flatMap}
+use mathlib.Core.List.{List, [], _∷_, _++_, map, flatMap}
 use mathlib.Core.Bool.{true, false}
 use Prim.Native.Nat.{ℕ, suc, zero, _+_, _-_, _*_, _/_, _≤_, _<_}
 use native.Mathlib.Omega.{arith}
@@ -18,14 +18,14 @@ use Rattle.format.specs.Reading.Reading.{got, fault}
 use Rattle.format.specs.Format.{Sides, RuleFile, symbolsReader, rulesReader}
 use Rattle.format.specs.Files.{paddingReader}
 use Rattle.format.specs.Packing.{itemWord, symbolItems, ruleItems, items, unpacked}
-use Rattle.format.specs.Packing.Item.{field, node}
-use Rattle.symbols.specs.Table.{symbolAt, symbolsAt, signatureOf}
+use Rattle.format.specs.Packing.Item.{node}
+use Rattle.symbols.specs.Table.{symbolsAt, signatureOf}
 use Rattle.bits.specs.declared.BitCursor.{BitCursor}
 use Rattle.reader.specs.declared.rule.Stored.the-variants.{Past}
-use Rattle.reader.specs.declared.file.File.the-variants.{Read, Fault}
+use Rattle.reader.specs.declared.file.File.the-variants.{Read}
 use Rattle.bits.specs.Cursor.{isPadding}
-use Rattle.reader.specs.Rule.{WordsRead, ruleReader, sideWords, rulesWords}
-use Rattle.reader.specs.File.{bodyReader, FileParts, FileRead, symbolsWords}
+use Rattle.reader.specs.Rule.{WordsRead, ruleReader, rulesWords}
+use Rattle.reader.specs.File.{bodyReader, FileRead, symbolsWords}
 use Rattle.reader.proofs.SymbolLaws.{symbols-same}
 use Rattle.reader.proofs.TermLaws.{length-symbols}
 use Rattle.reader.proofs.RuleLaws.{rules-step}

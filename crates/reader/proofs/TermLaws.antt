@@ -19,7 +19,7 @@ use Rattle.multisets.proofs.Relations.{sameTest}
 use Rattle.terms.specs.Signature.{Signature, symbolOf}
 use Rattle.terms.specs.Words.{firstVariable}
 use Rattle.format.specs.Errors.{noSuchSymbol, tooManyNodes}
-use Rattle.format.specs.Reading.{Reading, Reader, andThen, give, Node, Source}
+use Rattle.format.specs.Reading.{Reader, Node, Source}
 use Rattle.format.specs.Reading.Reading.{got, fault}
 use Rattle.format.specs.Format.{forestReader}
 use Rattle.format.proofs.ReadingLaws.{andThen-give, andThen-assoc, andThen-same}

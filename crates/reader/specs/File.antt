@@ -12,7 +12,6 @@ use Rattle.format.specs.Files.{paddingReader}
 use Rattle.terms.specs.Signature.{Symbol}
 use Rattle.format.specs.Packing.{itemWord, symbolItems, unpacked}
 use Rattle.symbols.specs.Table.{signatureOf}
-use Rattle.bits.specs.declared.BitCursor.{BitCursor}
 use Rattle.reader.specs.declared.file.File.{File}
 use Rattle.reader.specs.declared.file.File.the-variants.{Read, Fault}
 

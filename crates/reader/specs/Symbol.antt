@@ -11,7 +11,6 @@ use Rattle.terms.specs.Signature.{Symbol}
 use Rattle.format.specs.Reading.{Reading, Reader}
 use Rattle.format.specs.Reading.Reading.{got, fault}
 use Rattle.format.specs.Format.{heldBy}
-use Rattle.bits.specs.declared.BitCursor.{BitCursor}
 use Rattle.reader.specs.declared.symbol.Entry.{Entry}
 use Rattle.reader.specs.declared.symbol.Entry.the-variants.{Got, Fault}
 use Rattle.reader.specs.declared.symbol.Step.{Step}

@@ -8,7 +8,6 @@ use lib.ListN.{length}
 use lib.Seq.{sets}
 use Rattle.format.specs.Reading.{Reading, Reader, andThen, give}
 use Rattle.format.specs.Reading.Reading.{got, fault}
-use Rattle.bits.specs.declared.BitCursor.{BitCursor}
 use Rattle.reader.specs.declared.term.Terms.{Terms}
 use Rattle.reader.specs.declared.term.Terms.the-variants.{Read}
 use Rattle.reader.specs.declared.term.Terms.the-variants as terms

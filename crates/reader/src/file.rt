@@ -1,5 +1,4 @@
 // Reading a whole packed file: its symbol table and its counts, or its first fault.
-ghost use mathlib.Core.Path.{_≡_};
 ghost use Prim.Native.Nat.{_+_, _*_, _≤_, _<_};
 ghost use lib.ListN.{length};
 ghost use Rattle.format.specs.Layout.{maxBytes};

@@ -3,7 +3,7 @@ ghost use mathlib.Core.Path.{_≡_};
 ghost use mathlib.Core.List.{List, []};
 ghost use mathlib.Core.Bool.{_||_};
 ghost use Prim.Native.Nat.{ℕ, suc, _+_, _*_, _<_, _≤_};
-ghost use lib.ListN.{length, getD, set};
+ghost use lib.ListN.{length, getD};
 ghost use lib.Dec.{eqb, leb};
 ghost use Rattle.terms.specs.Signature.{Symbol, leastWeight};
 ghost use Rattle.format.specs.Layout.{maxBytes};

@@ -1,7 +1,7 @@
 // Reading terms in prefix order: a term is its node and then its arguments, a row of terms. The loop that reads a row
 // is called again for the arguments of a node in it; the nodes still allowed, those up to the limit, fall.
 ghost use mathlib.Core.Path.{_≡_};
-ghost use Prim.Native.Nat.{_+_, _-_, _^_, _≤_, _<_};
+ghost use Prim.Native.Nat.{_+_, _-_, _≤_, _<_};
 ghost use lib.ListN.{length, set};
 ghost use lib.Dec.{ltb};
 ghost use Rattle.format.specs.Layout.{maxBytes};

@@ -1,7 +1,7 @@
 -- What a symbol table says of a symbol, by index.
 --     symbol-at     a symbol's entry is its four words, also past the end
 --     few-at        a table of at most 1,025 words has at most 256 symbols
-use mathlib.Core.List.{List, [], _∷_}
+use mathlib.Core.List.{List}
 use mathlib.Core.Path.{_≡_, refl, sym, ap, _∙_}
 use mathlib.Core.Bool.{false}
 use Prim.Native.Nat.{ℕ, suc, zero, _+_, _*_, _/_, _≤_, _<_}

@@ -3,14 +3,13 @@
 --     length-decimal, decimal-few      how many digits there are at most
 --     sets-append                      one text stored after another
 use mathlib.Core.List.{List, [], _∷_, _++_, append-assoc}
-use mathlib.Core.Path.{_≡_, refl, sym, ap, _∙_}
-use Prim.Native.Nat.{ℕ, suc, zero, _+_, _-_, _*_, _/_, _%_, _^_, _≤_, _<_}
+use mathlib.Core.Path.{_≡_, sym, ap, _∙_}
+use Prim.Native.Nat.{ℕ, suc, zero, _+_, _-_, _/_, _%_, _^_, _≤_, _<_}
 use native.Mathlib.Nat.{add-zero, zero-add, suc-add, add-suc, pow-succ'}
 use native.Mathlib.Omega.{arith}
 use lib.IntN.{subℕ}
 use lib.ListN.{length, getD, take, length-append, set}
 use lib.Seq.{sets, length-sets, length-take-le, take-suc, take-all}
-use lib.Dec.{ltb}
 use borrow.Author.Tests.{lt-ltb, le-ltb}
 use Rattle.multisets.proofs.Relations.{byOrder}
 use Rattle.text.specs.Put.{Put}

@@ -23,8 +23,7 @@ use native.Mathlib.Nat.{
 use native.Mathlib.Nat.{add-comm, mod-eq-of-lt, mul-add-mod-self-right}
 use native.Mathlib.Omega.{arith}
 use lib.ListN.{length, getD, List·getD-append}
-use lib.Seq.{getD-append-add}
-use lib.Pow.{pow-add, pow-lt, pow-pos, mod-pow-add, mod-mod-pow, field, high, shr-shr}
+use lib.Pow.{pow-add, pow-lt, mod-pow-add, mod-mod-pow, field, high, shr-shr}
 use lib.Arith.{digits-lt}
 use Rattle.format.specs.Reading.{spelt}
 use Rattle.format.specs.Packing.{bitsOf, bytesFrom}

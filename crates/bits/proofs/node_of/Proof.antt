@@ -3,8 +3,6 @@ use native.Mathlib.Omega.{arith}
 use borrow.Author.Needs.{needs}
 use Rattle.bits.proofs.node_of.Statement.{statement}
 use Rattle.bits.proofs.node_of.Tie as tie
-use Rattle.bits.proofs.node_of.Reads as reads
-use Rattle.bits.proofs.node_of.Lts as lts
 
 cast-t5 : tie.Need-cast-t5
 cast-t5 c = search needs

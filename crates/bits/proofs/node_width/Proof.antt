@@ -1,9 +1,6 @@
-use borrow.Author.Needs.{needs}
 use borrow.Author.Tests.{lt-ltb, le-ltb}
 use Rattle.bits.proofs.node_width.Statement.{statement}
 use Rattle.bits.proofs.node_width.Tie as tie
-use Rattle.bits.proofs.node_width.Reads as reads
-use Rattle.bits.proofs.node_width.Lts as lts
 
 returns : tie.Need-returns
 returns c = rw (lt-ltb _ _ (c .if1 .taken))

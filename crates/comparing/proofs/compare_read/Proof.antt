@@ -8,12 +8,6 @@ use Rattle.comparing.proofs.CompareLaws.{whole-terms, terms-read}
 use borrow.Author.Needs.{needs}
 use Rattle.comparing.proofs.compare_read.Statement.{statement}
 use Rattle.comparing.proofs.compare_read.Tie as tie
-use Rattle.comparing.proofs.compare_read.Reads as reads
-use Rattle.comparing.proofs.compare_read.Lts as lts
-use Rattle.comparing.proofs.numbered.Reads as numbered-reads
-use Rattle.order.proofs.mark.margin.Reads as margin-reads
-use Rattle.order.proofs.mark.relation.Reads as relation-reads
-use Rattle.order.proofs.sums.total.Reads as total-reads
 
 total-requires : tie.Need-total-requires
 total-requires c κs = search needs

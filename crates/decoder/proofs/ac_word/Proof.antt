@@ -2,9 +2,6 @@ use mathlib.Core.Path.{sym, _∙_}
 use borrow.Author.Needs.{needs}
 use Rattle.decoder.proofs.ac_word.Statement.{statement}
 use Rattle.decoder.proofs.ac_word.Tie as tie
-use Rattle.decoder.proofs.ac_word.Reads as reads
-use Rattle.decoder.proofs.ac_word.Lts as lts
-use Rattle.symbols.proofs.is_ac.Reads as is-ac-reads
 
 is-ac-requires : tie.Need-is-ac-requires
 is-ac-requires c κs = search needs

@@ -1,16 +1,11 @@
 use native.Mathlib.Omega.{arith}
-use mathlib.Core.Path.{_≡_, refl, sym, ap, _∙_}
-use Prim.Native.Nat.{ℕ, _+_, _*_, _≤_, _<_}
-use lib.ListN.{length, take}
+use mathlib.Core.Path.{_≡_, sym, _∙_}
+use lib.ListN.{length}
 use lib.Seq.{length-take-le}
 use Rattle.decoder.proofs.DecodeLaws.{decode-fault, decode-short, decode-written}
 use borrow.Author.Needs.{needs}
 use Rattle.decoder.proofs.decode.Statement.{statement}
 use Rattle.decoder.proofs.decode.Tie as tie
-use Rattle.decoder.proofs.decode.Reads as reads
-use Rattle.decoder.proofs.decode.Lts as lts
-use Rattle.decoder.proofs.put_file.Reads as put-file-reads
-use Rattle.reader.proofs.file.read_file.Reads as read-file-reads
 
 slice-aggregate-read-file : tie.Need-slice-aggregate-read-file
 slice-aggregate-read-file c = search needs

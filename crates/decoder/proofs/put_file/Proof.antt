@@ -1,5 +1,5 @@
 use native.Mathlib.Omega.{arith}
-use mathlib.Core.Path.{_≡_, refl, sym, ap, _∙_}
+use mathlib.Core.Path.{_≡_, sym}
 use Prim.Native.Nat.{_+_, _*_}
 use lib.ListN.{length}
 use Rattle.format.specs.Reading.{bitSource}
@@ -11,12 +11,6 @@ use Rattle.decoder.proofs.DecodeLaws.{stored-four, stored-file}
 use borrow.Author.Needs.{needs}
 use Rattle.decoder.proofs.put_file.Statement.{statement}
 use Rattle.decoder.proofs.put_file.Tie as tie
-use Rattle.decoder.proofs.put_file.Reads as reads
-use Rattle.decoder.proofs.put_file.Lts as lts
-use Rattle.decoder.proofs.put_nodes.Reads as put-nodes-reads
-use Rattle.decoder.proofs.put_symbols.Reads as put-symbols-reads
-use Rattle.reader.proofs.term.put_word.Reads as put-word-reads
-use Rattle.symbols.proofs.variable_weight.Reads as variable-weight-reads
 
 put-word-requires : tie.Need-put-word-requires
 put-word-requires c κs = search needs

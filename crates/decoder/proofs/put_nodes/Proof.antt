@@ -1,15 +1,12 @@
 use borrow.Author.Needs.{needs}
 use native.Mathlib.Omega.{arith}
-use mathlib.Core.Path.{_≡_, refl, sym, ap, _∙_}
-use Prim.Native.Nat.{ℕ, _+_, _-_}
+use mathlib.Core.Path.{_≡_, refl, _∙_}
+use Prim.Native.Nat.{_-_}
 use lib.ListN.{length, length-set}
 use Rattle.format.specs.Reading.{bitSource}
 use Rattle.decoder.proofs.NodesLaws.{RestRead, rest-all, rest-none, rest-missing, rest-more}
 use Rattle.decoder.proofs.put_nodes.Statement.{statement}
 use Rattle.decoder.proofs.put_nodes.Tie as tie
-use Rattle.decoder.proofs.put_nodes.Reads as reads
-use Rattle.decoder.proofs.put_nodes.Lts as lts
-use Rattle.bits.proofs.BitCursor.word.Reads as word-reads
 
 abbrev Inv-loop : tie.InvT-loop
 Inv-loop book words₀ index end here₀ place₀ words here place =

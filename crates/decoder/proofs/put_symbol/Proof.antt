@@ -1,17 +1,8 @@
-use mathlib.Core.Path.{sym, _∙_}
 use Prim.Native.Nat.{_+_, _*_}
 use Rattle.decoder.proofs.DecodeLaws.{stored-four}
 use borrow.Author.Needs.{needs}
 use Rattle.decoder.proofs.put_symbol.Statement.{statement}
 use Rattle.decoder.proofs.put_symbol.Tie as tie
-use Rattle.decoder.proofs.put_symbol.Reads as reads
-use Rattle.decoder.proofs.put_symbol.Lts as lts
-use Rattle.decoder.proofs.ac_word.Reads as ac-word-reads
-use Rattle.reader.proofs.term.put_word.Reads as put-word-reads
-use Rattle.symbols.proofs.arity.Reads as arity-reads
-use Rattle.symbols.proofs.precedence.Reads as precedence-reads
-use Rattle.symbols.proofs.weight.Reads as weight-reads
-use Rattle.symbols.proofs.wide.Reads as wide-reads
 
 wide-requires : tie.Need-wide-requires
 wide-requires c κs = search needs

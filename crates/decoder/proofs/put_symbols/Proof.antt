@@ -1,8 +1,7 @@
 use borrow.Author.Needs.{needs}
 use native.Mathlib.Omega.{arith}
-use mathlib.Core.Path.{_≡_, refl, sym, ap, _∙_}
-use mathlib.Core.List.{List, []}
-use Prim.Native.Nat.{ℕ, _+_, _-_, _*_, _<_, _≤_}
+use mathlib.Core.Path.{_≡_, refl, _∙_}
+use Prim.Native.Nat.{_-_, _<_, _≤_}
 use lib.ListN.{length, take}
 use lib.Seq.{sets, take-length}
 use Rattle.symbols.specs.Table.{signatureOf}
@@ -10,9 +9,6 @@ use Rattle.reader.specs.File.{symbolsWords}
 use Rattle.decoder.proofs.DecodeLaws.{symbols-more}
 use Rattle.decoder.proofs.put_symbols.Statement.{statement}
 use Rattle.decoder.proofs.put_symbols.Tie as tie
-use Rattle.decoder.proofs.put_symbols.Reads as reads
-use Rattle.decoder.proofs.put_symbols.Lts as lts
-use Rattle.decoder.proofs.put_symbol.Reads as put-symbol-reads
 
 abbrev Inv-loop : tie.InvT-loop
 Inv-loop table words₀ count symbol₀ words symbol =

@@ -5,13 +5,6 @@ use lib.Seq.{length-take-le}
 use borrow.Author.Needs.{needs}
 use Rattle.marker.proofs.main.Statement.{statement}
 use Rattle.marker.proofs.main.Tie as tie
-use Rattle.marker.proofs.main.Reads as reads
-use Rattle.marker.proofs.main.Lts as lts
-use Rattle.io.proofs.large_buffer.Reads as large-buffer-reads
-use Rattle.io.proofs.read_full.Reads as read-full-reads
-use Rattle.io.proofs.write_all.Reads as write-all-reads
-use Rattle.marker.proofs.buffer.Reads as buffer-reads
-use Rattle.marking.proofs.report.report.Reads as report-reads
 
 -- src/main.rt:15:20
 buffer-requires : tie.Need-buffer-requires

@@ -5,8 +5,6 @@ use lib.ListN.{length-set}
 use borrow.Author.Needs.{needs}
 use Rattle.writer.proofs.put_four.Statement.{statement}
 use Rattle.writer.proofs.put_four.Tie as tie
-use Rattle.writer.proofs.put_four.Reads as reads
-use Rattle.writer.proofs.put_four.Lts as lts
 
 cast-bytes : tie.Need-cast-bytes
 cast-bytes c = search needs

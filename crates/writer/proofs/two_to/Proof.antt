@@ -3,8 +3,6 @@ use lib.Pow.{pow-pos}
 use borrow.Author.Needs.{needs}
 use Rattle.writer.proofs.two_to.Statement.{statement}
 use Rattle.writer.proofs.two_to.Tie as tie
-use Rattle.writer.proofs.two_to.Reads as reads
-use Rattle.writer.proofs.two_to.Lts as lts
 
 shl-result : tie.Need-shl-result
 shl-result c = search needs

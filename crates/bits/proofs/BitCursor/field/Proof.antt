@@ -1,17 +1,13 @@
 use borrow.Author.Tests.{le-leb, lt-leb}
 use native.Mathlib.Omega.{arith}
-use mathlib.Core.Path.{_≡_}
 use Prim.Native.Nat.{ℕ, _+_, _*_, _%_, _<_, _≤_}
 use lib.ListN.{length, getD}
 use lib.Pow.{pow-pos}
 use Rattle.format.specs.Reading.{bitField}
-use Rattle.bits.proofs.BitLaws.{three, one-shl, rest-fits, field-three}
+use Rattle.bits.proofs.BitLaws.{one-shl, rest-fits, field-three}
 use borrow.Author.Needs.{needs}
 use Rattle.bits.proofs.BitCursor.field.Statement.{statement}
 use Rattle.bits.proofs.BitCursor.field.Tie as tie
-use Rattle.bits.proofs.BitCursor.field.Reads as reads
-use Rattle.bits.proofs.BitCursor.field.Lts as lts
-use Rattle.bits.proofs.gather.Reads as gather-reads
 
 add-if1 : tie.Need-add-if1
 add-if1 c = search needs

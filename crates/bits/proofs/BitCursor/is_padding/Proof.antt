@@ -1,16 +1,13 @@
 use native.Mathlib.Omega.{arith}
 use borrow.Author.Tests.{lt-ltb, le-ltb}
-use mathlib.Core.Path.{_≡_, refl, sym, ap, _∙_}
-use Prim.Native.Nat.{ℕ, _+_, _*_, _-_, _/_, _%_, _^_, _<_, _≤_}
+use mathlib.Core.Path.{_≡_}
+use Prim.Native.Nat.{ℕ, _+_, _*_, _-_, _%_, _<_, _≤_}
 use lib.ListN.{length, getD}
 use lib.Pow.{pow-pos}
 use Rattle.bits.proofs.BitLaws.{one-shl, field-last}
 use borrow.Author.Needs.{needs}
 use Rattle.bits.proofs.BitCursor.is_padding.Statement.{statement}
 use Rattle.bits.proofs.BitCursor.is_padding.Tie as tie
-use Rattle.bits.proofs.BitCursor.is_padding.Reads as reads
-use Rattle.bits.proofs.BitCursor.is_padding.Lts as lts
-use Rattle.bits.proofs.byte_at.Reads as byte-at-reads
 
 mul-end : tie.Need-mul-end
 mul-end c = search needs

@@ -1,19 +1,13 @@
 use native.Mathlib.Omega.{arith}
-use mathlib.Core.Path.{_≡_, refl, sym, ap, _∙_}
-use Prim.Native.Nat.{ℕ, _+_, _*_, _-_, _/_, _%_, _^_, _<_, _≤_}
-use lib.ListN.{length, getD, List·getD-eq-default}
+use mathlib.Core.Path.{_≡_, sym, _∙_}
+use Prim.Native.Nat.{ℕ, _+_, _*_, _-_, _/_, _%_, _^_, _<_}
+use lib.ListN.{getD, List·getD-eq-default}
 use Rattle.format.specs.Reading.{spelt, bitAt}
-use Rattle.bits.specs.Cursor.{nodeWidth}
 use Rattle.bits.proofs.BitLaws.{field-one}
 use Rattle.bits.proofs.NodeLaws.{node-got, node-cut, node-none}
 use borrow.Author.Needs.{needs}
 use Rattle.bits.proofs.BitCursor.late_node.Statement.{statement}
 use Rattle.bits.proofs.BitCursor.late_node.Tie as tie
-use Rattle.bits.proofs.BitCursor.late_node.Reads as reads
-use Rattle.bits.proofs.BitCursor.late_node.Lts as lts
-use Rattle.bits.proofs.byte_at.Reads as byte-at-reads
-use Rattle.bits.proofs.node_of.Reads as node-of-reads
-use Rattle.bits.proofs.node_width.Reads as node-width-reads
 
 mul-end : tie.Need-mul-end
 mul-end c = search needs

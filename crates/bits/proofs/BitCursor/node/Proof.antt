@@ -1,18 +1,13 @@
 use native.Mathlib.Omega.{arith}
-use mathlib.Core.Path.{_≡_, refl, sym, ap, _∙_}
-use Prim.Native.Nat.{ℕ, _+_, _*_, _-_, _/_, _%_, _^_, _<_, _≤_}
-use lib.ListN.{length, getD}
+use mathlib.Core.Path.{_≡_, sym, _∙_}
+use Prim.Native.Nat.{ℕ, _+_, _*_, _-_, _/_, _%_, _^_, _<_}
+use lib.ListN.{getD}
 use Rattle.format.specs.Reading.{spelt, bitAt}
 use Rattle.bits.proofs.BitLaws.{field-two}
 use Rattle.bits.proofs.NodeLaws.{node-got, width-le}
 use borrow.Author.Needs.{needs}
 use Rattle.bits.proofs.BitCursor.node.Statement.{statement}
 use Rattle.bits.proofs.BitCursor.node.Tie as tie
-use Rattle.bits.proofs.BitCursor.node.Reads as reads
-use Rattle.bits.proofs.BitCursor.node.Lts as lts
-use Rattle.bits.proofs.BitCursor.late_node.Reads as late-node-reads
-use Rattle.bits.proofs.byte_at.Reads as byte-at-reads
-use Rattle.bits.proofs.node_of.Reads as node-of-reads
 
 add-if1 : tie.Need-add-if1
 add-if1 c = search needs

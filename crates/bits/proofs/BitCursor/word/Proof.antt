@@ -3,9 +3,6 @@ use Rattle.bits.specs.Cursor.{nodeReading}
 use borrow.Author.Needs.{needs}
 use Rattle.bits.proofs.BitCursor.word.Statement.{statement}
 use Rattle.bits.proofs.BitCursor.word.Tie as tie
-use Rattle.bits.proofs.BitCursor.word.Reads as reads
-use Rattle.bits.proofs.BitCursor.word.Lts as lts
-use Rattle.bits.proofs.BitCursor.node.Reads as node-reads
 
 node-requires : tie.Need-node-requires
 node-requires c κs = search needs

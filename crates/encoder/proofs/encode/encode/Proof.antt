@@ -7,11 +7,6 @@ use Rattle.encoder.proofs.EncodeLaws.{encode-fault, encode-long, encode
 use borrow.Author.Needs.{needs}
 use Rattle.encoder.proofs.encode.encode.Statement.{statement}
 use Rattle.encoder.proofs.encode.encode.Tie as tie
-use Rattle.encoder.proofs.encode.encode.Reads as reads
-use Rattle.encoder.proofs.encode.encode.Lts as lts
-use Rattle.encoder.proofs.items.packed_bits.Reads as packed-bits-reads
-use Rattle.encoder.proofs.items.write_items.Reads as write-items-reads
-use Rattle.files.proofs.file.read_file.Reads as read-file-reads
 
 read-file-requires : tie.Need-read-file-requires
 read-file-requires c κs = search needs

@@ -1,12 +1,9 @@
-use borrow.Author.Needs.{needs}
 use native.Mathlib.Omega.{arith}
 use Prim.Native.Nat.{_%_}
 use mathlib.Core.Path.{_≡_, refl}
 use borrow.Author.Tests.{lt-ltb, le-ltb}
 use Rattle.encoder.proofs.items.field_width.Statement.{statement}
 use Rattle.encoder.proofs.items.field_width.Tie as tie
-use Rattle.encoder.proofs.items.field_width.Reads as reads
-use Rattle.encoder.proofs.items.field_width.Lts as lts
 
 returns : tie.Need-returns
 returns c = rw (lt-ltb (c .before .before .args .i) 4 (c .before .if1 .taken), c .match .keys1) (refl, omega arith)

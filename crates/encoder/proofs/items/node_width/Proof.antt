@@ -4,8 +4,6 @@ use lib.ListN.{length}
 use Rattle.encoder.proofs.ItemBits.{symbol-bits, variable-bits}
 use Rattle.encoder.proofs.items.node_width.Statement.{statement}
 use Rattle.encoder.proofs.items.node_width.Tie as tie
-use Rattle.encoder.proofs.items.node_width.Reads as reads
-use Rattle.encoder.proofs.items.node_width.Lts as lts
 
 returns : tie.Need-returns
 returns c = (sym (ap length (symbol-bits (c .before .args .word) (c .if1 .taken))), omega arith)

@@ -7,9 +7,6 @@ use Rattle.encoder.specs.Items.{bitsTo}
 use Rattle.encoder.proofs.ItemBits.{node-bits, length-more, bits-le, fields-length}
 use Rattle.encoder.proofs.items.packed_bits.Statement.{statement}
 use Rattle.encoder.proofs.items.packed_bits.Tie as tie
-use Rattle.encoder.proofs.items.packed_bits.Reads as reads
-use Rattle.encoder.proofs.items.packed_bits.Lts as lts
-use Rattle.encoder.proofs.items.node_width.Reads as node-width-reads
 
 abbrev Inv-loop : tie.InvT-loop
 Inv-loop words symbols bits₀ i₀ bits i =

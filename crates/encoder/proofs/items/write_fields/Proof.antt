@@ -11,10 +11,6 @@ use Rattle.encoder.specs.Items.{bitsTo}
 use Rattle.encoder.proofs.ItemBits.{flat-nil, field-bits, field-more, bits-more, bits-mono}
 use Rattle.encoder.proofs.items.write_fields.Statement.{statement}
 use Rattle.encoder.proofs.items.write_fields.Tie as tie
-use Rattle.encoder.proofs.items.write_fields.Reads as reads
-use Rattle.encoder.proofs.items.write_fields.Lts as lts
-use Rattle.encoder.proofs.items.field_width.Reads as field-width-reads
-use Rattle.writer.proofs.BitWriter.put.Reads as put-reads
 
 abbrev Inv-loop : tie.InvT-loop
 Inv-loop words nodes bytes₀ writer₀ i₀ bytes writer i =

@@ -12,11 +12,6 @@ use Rattle.encoder.specs.Items.{bitsTo}
 use Rattle.encoder.proofs.ItemBits.{node-bits, bits-more, length-more, bits-le, bits-mono}
 use Rattle.encoder.proofs.items.write_items.Statement.{statement}
 use Rattle.encoder.proofs.items.write_items.Tie as tie
-use Rattle.encoder.proofs.items.write_items.Reads as reads
-use Rattle.encoder.proofs.items.write_items.Lts as lts
-use Rattle.encoder.proofs.items.write_fields.Reads as write-fields-reads
-use Rattle.encoder.proofs.items.write_node.Reads as write-node-reads
-use Rattle.writer.proofs.BitWriter.finish.Reads as finish-reads
 
 abbrev Inv-loop : tie.InvT-loop
 Inv-loop words nodes bytes₀ writer₀ i₀ bytes writer i =

@@ -5,9 +5,6 @@ use Rattle.encoder.proofs.ItemBits.{symbol-bits, variable-bits}
 use borrow.Author.Needs.{needs}
 use Rattle.encoder.proofs.items.write_node.Statement.{statement}
 use Rattle.encoder.proofs.items.write_node.Tie as tie
-use Rattle.encoder.proofs.items.write_node.Reads as reads
-use Rattle.encoder.proofs.items.write_node.Lts as lts
-use Rattle.writer.proofs.BitWriter.put.Reads as put-reads
 
 put-requires : tie.Need-put-requires
 put-requires c κs =

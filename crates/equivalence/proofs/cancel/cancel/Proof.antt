@@ -5,11 +5,6 @@ use Rattle.equivalence.proofs.CancelLaws.{Cancelling, cancelling-start,
 use Rattle.equivalence.proofs.CancelLaws.{cancelling-done}
 use Rattle.equivalence.proofs.cancel.cancel.Statement.{statement}
 use Rattle.equivalence.proofs.cancel.cancel.Tie as tie
-use Rattle.equivalence.proofs.cancel.cancel.Reads as reads
-use Rattle.equivalence.proofs.cancel.cancel.Lts as lts
-use Rattle.equivalence.proofs.equivalence.partner.Reads as partner-reads
-use Rattle.equivalence.proofs.offsets.delete.Reads as delete-reads
-use Rattle.equivalence.proofs.offsets.wide_byte.Reads as wide-byte-reads
 
 abbrev Inv-loop : tie.InvT-loop
 Inv-loop table s sk ps₀ n t tk qs₀ m k₀ left₀ right₀ ps qs k left right =

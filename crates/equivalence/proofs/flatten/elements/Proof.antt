@@ -7,10 +7,6 @@ use Rattle.equivalence.proofs.ElementLaws.{Listing, listing-start, list
 use Rattle.equivalence.proofs.ElementLaws.{listing-done}
 use Rattle.equivalence.proofs.flatten.elements.Statement.{statement}
 use Rattle.equivalence.proofs.flatten.elements.Tie as tie
-use Rattle.equivalence.proofs.flatten.elements.Reads as reads
-use Rattle.equivalence.proofs.flatten.elements.Lts as lts
-use Rattle.equivalence.proofs.keys.size_at.Reads as size-at-reads
-use Rattle.symbols.proofs.arity.Reads as arity-reads
 
 abbrev Inv-loop : tie.InvT-loop
 Inv-loop table f words keys i n offsets₀ inner at₀ owed₀ k₀ offsets at owed k = Listing table f words i n offsets at

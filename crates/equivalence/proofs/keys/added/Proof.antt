@@ -1,13 +1,9 @@
 use native.Mathlib.Omega.{arith}
-use mathlib.Core.Path.{sym}
 use borrow.Author.Tests.{eq-eqb, ne-eqb}
 use Rattle.equivalence.specs.Keys.{added}
 use borrow.Author.Needs.{needs}
 use Rattle.equivalence.proofs.keys.added.Statement.{statement}
 use Rattle.equivalence.proofs.keys.added.Tie as tie
-use Rattle.equivalence.proofs.keys.added.Reads as reads
-use Rattle.equivalence.proofs.keys.added.Lts as lts
-use Rattle.equivalence.proofs.keys.mix.Reads as mix-reads
 
 add-result : tie.Need-add-result
 add-result c = search needs

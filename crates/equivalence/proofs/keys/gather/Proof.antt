@@ -6,11 +6,6 @@ use Rattle.equivalence.specs.Keys.{offsetAfter, hashAfter}
 use Rattle.equivalence.proofs.PrepareLaws.{offset-more, hash-more}
 use Rattle.equivalence.proofs.keys.gather.Statement.{statement}
 use Rattle.equivalence.proofs.keys.gather.Tie as tie
-use Rattle.equivalence.proofs.keys.gather.Reads as reads
-use Rattle.equivalence.proofs.keys.gather.Lts as lts
-use Rattle.equivalence.proofs.keys.added.Reads as added-reads
-use Rattle.equivalence.proofs.keys.key_at.Reads as key-at-reads
-use Rattle.symbols.proofs.word_at.Reads as word-at-reads
 
 abbrev Inv-loop : tie.InvT-loop
 Inv-loop ac f words keys i n at₀ left₀ hash₀ at left hash =

@@ -4,8 +4,6 @@ use lib.ListN.{List·getD-eq-default}
 use borrow.Author.Needs.{needs}
 use Rattle.equivalence.proofs.keys.key_at.Statement.{statement}
 use Rattle.equivalence.proofs.keys.key_at.Tie as tie
-use Rattle.equivalence.proofs.keys.key_at.Reads as reads
-use Rattle.equivalence.proofs.keys.key_at.Lts as lts
 
 mul-result : tie.Need-mul-result
 mul-result c = search needs

@@ -1,4 +1,3 @@
-use borrow.Author.Needs.{needs}
 use native.Mathlib.Omega.{arith}
 use native.Mathlib.Nat.{mul-le-mul}
 use mathlib.Core.Path.{refl}
@@ -6,8 +5,6 @@ use Prim.Native.Nat.{_≤_}
 use Rattle.equivalence.specs.Keys.{middleSquare}
 use Rattle.equivalence.proofs.keys.middle_square.Statement.{statement}
 use Rattle.equivalence.proofs.keys.middle_square.Tie as tie
-use Rattle.equivalence.proofs.keys.middle_square.Reads as reads
-use Rattle.equivalence.proofs.keys.middle_square.Lts as lts
 
 mul-result : tie.Need-mul-result
 unfolding middleSquare

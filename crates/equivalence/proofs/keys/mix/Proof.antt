@@ -2,10 +2,6 @@ use native.Mathlib.Omega.{arith}
 use borrow.Author.Needs.{needs}
 use Rattle.equivalence.proofs.keys.mix.Statement.{statement}
 use Rattle.equivalence.proofs.keys.mix.Tie as tie
-use Rattle.equivalence.proofs.keys.mix.Reads as reads
-use Rattle.equivalence.proofs.keys.mix.Lts as lts
-use Rattle.equivalence.proofs.keys.middle_square.Reads as middle-square-reads
-use Rattle.symbols.proofs.long.Reads as long-reads
 
 long-requires : tie.Need-long-requires
 long-requires c κs = search needs

@@ -1,6 +1,6 @@
 use borrow.Author.Needs.{needs}
 use native.Mathlib.Omega.{arith}
-use mathlib.Core.Path.{_≡_, refl, _∙_}
+use mathlib.Core.Path.{_≡_}
 use Prim.Native.Nat.{_≤_}
 use lib.ListN.{length, length-set}
 use Rattle.symbols.specs.Table.{signatureOf}
@@ -8,12 +8,6 @@ use Rattle.equivalence.specs.Keys.{KeyedFrom}
 use Rattle.equivalence.proofs.PrepareLaws.{keyed-step}
 use Rattle.equivalence.proofs.keys.prepare.Statement.{statement}
 use Rattle.equivalence.proofs.keys.prepare.Tie as tie
-use Rattle.equivalence.proofs.keys.prepare.Reads as reads
-use Rattle.equivalence.proofs.keys.prepare.Lts as lts
-use Rattle.equivalence.proofs.keys.gather.Reads as gather-reads
-use Rattle.symbols.proofs.arity.Reads as arity-reads
-use Rattle.symbols.proofs.is_ac.Reads as is-ac-reads
-use Rattle.symbols.proofs.long.Reads as long-reads
 
 abbrev Inv-loop : tie.InvT-loop
 Inv-loop table words keys₀ i₀ keys i =

@@ -1,17 +1,12 @@
 use native.Mathlib.Omega.{arith}
-use mathlib.Core.Path.{_≡_, sym, ap, _∙_}
-use mathlib.Core.List.{List}
-use lib.ListN.{length, drop}
+use mathlib.Core.Path.{sym, ap, _∙_}
+use lib.ListN.{drop}
 use Rattle.symbols.specs.Table.{symbolsAt}
 use Rattle.words.specs.Cursor.{passed, passedOf}
 use Rattle.files.proofs.FileLaws.{part-signature, body-symbols, nodes-begin, body-rules, body-left, body-done}
 use borrow.Author.Needs.{needs}
 use Rattle.files.proofs.file.read_body.Statement.{statement}
 use Rattle.files.proofs.file.read_body.Tie as tie
-use Rattle.files.proofs.file.read_body.Reads as reads
-use Rattle.files.proofs.file.read_body.Lts as lts
-use Rattle.files.proofs.rule.read_rules.Reads as read-rules-reads
-use Rattle.files.proofs.symbol.read_symbols.Reads as read-symbols-reads
 
 read-symbols-requires : tie.Need-read-symbols-requires
 read-symbols-requires c κs = search needs

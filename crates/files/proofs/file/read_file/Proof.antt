@@ -1,14 +1,9 @@
-use mathlib.Core.Path.{_≡_, sym, ap, _∙_}
+use mathlib.Core.Path.{sym, ap, _∙_}
 use Rattle.format.specs.Files.{readWords}
-use Rattle.files.specs.File.{HeaderAt, headerReading, endOf, fileReading}
+use Rattle.files.specs.File.{headerReading, endOf, fileReading}
 use borrow.Author.Needs.{needs}
 use Rattle.files.proofs.file.read_file.Statement.{statement}
 use Rattle.files.proofs.file.read_file.Tie as tie
-use Rattle.files.proofs.file.read_file.Reads as reads
-use Rattle.files.proofs.file.read_file.Lts as lts
-use Rattle.symbols.proofs.wide.Reads as wide-reads
-use Rattle.files.proofs.file.read_body.Reads as read-body-reads
-use Rattle.files.proofs.file.read_header.Reads as read-header-reads
 
 read-header-requires : tie.Need-read-header-requires
 read-header-requires c κs = search needs

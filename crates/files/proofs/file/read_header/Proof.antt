@@ -1,6 +1,5 @@
 use native.Mathlib.Omega.{arith}
-use Prim.Native.Nat.{_<_, _≤_}
-use mathlib.Core.Path.{_≡_, sym, ap, _∙_}
+use mathlib.Core.Path.{sym, ap, _∙_}
 use borrow.Author.Tests.{eq-eqb, ne-eqb, lt-ltb, le-ltb}
 use Rattle.format.specs.Format.{fileReader}
 use Rattle.words.specs.Cursor.{wordReading}
@@ -8,9 +7,6 @@ use Rattle.files.proofs.FileLaws.{header-at, header-got}
 use borrow.Author.Needs.{needs}
 use Rattle.files.proofs.file.read_header.Statement.{statement}
 use Rattle.files.proofs.file.read_header.Tie as tie
-use Rattle.files.proofs.file.read_header.Reads as reads
-use Rattle.files.proofs.file.read_header.Lts as lts
-use Rattle.words.proofs.cursor.WordCursor.below.Reads as below-reads
 
 below-requires : tie.Need-below-requires
 below-requires c κs = search needs

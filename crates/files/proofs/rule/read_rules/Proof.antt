@@ -10,9 +10,6 @@ use Rattle.words.specs.Cursor.{passedOf}
 use Rattle.files.proofs.RuleLaws.{rules-none, rules-more}
 use Rattle.files.proofs.rule.read_rules.Statement.{statement}
 use Rattle.files.proofs.rule.read_rules.Tie as tie
-use Rattle.files.proofs.rule.read_rules.Reads as reads
-use Rattle.files.proofs.rule.read_rules.Lts as lts
-use Rattle.files.proofs.rule.rule.Reads as rule-reads
 
 abbrev Inv-loop : tie.InvT-loop
 Inv-loop table words count here₀ i₀ here i = (i ≤ count) × (passedOf

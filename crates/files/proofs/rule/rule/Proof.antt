@@ -1,13 +1,10 @@
-use mathlib.Core.Path.{_≡_, sym, ap, _∙_}
+use mathlib.Core.Path.{sym, _∙_}
 use Rattle.format.specs.Reading.{wordSource}
 use Rattle.symbols.specs.Table.{signatureOf}
 use Rattle.files.proofs.RuleLaws.{rule-one}
 use borrow.Author.Needs.{needs}
 use Rattle.files.proofs.rule.rule.Statement.{statement}
 use Rattle.files.proofs.rule.rule.Tie as tie
-use Rattle.files.proofs.rule.rule.Reads as reads
-use Rattle.files.proofs.rule.rule.Lts as lts
-use Rattle.words.proofs.term.term.Reads as term-reads
 
 term-requires : tie.Need-term-requires
 term-requires c κs = search needs

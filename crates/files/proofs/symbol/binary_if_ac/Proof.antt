@@ -1,9 +1,6 @@
-use borrow.Author.Needs.{needs}
 use borrow.Author.Tests.{eq-eqb, ne-eqb}
 use Rattle.files.proofs.symbol.binary_if_ac.Statement.{statement}
 use Rattle.files.proofs.symbol.binary_if_ac.Tie as tie
-use Rattle.files.proofs.symbol.binary_if_ac.Reads as reads
-use Rattle.files.proofs.symbol.binary_if_ac.Lts as lts
 
 returns : tie.Need-returns
 returns c = rw (eq-eqb (c .before .args .ac) 0 (c .if1 .taken))

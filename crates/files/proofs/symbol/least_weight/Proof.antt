@@ -4,8 +4,6 @@ use Prim.Native.Nat.{suc, _-_}
 use borrow.Author.Needs.{needs}
 use Rattle.files.proofs.symbol.least_weight.Statement.{statement}
 use Rattle.files.proofs.symbol.least_weight.Tie as tie
-use Rattle.files.proofs.symbol.least_weight.Reads as reads
-use Rattle.files.proofs.symbol.least_weight.Lts as lts
 
 returns : tie.Need-returns
 returns c = search needs

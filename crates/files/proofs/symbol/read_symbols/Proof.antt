@@ -1,15 +1,11 @@
 use borrow.Author.Needs.{needs}
 use native.Mathlib.Omega.{arith}
 use Prim.Native.Nat.{_≤_, _-_}
-use mathlib.Core.Path.{_≡_, sym, ap, _∙_}
+use mathlib.Core.Path.{sym, ap, _∙_}
 use Rattle.files.specs.Symbol.{symbolReading}
 use Rattle.files.proofs.SymbolsLaws.{Symbols, symbols-start, symbols-step, symbols-fault, symbols-end}
 use Rattle.files.proofs.symbol.read_symbols.Statement.{statement}
 use Rattle.files.proofs.symbol.read_symbols.Tie as tie
-use Rattle.files.proofs.symbol.read_symbols.Reads as reads
-use Rattle.files.proofs.symbol.read_symbols.Lts as lts
-use Rattle.symbols.proofs.wide.Reads as wide-reads
-use Rattle.files.proofs.symbol.symbol.Reads as symbol-reads
 
 abbrev Inv-loop : tie.InvT-loop
 Inv-loop words w0 count taken₀ here₀ i₀ taken here i = (i ≤ count) × Symbols words w0 count taken (here .at) i

@@ -12,12 +12,6 @@ use Rattle.files.proofs.SymbolLaws.{symbol-got}
 use borrow.Author.Needs.{needs}
 use Rattle.files.proofs.symbol.symbol.Statement.{statement}
 use Rattle.files.proofs.symbol.symbol.Tie as tie
-use Rattle.files.proofs.symbol.symbol.Reads as reads
-use Rattle.files.proofs.symbol.symbol.Lts as lts
-use Rattle.symbols.proofs.wide.Reads as wide-reads
-use Rattle.words.proofs.cursor.WordCursor.below.Reads as below-reads
-use Rattle.files.proofs.symbol.binary_if_ac.Reads as binary-if-ac-reads
-use Rattle.files.proofs.symbol.least_weight.Reads as least-weight-reads
 
 below-requires : tie.Need-below-requires
 below-requires c κs = search needs

@@ -5,10 +5,6 @@ use Rattle.marking.proofs.OrientLaws.{whole-terms}
 use borrow.Author.Needs.{needs}
 use Rattle.marking.proofs.rule.orient_sides.Statement.{statement}
 use Rattle.marking.proofs.rule.orient_sides.Tie as tie
-use Rattle.marking.proofs.rule.orient_sides.Reads as reads
-use Rattle.marking.proofs.rule.orient_sides.Lts as lts
-use Rattle.order.proofs.mark.mark.Reads as mark-reads
-use Rattle.order.proofs.sums.total.Reads as total-reads
 
 total-requires : tie.Need-total-requires
 total-requires c κs = search needs

@@ -1,15 +1,15 @@
 use borrow.Author.Needs.{needs}
 use native.Mathlib.Omega.{arith}
 use mathlib.Core.Bool.{true, false}
-use mathlib.Core.Path.{_≡_, refl, sym, ap, _∙_}
+use mathlib.Core.Path.{_≡_, refl, sym, _∙_}
 use Prim.Native.Nat.{_+_, _-_, _*_, _≤_}
 use borrow.Author.Count.{below-more}
-use lib.ListN.{length, getD}
+use lib.ListN.{getD}
 use Rattle.symbols.specs.Table.{signatureOf}
 use Rattle.equivalence.specs.Parts.{elementsAt}
 use Rattle.equivalence.specs.Offsets.{termsAt}
 use Rattle.equivalence.proofs.OffsetLaws.{offsets-own}
-use Rattle.equivalence.proofs.StepLaws.{step-some, step-next}
+use Rattle.equivalence.proofs.StepLaws.{step-next}
 use Rattle.equivalence.proofs.ElementLaws.{elements-few}
 use Rattle.order.specs.Compared.{greaterAt}
 use Rattle.order.proofs.MeasureLaws.{elements-sum, offset-size, inner-total, inner-stands, next-total}

@@ -4,10 +4,6 @@ use Rattle.order.proofs.OccurrenceLaws.{few-both, few-low}
 use borrow.Author.Needs.{needs}
 use Rattle.order.proofs.compare.none_oftener.Statement.{statement}
 use Rattle.order.proofs.compare.none_oftener.Tie as tie
-use Rattle.order.proofs.compare.none_oftener.Reads as reads
-use Rattle.order.proofs.compare.none_oftener.Lts as lts
-use Rattle.order.proofs.sums.digits_within.Reads as digits-within-reads
-use Rattle.order.proofs.sums.sum_at.Reads as sum-at-reads
 
 sum-at-requires : tie.Need-sum-at-requires
 sum-at-requires c κs = let h = c .before .before .before .pre in

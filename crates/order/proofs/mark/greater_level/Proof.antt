@@ -6,10 +6,6 @@ use Rattle.order.proofs.WholeLaws.{left-some, right-some, within-none, 
 use borrow.Author.Needs.{needs}
 use Rattle.order.proofs.mark.greater_level.Statement.{statement}
 use Rattle.order.proofs.mark.greater_level.Tie as tie
-use Rattle.order.proofs.mark.greater_level.Reads as reads
-use Rattle.order.proofs.mark.greater_level.Lts as lts
-use Rattle.order.proofs.compare.root_mark.Reads as root-mark-reads
-use Rattle.order.proofs.mark.within.Reads as within-reads
 
 within-requires : tie.Need-within-requires
 within-requires c κs = search needs

@@ -6,8 +6,6 @@ use Rattle.order.proofs.MarginLaws.{difference, difference-fits}
 use borrow.Author.Needs.{needs}
 use Rattle.order.proofs.mark.margin.Statement.{statement}
 use Rattle.order.proofs.mark.margin.Tie as tie
-use Rattle.order.proofs.mark.margin.Reads as reads
-use Rattle.order.proofs.mark.margin.Lts as lts
 
 cast-result : tie.Need-cast-result
 cast-result c = search needs

@@ -7,10 +7,6 @@ use Rattle.order.proofs.WholeLaws.{left-weight, right-weight, within-no
 use borrow.Author.Needs.{needs}
 use Rattle.order.proofs.mark.mark.Statement.{statement}
 use Rattle.order.proofs.mark.mark.Tie as tie
-use Rattle.order.proofs.mark.mark.Reads as reads
-use Rattle.order.proofs.mark.mark.Lts as lts
-use Rattle.order.proofs.mark.mark_level.Reads as mark-level-reads
-use Rattle.order.proofs.mark.within.Reads as within-reads
 
 within-requires : tie.Need-within-requires
 within-requires c κs = search needs

@@ -7,10 +7,6 @@ use Rattle.order.proofs.WholeLaws.{left-some, right-some}
 use borrow.Author.Needs.{needs}
 use Rattle.order.proofs.mark.mark_level.Statement.{statement}
 use Rattle.order.proofs.mark.mark_level.Tie as tie
-use Rattle.order.proofs.mark.mark_level.Reads as reads
-use Rattle.order.proofs.mark.mark_level.Lts as lts
-use Rattle.order.proofs.mark.mark_prepared.Reads as mark-prepared-reads
-use Rattle.order.proofs.mark.root_mark_differing.Reads as root-mark-differing-reads
 
 shared-slice-read-if1 : tie.Need-shared-slice-read-if1
 shared-slice-read-if1 c = left-some (c .before .before .before .before .pre .0)

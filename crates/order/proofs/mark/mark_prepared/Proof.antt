@@ -7,11 +7,6 @@ use Rattle.order.proofs.MarkLaws.{whole-root, whole-ten}
 use Rattle.order.proofs.WholeLaws.{left-some, right-some, left-formed, right-formed, whole-sides}
 use Rattle.order.proofs.mark.mark_prepared.Statement.{statement}
 use Rattle.order.proofs.mark.mark_prepared.Tie as tie
-use Rattle.order.proofs.mark.mark_prepared.Reads as reads
-use Rattle.order.proofs.mark.mark_prepared.Lts as lts
-use Rattle.equivalence.proofs.equivalence.equivalent.Reads as equivalent-reads
-use Rattle.equivalence.proofs.keys.prepare.Reads as prepare-reads
-use Rattle.order.proofs.mark.root_mark_whole.Reads as root-mark-whole-reads
 
 prepare-requires : tie.Need-prepare-requires
 prepare-requires c κs =

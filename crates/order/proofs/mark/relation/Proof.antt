@@ -2,10 +2,6 @@ use Rattle.order.proofs.WholeLaws.{left-some, right-some}
 use borrow.Author.Needs.{needs}
 use Rattle.order.proofs.mark.relation.Statement.{statement}
 use Rattle.order.proofs.mark.relation.Tie as tie
-use Rattle.order.proofs.mark.relation.Reads as reads
-use Rattle.order.proofs.mark.relation.Lts as lts
-use Rattle.order.proofs.mark.relation_level.Reads as relation-level-reads
-use Rattle.order.proofs.mark.relation_marked.Reads as relation-marked-reads
 
 shared-slice-read-if2 : tie.Need-shared-slice-read-if2
 shared-slice-read-if2 c = left-some (c .before .before .before .before .before .before .before .pre .0)

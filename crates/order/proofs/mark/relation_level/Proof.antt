@@ -8,11 +8,6 @@ use Rattle.order.proofs.WholeLaws.{left-formed, right-formed, whole-sid
 use borrow.Author.Needs.{needs}
 use Rattle.order.proofs.mark.relation_level.Statement.{statement}
 use Rattle.order.proofs.mark.relation_level.Tie as tie
-use Rattle.order.proofs.mark.relation_level.Reads as reads
-use Rattle.order.proofs.mark.relation_level.Lts as lts
-use Rattle.equivalence.proofs.equivalence.equivalent.Reads as equivalent-reads
-use Rattle.equivalence.proofs.keys.prepare.Reads as prepare-reads
-use Rattle.order.proofs.mark.relation_unlike.Reads as relation-unlike-reads
 
 prepare-requires : tie.Need-prepare-requires
 prepare-requires c κs =

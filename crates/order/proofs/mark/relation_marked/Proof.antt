@@ -6,9 +6,6 @@ use Rattle.order.proofs.WholeLaws.{left-formed, right-formed, turned}
 use borrow.Author.Needs.{needs}
 use Rattle.order.proofs.mark.relation_marked.Statement.{statement}
 use Rattle.order.proofs.mark.relation_marked.Tie as tie
-use Rattle.order.proofs.mark.relation_marked.Reads as reads
-use Rattle.order.proofs.mark.relation_marked.Lts as lts
-use Rattle.order.proofs.mark.mark.Reads as mark-reads
 
 mark-requires : tie.Need-mark-requires
 mark-requires c κs = search needs

@@ -6,10 +6,6 @@ use Rattle.order.proofs.WholeLaws.{sides-turned, level-turned}
 use borrow.Author.Needs.{needs}
 use Rattle.order.proofs.mark.relation_unlike.Statement.{statement}
 use Rattle.order.proofs.mark.relation_unlike.Tie as tie
-use Rattle.order.proofs.mark.relation_unlike.Reads as reads
-use Rattle.order.proofs.mark.relation_unlike.Lts as lts
-use Rattle.order.proofs.mark.greater_level.Reads as greater-level-reads
-use Rattle.order.proofs.sums.sum_up.Reads as sum-up-reads
 
 sum-up-requires : tie.Need-sum-up-requires
 sum-up-requires c κs = search needs

@@ -3,9 +3,6 @@ use Rattle.order.proofs.RootLaws.{root-left, root-right, root-above, ro
 use borrow.Author.Needs.{needs}
 use Rattle.order.proofs.mark.root_mark_differing.Statement.{statement}
 use Rattle.order.proofs.mark.root_mark_differing.Tie as tie
-use Rattle.order.proofs.mark.root_mark_differing.Reads as reads
-use Rattle.order.proofs.mark.root_mark_differing.Lts as lts
-use Rattle.symbols.proofs.precedence.Reads as precedence-reads
 
 shared-slice-read-f : tie.Need-shared-slice-read-f
 shared-slice-read-f c = search needs

@@ -2,9 +2,6 @@ use mathlib.Core.Path.{sym, _∙_}
 use borrow.Author.Needs.{needs}
 use Rattle.order.proofs.mark.within.Statement.{statement}
 use Rattle.order.proofs.mark.within.Tie as tie
-use Rattle.order.proofs.mark.within.Reads as reads
-use Rattle.order.proofs.mark.within.Lts as lts
-use Rattle.order.proofs.sums.digits_within.Reads as digits-within-reads
 
 digits-within-requires : tie.Need-digits-within-requires
 digits-within-requires c κs = search needs

@@ -1,12 +1,10 @@
 use borrow.Author.Needs.{needs}
 use native.Mathlib.Omega.{arith}
 use mathlib.Core.Path.{_≡_}
-use Prim.Native.Nat.{_+_, _-_, _≤_}
+use Prim.Native.Nat.{_-_, _≤_}
 use Rattle.order.proofs.SplitLaws.{Joined, joined-none, joined-more}
 use Rattle.order.proofs.parts.join.Statement.{statement}
 use Rattle.order.proofs.parts.join.Tie as tie
-use Rattle.order.proofs.parts.join.Reads as reads
-use Rattle.order.proofs.parts.join.Lts as lts
 
 abbrev Inv-loop : tie.InvT-loop
 Inv-loop table t ps₀ k qs m x₀ ps x = (x ≤ m) × Joined table t ps₀ qs k ps x

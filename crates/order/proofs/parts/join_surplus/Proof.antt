@@ -1,14 +1,9 @@
 use native.Mathlib.Omega.{arith}
 use Rattle.symbols.specs.Table.{signatureOf}
-use Rattle.equivalence.proofs.OffsetLaws.{offsets-own, offsets-length}
+use Rattle.equivalence.proofs.OffsetLaws.{offsets-own}
 use Rattle.order.proofs.SplitLaws.{surplus-few}
-use borrow.Author.Needs.{needs}
 use Rattle.order.proofs.parts.join_surplus.Statement.{statement}
 use Rattle.order.proofs.parts.join_surplus.Tie as tie
-use Rattle.order.proofs.parts.join_surplus.Reads as reads
-use Rattle.order.proofs.parts.join_surplus.Lts as lts
-use Rattle.equivalence.proofs.cancel.cancel.Reads as cancel-reads
-use Rattle.order.proofs.parts.join.Reads as join-reads
 
 cancel-requires : tie.Need-cancel-requires
 cancel-requires c κs = let h = c .before .before .before .before .before .pre in (h .0, (h .1 .0, h .1 .1 .0))

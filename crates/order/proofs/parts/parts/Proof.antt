@@ -1,14 +1,8 @@
-use native.Mathlib.Omega.{arith}
 use mathlib.Core.Path.{refl}
 use Rattle.symbols.specs.Table.{signatureOf}
 use Rattle.equivalence.proofs.OffsetLaws.{offsets-own}
-use borrow.Author.Needs.{needs}
 use Rattle.order.proofs.parts.parts.Statement.{statement}
 use Rattle.order.proofs.parts.parts.Tie as tie
-use Rattle.order.proofs.parts.parts.Reads as reads
-use Rattle.order.proofs.parts.parts.Lts as lts
-use Rattle.equivalence.proofs.flatten.elements.Reads as elements-reads
-use Rattle.order.proofs.parts.split.Reads as split-reads
 
 elements-requires : tie.Need-elements-requires
 elements-requires c κs = let h = c .before .before .before .pre in

@@ -5,10 +5,6 @@ use Prim.Native.Nat.{_-_, _≤_}
 use Rattle.order.proofs.SplitLaws.{Splitting, split-start, split-variable, split-above, split-below, split-level}
 use Rattle.order.proofs.parts.split.Statement.{statement}
 use Rattle.order.proofs.parts.split.Tie as tie
-use Rattle.order.proofs.parts.split.Reads as reads
-use Rattle.order.proofs.parts.split.Lts as lts
-use Rattle.equivalence.proofs.offsets.wide_byte.Reads as wide-byte-reads
-use Rattle.symbols.proofs.precedence.Reads as precedence-reads
 
 abbrev Inv-loop : tie.InvT-loop
 Inv-loop table f words offsets m above₀ below₀ variables₀ rank k₀ a₀ b₀ v₀ above below variables k a b v =

@@ -5,8 +5,6 @@ use Rattle.order.specs.Sums.{digitsWithin}
 use Rattle.order.proofs.OccurrenceLaws.{within-zero, within-none, within-not, within-more}
 use Rattle.order.proofs.sums.digits_within.Statement.{statement}
 use Rattle.order.proofs.sums.digits_within.Tie as tie
-use Rattle.order.proofs.sums.digits_within.Reads as reads
-use Rattle.order.proofs.sums.digits_within.Lts as lts
 
 abbrev Inv-loop : tie.InvT-loop
 Inv-loop left right a₀ b₀ n₀ a b n = digitsWithin n a b ≡ digitsWithin 8 left right

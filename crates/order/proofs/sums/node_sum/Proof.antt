@@ -1,15 +1,9 @@
 use native.Mathlib.Omega.{arith}
-use mathlib.Core.Path.{_≡_, sym, _∙_, ap}
+use mathlib.Core.Path.{_∙_}
 use Rattle.order.proofs.SumLaws.{node-weight, node-nothing, node-variable, node-low, node-high}
 use borrow.Author.Needs.{needs}
 use Rattle.order.proofs.sums.node_sum.Statement.{statement}
 use Rattle.order.proofs.sums.node_sum.Tie as tie
-use Rattle.order.proofs.sums.node_sum.Reads as reads
-use Rattle.order.proofs.sums.node_sum.Lts as lts
-use Rattle.order.proofs.sums.place.Reads as place-reads
-use Rattle.symbols.proofs.variable_weight.Reads as variable-weight-reads
-use Rattle.symbols.proofs.weight.Reads as weight-reads
-use Rattle.symbols.proofs.wide.Reads as wide-reads
 
 weight-requires : tie.Need-weight-requires
 weight-requires c κs = search needs

@@ -6,9 +6,6 @@ use Rattle.order.proofs.SumLaws.{place-below, place-at, place-past}
 use borrow.Author.Needs.{needs}
 use Rattle.order.proofs.sums.place.Statement.{statement}
 use Rattle.order.proofs.sums.place.Tie as tie
-use Rattle.order.proofs.sums.place.Reads as reads
-use Rattle.order.proofs.sums.place.Lts as lts
-use Rattle.order.proofs.sums.power.Reads as power-reads
 
 returns : tie.Need-returns
 returns c = (sym (place-below (c .before .args .first) 8 (c .before .args .x) (omega arith)), omega arith)

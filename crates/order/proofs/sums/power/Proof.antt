@@ -1,11 +1,8 @@
 use native.Mathlib.Omega.{arith}
-use mathlib.Core.Path.{_∙_}
 use Rattle.order.proofs.SumLaws.{power-shift}
 use borrow.Author.Needs.{needs}
 use Rattle.order.proofs.sums.power.Statement.{statement}
 use Rattle.order.proofs.sums.power.Tie as tie
-use Rattle.order.proofs.sums.power.Reads as reads
-use Rattle.order.proofs.sums.power.Lts as lts
 
 mul-result : tie.Need-mul-result
 mul-result c = search needs

@@ -3,9 +3,6 @@ use Rattle.order.proofs.SumLaws.{part-fits, part-sum}
 use borrow.Author.Needs.{needs}
 use Rattle.order.proofs.sums.sum_at.Statement.{statement}
 use Rattle.order.proofs.sums.sum_at.Tie as tie
-use Rattle.order.proofs.sums.sum_at.Reads as reads
-use Rattle.order.proofs.sums.sum_at.Lts as lts
-use Rattle.equivalence.proofs.keys.size_at.Reads as size-at-reads
 
 size-at-requires : tie.Need-size-at-requires
 size-at-requires c κs = search needs

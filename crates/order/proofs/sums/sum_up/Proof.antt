@@ -1,7 +1,7 @@
 use borrow.Author.Needs.{needs}
 use native.Mathlib.Omega.{arith}
 use mathlib.Core.Path.{_≡_}
-use Prim.Native.Nat.{_+_, _-_, _≤_}
+use Prim.Native.Nat.{_-_, _≤_}
 use lib.ListN.{length, drop}
 use Rattle.symbols.specs.Table.{signatureOf}
 use Rattle.order.specs.Sums.{Totalled, Bounded}
@@ -9,10 +9,6 @@ use Rattle.order.proofs.TotalLaws.{AllFrom, totalled-none, totalled-mor
 use Rattle.order.proofs.TotalLaws.{stored-room, stored-from}
 use Rattle.order.proofs.sums.sum_up.Statement.{statement}
 use Rattle.order.proofs.sums.sum_up.Tie as tie
-use Rattle.order.proofs.sums.sum_up.Reads as reads
-use Rattle.order.proofs.sums.sum_up.Lts as lts
-use Rattle.order.proofs.sums.put_sums.Reads as put-sums-reads
-use Rattle.order.proofs.sums.with_node.Reads as with-node-reads
 
 abbrev Inv-loop : tie.InvT-loop
 Inv-loop table words sums₀ i₀ here₀ sums i here =

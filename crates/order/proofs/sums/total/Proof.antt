@@ -1,16 +1,13 @@
 use borrow.Author.Needs.{needs}
 use native.Mathlib.Omega.{arith}
 use mathlib.Core.Path.{_≡_}
-use Prim.Native.Nat.{_+_, _-_, _≤_}
+use Prim.Native.Nat.{_-_, _≤_}
 use lib.ListN.{length, drop}
 use Rattle.symbols.specs.Table.{signatureOf}
 use Rattle.order.specs.Sums.{Totalled, Bounded}
 use Rattle.order.proofs.TotalLaws.{totalled-none, totalled-more, bounded-more}
 use Rattle.order.proofs.sums.total.Statement.{statement}
 use Rattle.order.proofs.sums.total.Tie as tie
-use Rattle.order.proofs.sums.total.Reads as reads
-use Rattle.order.proofs.sums.total.Lts as lts
-use Rattle.order.proofs.sums.with_node.Reads as with-node-reads
 
 abbrev Inv-loop : tie.InvT-loop
 Inv-loop table words i₀ here₀ i here =

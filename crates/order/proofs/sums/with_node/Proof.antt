@@ -4,9 +4,6 @@ use Prim.Native.Nat.{ℕ, _+_}
 use borrow.Author.Needs.{needs}
 use Rattle.order.proofs.sums.with_node.Statement.{statement}
 use Rattle.order.proofs.sums.with_node.Tie as tie
-use Rattle.order.proofs.sums.with_node.Reads as reads
-use Rattle.order.proofs.sums.with_node.Lts as lts
-use Rattle.order.proofs.sums.node_sum.Reads as node-sum-reads
 
 node-sum-requires : tie.Need-node-sum-requires
 node-sum-requires c κs = search needs

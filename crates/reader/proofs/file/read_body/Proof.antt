@@ -1,18 +1,13 @@
 use native.Mathlib.Omega.{arith}
-use mathlib.Core.Path.{_≡_, refl, sym, ap, _∙_}
+use mathlib.Core.Path.{refl, sym, _∙_}
 use mathlib.Core.List.{[], _∷_}
-use Prim.Native.Nat.{ℕ, _+_, _-_, _*_, _<_, _≤_}
-use lib.ListN.{length, take}
+use Prim.Native.Nat.{_+_, _-_, _*_, _≤_}
+use lib.ListN.{length}
 use lib.Seq.{length-take-le}
 use Rattle.reader.proofs.FileLaws.{symbols-fault, rules-fault, padding-fault, body-read}
 use borrow.Author.Needs.{needs}
 use Rattle.reader.proofs.file.read_body.Statement.{statement}
 use Rattle.reader.proofs.file.read_body.Tie as tie
-use Rattle.reader.proofs.file.read_body.Reads as reads
-use Rattle.reader.proofs.file.read_body.Lts as lts
-use Rattle.bits.proofs.BitCursor.is_padding.Reads as is-padding-reads
-use Rattle.reader.proofs.rule.put_rules.Reads as put-rules-reads
-use Rattle.reader.proofs.symbol.read_symbols.Reads as read-symbols-reads
 
 read-symbols-requires : tie.Need-read-symbols-requires
 read-symbols-requires c κs = search needs

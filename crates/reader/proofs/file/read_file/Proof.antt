@@ -1,6 +1,5 @@
 use native.Mathlib.Omega.{arith}
-use mathlib.Core.Path.{_≡_, refl, sym, ap, _∙_}
-use Prim.Native.Nat.{ℕ, _<_}
+use mathlib.Core.Path.{sym, ap, _∙_}
 use lib.ListN.{length}
 use borrow.Author.Tests.{lt-ltb, le-ltb, lt-leb, le-leb, eq-eqb, ne-eqb}
 use Rattle.format.specs.Layout.{maxBytes}
@@ -12,11 +11,6 @@ use Rattle.bits.proofs.NodeLaws.{field-lt}
 use borrow.Author.Needs.{needs}
 use Rattle.reader.proofs.file.read_file.Statement.{statement}
 use Rattle.reader.proofs.file.read_file.Tie as tie
-use Rattle.reader.proofs.file.read_file.Reads as reads
-use Rattle.reader.proofs.file.read_file.Lts as lts
-use Rattle.bits.proofs.BitCursor.field.Reads as field-reads
-use Rattle.reader.proofs.file.read_body.Reads as read-body-reads
-use Rattle.symbols.proofs.wide.Reads as wide-reads
 
 returns : tie.Need-returns
 unfolding readBytes fileReader bodyReader

@@ -5,9 +5,6 @@ use Rattle.reader.proofs.RuleLaws.{left-fault, right-read}
 use borrow.Author.Needs.{needs}
 use Rattle.reader.proofs.rule.put_rule.Statement.{statement}
 use Rattle.reader.proofs.rule.put_rule.Tie as tie
-use Rattle.reader.proofs.rule.put_rule.Reads as reads
-use Rattle.reader.proofs.rule.put_rule.Lts as lts
-use Rattle.reader.proofs.rule.put_side.Reads as put-side-reads
 
 put-side-requires : tie.Need-put-side-requires
 put-side-requires c κs = search needs

@@ -1,16 +1,13 @@
 use borrow.Author.Needs.{needs}
 use native.Mathlib.Omega.{arith}
-use mathlib.Core.Path.{_≡_, refl, sym, ap, _∙_}
-use Prim.Native.Nat.{ℕ, _+_, _-_, _*_, _<_, _≤_}
+use mathlib.Core.Path.{_≡_, refl, _∙_}
+use Prim.Native.Nat.{_-_, _≤_}
 use lib.ListN.{length}
 use Rattle.format.specs.Reading.{bitSource}
 use Rattle.symbols.specs.Table.{signatureOf}
 use Rattle.reader.proofs.RuleLaws.{SoFar, so-far-none, so-far-fault, so-far-more, so-far-done}
 use Rattle.reader.proofs.rule.put_rules.Statement.{statement}
 use Rattle.reader.proofs.rule.put_rules.Tie as tie
-use Rattle.reader.proofs.rule.put_rules.Reads as reads
-use Rattle.reader.proofs.rule.put_rules.Lts as lts
-use Rattle.reader.proofs.rule.put_rule.Reads as put-rule-reads
 
 abbrev Inv-loop : tie.InvT-loop
 Inv-loop book table words₀ index count end₀ here₀ number₀ words end here number =

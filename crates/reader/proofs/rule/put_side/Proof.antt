@@ -5,9 +5,6 @@ use Rattle.reader.proofs.RuleLaws.{side-past}
 use borrow.Author.Needs.{needs}
 use Rattle.reader.proofs.rule.put_side.Statement.{statement}
 use Rattle.reader.proofs.rule.put_side.Tie as tie
-use Rattle.reader.proofs.rule.put_side.Reads as reads
-use Rattle.reader.proofs.rule.put_side.Lts as lts
-use Rattle.reader.proofs.term.read_row.Reads as read-row-reads
 
 add-read-row : tie.Need-add-read-row
 add-read-row c = search needs

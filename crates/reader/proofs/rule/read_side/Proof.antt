@@ -1,11 +1,7 @@
-use native.Mathlib.Omega.{arith}
 use Rattle.reader.proofs.RuleLaws.{side-front}
 use borrow.Author.Needs.{needs}
 use Rattle.reader.proofs.rule.read_side.Statement.{statement}
 use Rattle.reader.proofs.rule.read_side.Tie as tie
-use Rattle.reader.proofs.rule.read_side.Reads as reads
-use Rattle.reader.proofs.rule.read_side.Lts as lts
-use Rattle.reader.proofs.rule.put_side.Reads as put-side-reads
 
 put-side-requires : tie.Need-put-side-requires
 put-side-requires c κs = search needs

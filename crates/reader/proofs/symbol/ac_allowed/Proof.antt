@@ -1,9 +1,6 @@
-use borrow.Author.Needs.{needs}
 use borrow.Author.Tests.{eq-eqb, ne-eqb}
 use Rattle.reader.proofs.symbol.ac_allowed.Statement.{statement}
 use Rattle.reader.proofs.symbol.ac_allowed.Tie as tie
-use Rattle.reader.proofs.symbol.ac_allowed.Reads as reads
-use Rattle.reader.proofs.symbol.ac_allowed.Lts as lts
 
 returns : tie.Need-returns
 returns c = rw (eq-eqb _ _ (c .if1 .taken))

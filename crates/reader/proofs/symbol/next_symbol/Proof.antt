@@ -1,21 +1,17 @@
 use native.Mathlib.Omega.{arith}
-use mathlib.Core.Path.{_≡_, refl, sym, ap, _∙_}
+use mathlib.Core.Path.{refl, sym, ap, _∙_}
 use mathlib.Core.List.{List}
-use Prim.Native.Nat.{ℕ, _+_, _*_, _<_}
+use Prim.Native.Nat.{_+_, _*_, _<_}
 use lib.ListN.{getD, length, length-set}
 use Rattle.terms.specs.Signature.{Symbol}
 use Rattle.format.specs.Reading.{bitSource}
 use Rattle.format.specs.Format.{symbolsReader}
 use Rattle.symbols.specs.Table.{symbolsAt}
-use Rattle.reader.specs.Symbol.{entryReading, RankFits}
+use Rattle.reader.specs.Symbol.{entryReading}
 use Rattle.reader.proofs.SymbolLaws.{symbols-put, getD-put-before, taken-put, symbol-fault, symbol-past}
 use borrow.Author.Needs.{needs}
 use Rattle.reader.proofs.symbol.next_symbol.Statement.{statement}
 use Rattle.reader.proofs.symbol.next_symbol.Tie as tie
-use Rattle.reader.proofs.symbol.next_symbol.Reads as reads
-use Rattle.reader.proofs.symbol.next_symbol.Lts as lts
-use Rattle.reader.proofs.symbol.read_symbol.Reads as read-symbol-reads
-use Rattle.symbols.proofs.wide.Reads as wide-reads
 
 slice-read-w0 : tie.Need-slice-read-w0
 slice-read-w0 c = search needs

@@ -10,12 +10,6 @@ use Rattle.bits.proofs.NodeLaws.{field-lt}
 use borrow.Author.Needs.{needs}
 use Rattle.reader.proofs.symbol.read_symbol.Statement.{statement}
 use Rattle.reader.proofs.symbol.read_symbol.Tie as tie
-use Rattle.reader.proofs.symbol.read_symbol.Reads as reads
-use Rattle.reader.proofs.symbol.read_symbol.Lts as lts
-use Rattle.bits.proofs.BitCursor.field.Reads as field-reads
-use Rattle.reader.proofs.symbol.ac_allowed.Reads as ac-allowed-reads
-use Rattle.reader.proofs.symbol.weighs_enough.Reads as weighs-enough-reads
-use Rattle.symbols.proofs.wide.Reads as wide-reads
 
 field-requires : tie.Need-field-requires
 field-requires c κs = search needs

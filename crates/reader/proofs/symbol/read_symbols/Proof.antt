@@ -1,24 +1,19 @@
 use borrow.Author.Needs.{needs}
 use native.Mathlib.Omega.{arith}
-use mathlib.Core.Path.{_≡_, refl, sym, ap, _∙_}
-use mathlib.Core.List.{List, []}
-use mathlib.Core.Bool.{false}
-use Prim.Native.Nat.{ℕ, suc, _+_, _-_, _*_, _<_, _≤_}
-use lib.ListN.{getD, length, length-set, replicate, length-replicate}
+use mathlib.Core.Path.{_≡_, refl, ap, _∙_}
+use mathlib.Core.List.{[]}
+use Prim.Native.Nat.{ℕ, _+_, _-_, _<_, _≤_}
+use lib.ListN.{getD, length, length-set}
 use native.Mathlib.Nat.{sub-zero}
 use lib.Seq.{getD-set-same}
 use Rattle.format.specs.Reading.{bitSource}
 use Rattle.format.specs.Reading.Reading.{got}
 use Rattle.format.specs.Format.{symbolsReader}
 use Rattle.symbols.specs.Table.{symbolsAt}
-use Rattle.reader.specs.declared.symbol.Step.{Step}
-use Rattle.reader.specs.Symbol.{onward, TakenBy, TakenPast}
+use Rattle.reader.specs.Symbol.{TakenBy}
 use Rattle.reader.proofs.SymbolLaws.{taken-none, symbols-onward, symbols-done}
 use Rattle.reader.proofs.symbol.read_symbols.Statement.{statement}
 use Rattle.reader.proofs.symbol.read_symbols.Tie as tie
-use Rattle.reader.proofs.symbol.read_symbols.Reads as reads
-use Rattle.reader.proofs.symbol.read_symbols.Lts as lts
-use Rattle.reader.proofs.symbol.next_symbol.Reads as next-symbol-reads
 
 abbrev Inv-loop : tie.InvT-loop
 Inv-loop book table₀ w0 count taken₀ here₀ number₀ table taken here number =

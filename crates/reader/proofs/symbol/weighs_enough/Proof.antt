@@ -1,10 +1,7 @@
-use borrow.Author.Needs.{needs}
 use native.Mathlib.Omega.{arith}
 use Rattle.reader.proofs.SymbolLaws.{least-zero, least-one, least-more}
 use Rattle.reader.proofs.symbol.weighs_enough.Statement.{statement}
 use Rattle.reader.proofs.symbol.weighs_enough.Tie as tie
-use Rattle.reader.proofs.symbol.weighs_enough.Reads as reads
-use Rattle.reader.proofs.symbol.weighs_enough.Lts as lts
 
 returns : tie.Need-returns
 returns c = least-zero _ _ _ (c .if1 .taken)

@@ -1,14 +1,8 @@
-use mathlib.Core.Path.{_≡_, sym, ap, _∙_}
-use Prim.Native.Nat.{_+_, _*_, _/_}
-use lib.Dec.{ltb}
 use lib.ListN.{length}
 use Rattle.reader.proofs.TermLaws.{symbol-count, index-count}
 use borrow.Author.Needs.{needs}
 use Rattle.reader.proofs.term.has_symbol.Statement.{statement}
 use Rattle.reader.proofs.term.has_symbol.Tie as tie
-use Rattle.reader.proofs.term.has_symbol.Reads as reads
-use Rattle.reader.proofs.term.has_symbol.Lts as lts
-use Rattle.symbols.proofs.wide.Reads as wide-reads
 
 wide-requires : tie.Need-wide-requires
 wide-requires c κs = search needs

@@ -3,8 +3,6 @@ use lib.Seq.{set-out}
 use borrow.Author.Needs.{needs}
 use Rattle.reader.proofs.term.put_word.Statement.{statement}
 use Rattle.reader.proofs.term.put_word.Tie as tie
-use Rattle.reader.proofs.term.put_word.Reads as reads
-use Rattle.reader.proofs.term.put_word.Lts as lts
 
 mul-words : tie.Need-mul-words
 mul-words c = search needs

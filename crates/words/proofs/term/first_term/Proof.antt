@@ -1,13 +1,9 @@
-use mathlib.Core.Path.{_≡_, sym, ap, _∙_}
-use Rattle.format.specs.Files.{readFirstTerm}
+use mathlib.Core.Path.{sym, _∙_}
 use Rattle.symbols.specs.Table.{signatureOf}
 use Rattle.words.proofs.TermLaws.{first-term, first-refused}
 use borrow.Author.Needs.{needs}
 use Rattle.words.proofs.term.first_term.Statement.{statement}
 use Rattle.words.proofs.term.first_term.Tie as tie
-use Rattle.words.proofs.term.first_term.Reads as reads
-use Rattle.words.proofs.term.first_term.Lts as lts
-use Rattle.words.proofs.term.term.Reads as term-reads
 
 term-requires : tie.Need-term-requires
 term-requires c κs = search needs

@@ -9,11 +9,6 @@ use Rattle.words.proofs.TermLaws.{symbol-count}
 use borrow.Author.Needs.{needs}
 use Rattle.words.proofs.term.node.Statement.{statement}
 use Rattle.words.proofs.term.node.Tie as tie
-use Rattle.words.proofs.term.node.Reads as reads
-use Rattle.words.proofs.term.node.Lts as lts
-use Rattle.symbols.proofs.arity.Reads as arity-reads
-use Rattle.symbols.proofs.wide.Reads as wide-reads
-use Rattle.words.proofs.cursor.WordCursor.below.Reads as below-reads
 
 below-requires : tie.Need-below-requires
 below-requires c κs = search needs

@@ -1,4 +1,4 @@
-use mathlib.Core.Path.{_≡_, sym, ap, _∙_}
+use mathlib.Core.Path.{sym, ap, _∙_}
 use borrow.Author.Tests.{eq-eqb, ne-eqb}
 use lib.ListN.{length}
 use Rattle.format.specs.Files.{endReader}
@@ -8,9 +8,6 @@ use Rattle.words.proofs.TermLaws.{whole-term}
 use borrow.Author.Needs.{needs}
 use Rattle.words.proofs.term.whole_term.Statement.{statement}
 use Rattle.words.proofs.term.whole_term.Tie as tie
-use Rattle.words.proofs.term.whole_term.Reads as reads
-use Rattle.words.proofs.term.whole_term.Lts as lts
-use Rattle.words.proofs.term.first_term.Reads as first-term-reads
 
 first-term-requires : tie.Need-first-term-requires
 first-term-requires c κs = search needs

@@ -4,10 +4,6 @@ use Rattle.writer.proofs.WriterLaws.{shifted-facts, writes-shifted}
 use borrow.Author.Needs.{needs}
 use Rattle.writer.proofs.BitWriter.finish.Statement.{statement}
 use Rattle.writer.proofs.BitWriter.finish.Tie as tie
-use Rattle.writer.proofs.BitWriter.finish.Reads as reads
-use Rattle.writer.proofs.BitWriter.finish.Lts as lts
-use Rattle.writer.proofs.BitWriter.pad.Reads as pad-reads
-use Rattle.writer.proofs.BitWriter.store.Reads as store-reads
 
 store-requires : tie.Need-store-requires
 store-requires c κs = search needs

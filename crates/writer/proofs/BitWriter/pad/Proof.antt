@@ -3,10 +3,6 @@ use Rattle.writer.proofs.WriterLaws.{padded-lt, writes-last, writes-who
 use borrow.Author.Needs.{needs}
 use Rattle.writer.proofs.BitWriter.pad.Statement.{statement}
 use Rattle.writer.proofs.BitWriter.pad.Tie as tie
-use Rattle.writer.proofs.BitWriter.pad.Reads as reads
-use Rattle.writer.proofs.BitWriter.pad.Lts as lts
-use Rattle.writer.proofs.put_byte.Reads as put-byte-reads
-use Rattle.writer.proofs.two_to.Reads as two-to-reads
 
 returns : tie.Need-returns
 returns c = λ old bits h. writes-whole old bits _ _ h (c .if1 .taken)

@@ -3,9 +3,6 @@ use Rattle.writer.proofs.WriterLaws.{push-fits}
 use borrow.Author.Needs.{needs}
 use Rattle.writer.proofs.BitWriter.push.Statement.{statement}
 use Rattle.writer.proofs.BitWriter.push.Tie as tie
-use Rattle.writer.proofs.BitWriter.push.Reads as reads
-use Rattle.writer.proofs.BitWriter.push.Lts as lts
-use Rattle.writer.proofs.two_to.Reads as two-to-reads
 
 two-to-requires : tie.Need-two-to-requires
 two-to-requires c κs = search needs

@@ -3,10 +3,6 @@ use Rattle.writer.proofs.WriterLaws.{pushed-lt, below-word, writes-push
 use borrow.Author.Needs.{needs}
 use Rattle.writer.proofs.BitWriter.put.Statement.{statement}
 use Rattle.writer.proofs.BitWriter.put.Tie as tie
-use Rattle.writer.proofs.BitWriter.put.Reads as reads
-use Rattle.writer.proofs.BitWriter.put.Lts as lts
-use Rattle.writer.proofs.BitWriter.push.Reads as push-reads
-use Rattle.writer.proofs.BitWriter.store_four.Reads as store-four-reads
 
 push-requires : tie.Need-push-requires
 push-requires c κs =

@@ -4,10 +4,6 @@ use Rattle.writer.proofs.WriterLaws.{byte-lt}
 use borrow.Author.Needs.{needs}
 use Rattle.writer.proofs.BitWriter.store.Statement.{statement}
 use Rattle.writer.proofs.BitWriter.store.Tie as tie
-use Rattle.writer.proofs.BitWriter.store.Reads as reads
-use Rattle.writer.proofs.BitWriter.store.Lts as lts
-use Rattle.writer.proofs.put_byte.Reads as put-byte-reads
-use Rattle.writer.proofs.two_to.Reads as two-to-reads
 
 returns : tie.Need-returns
 returns c = rw (lt-ltb (c .before .before .before .args .self .count) 8 (c .if1 .taken)) (refl, refl)

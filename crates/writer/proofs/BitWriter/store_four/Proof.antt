@@ -3,10 +3,6 @@ use Rattle.writer.proofs.WriterLaws.{word-lt, writes-four}
 use borrow.Author.Needs.{needs}
 use Rattle.writer.proofs.BitWriter.store_four.Statement.{statement}
 use Rattle.writer.proofs.BitWriter.store_four.Tie as tie
-use Rattle.writer.proofs.BitWriter.store_four.Reads as reads
-use Rattle.writer.proofs.BitWriter.store_four.Lts as lts
-use Rattle.writer.proofs.put_four.Reads as put-four-reads
-use Rattle.writer.proofs.two_to.Reads as two-to-reads
 
 returns : tie.Need-returns
 returns c = search needs

@@ -5,8 +5,6 @@ use Rattle.format.specs.Reading.{wordBelow}
 use borrow.Author.Needs.{needs}
 use Rattle.words.proofs.cursor.WordCursor.below.Statement.{statement}
 use Rattle.words.proofs.cursor.WordCursor.below.Tie as tie
-use Rattle.words.proofs.cursor.WordCursor.below.Reads as reads
-use Rattle.words.proofs.cursor.WordCursor.below.Lts as lts
 
 returns : tie.Need-returns
 unfolding wordBelow

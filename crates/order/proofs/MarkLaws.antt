@@ -1,7 +1,8 @@
 -- The mark of two terms, 1 to 10, and their relation.
 --     whole-seven, -one, -eight, -root, -ten      each way that the mark is decided
 --     decreasing-few                              marks of the order are at most 6
---     greater-of-mark, less-of-mark, related      the relation, by the marks both ways
+--     relation-greater, -equivalent, -less, -none the relation, by the marks both ways
+--     level-greater, -oftener, -one, -two, -four   the relation of terms of equal weight
 use mathlib.Core.List.{List}
 use mathlib.Core.Path.{_≡_, refl, sym, ap, _∙_}
 use mathlib.Core.Bool.{Bool, true, false, cond, not, _&&_}

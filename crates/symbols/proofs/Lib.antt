@@ -1,2 +1,3 @@
 -- What a symbol table says of a symbol.
 pub mod TableLaws
+pub mod ArityLaws

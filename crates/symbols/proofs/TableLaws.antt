@@ -1,5 +1,6 @@
 -- What a symbol table says of a symbol, by index.
 --     symbol-at     a symbol's entry is its four words, also past the end
+--     symbol-count, index-count    how many symbols a table has, and whether it has one
 --     few-at        a table of at most 1,025 words has at most 256 symbols
 use mathlib.Core.List.{List}
 use mathlib.Core.Path.{_≡_, refl, sym, ap, _∙_}
@@ -7,8 +8,10 @@ use mathlib.Core.Bool.{false}
 use Prim.Native.Nat.{ℕ, suc, zero, _+_, _*_, _/_, _≤_, _<_}
 use native.Mathlib.Omega.{arith}
 use native.Mathlib.Nat.{add-zero, zero-add}
+use lib.Dec.{ltb}
 use lib.ListN.{length, getD, List·getD-eq-default}
-use Rattle.multisets.proofs.Relations.{byOrder}
+use borrow.Author.Tests.{lt-ltb, ltb-true}
+use Rattle.multisets.proofs.Relations.{byOrder, sameTest}
 use Rattle.terms.specs.Signature.{Symbol, symbolOf}
 use Rattle.symbols.specs.Table.{symbolAt, symbolsAt, signatureOf}
 
@@ -22,7 +25,7 @@ symbols-at table g (suc n) (suc f) h =
     let e : f + suc g ≡ suc f + g = omega arith in
     symbols-at table (suc g) n f (omega arith) ∙ ap (symbolAt table) e
 
-length-symbols : (table : List ℕ) (g n : ℕ) → length (symbolsAt table g n) ≡ n
+pub length-symbols : (table : List ℕ) (g n : ℕ) → length (symbolsAt table g n) ≡ n
 length-symbols table g zero = refl
 length-symbols table g (suc n) = ap suc (length-symbols table (suc g) n)
 
@@ -39,6 +42,15 @@ symbol-at table f =
     λ h. List·getD-eq-default (symbolsAt table 0 n) none (omega (arith, length-symbols table 0 n))
     ∙ sym (past-end table f h)
 
-pub few-at : (table : List ℕ) → length table ≤ 1025 → length (signatureOf table .symbols) ≤ 256
+pub symbol-count : (table : List ℕ) → length (signatureOf table .symbols) ≡ (length table + 2) / 4
 unfolding signatureOf
-few-at table h = omega (arith, length-symbols table 0 ((length table + 2) / 4))
+symbol-count table = length-symbols table 0 ((length table + 2) / 4)
+
+pub index-count : (f n : ℕ) → ltb (4 * f + 1) n ≡ ltb f ((n + 2) / 4)
+index-count f n =
+    sameTest (ltb (4 * f + 1) n) (ltb f ((n + 2) / 4))
+    (λ e. lt-ltb f ((n + 2) / 4) (omega (arith, ltb-true (4 * f + 1) n e)))
+    λ e. lt-ltb (4 * f + 1) n (omega (arith, ltb-true f ((n + 2) / 4) e))
+
+pub few-at : (table : List ℕ) → length table ≤ 1025 → length (signatureOf table .symbols) ≤ 256
+few-at table h = omega (arith, symbol-count table)

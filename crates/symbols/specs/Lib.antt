@@ -1,2 +1,3 @@
 -- The decoded symbol table.
 pub mod Table
+pub mod Arities

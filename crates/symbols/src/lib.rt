@@ -1,9 +1,11 @@
 // The decoded symbol table: access to a symbol by its number. Only these functions know how the words lie.
 ghost use mathlib.Core.Path.{_≡_};
-ghost use Prim.Native.Nat.{_+_, _*_, _<_};
-ghost use lib.ListN.{getD};
+ghost use Prim.Native.Nat.{_+_, _*_, _≤_, _<_};
+ghost use lib.Dec.{ltb};
+ghost use lib.ListN.{length, getD};
 ghost use Rattle.terms.specs.Signature.{symbolOf};
 ghost use Rattle.symbols.specs.Table.{signatureOf};
+ghost use Rattle.symbols.specs.Arities.{cellOf, Arities, Between};
 
 // The word as an index.
 pub fn wide(word: u16) -> usize
@@ -55,4 +57,51 @@ pub fn variable_weight(table: &[u16]) -> u64
     ensures { λ r. ⌜ (r ≡ signatureOf (now (table .entry)) .w0) × (r < 65536) ⌝ }
 {
     long(word_at(table, 0))
+}
+
+// Whether the table has a symbol of that number.
+pub fn has_symbol(table: &[u16], f: u16) -> bool
+    ensures { λ r. ⌜ r ≡ ltb f (length (signatureOf (now (table .entry)) .symbols)) ⌝ }
+{
+    4 * wide(f) + 1 < table.len()
+}
+
+// One more than how many arguments a node calls for; 0 for a symbol that the table lacks.
+fn cell(table: &[u16], word: u16) -> u32
+    ensures { λ r. ⌜ r ≡ cellOf (signatureOf (now (table .entry))) word ⌝ }
+{
+    if 256 <= word {
+        return 1;
+    }
+    if has_symbol(table, word) {
+        return arity(table, word) as u32 + 1;
+    }
+    0
+}
+
+// Writes the cells of the words from one to another.
+fn put_cells(table: &[u16], cells: &mut [u32; 272], from: u16, to: u16)
+    requires { ⌜ (from ≤ to) × (to ≤ 272) × (length (now cells) ≡ 272) ⌝ }
+    ensures { λ _. ⌜
+        Between (signatureOf (now (table .entry))) from to (now (cells .entry)) (now (cells .exit))
+        ⌝ }
+    ensures { λ _. ⌜ length (now (cells .exit)) ≡ 272 ⌝ }
+{
+    let mut word = from;
+    while word < to {
+        cells[wide(word)] = cell(table, word);
+        word += 1;
+    }
+}
+
+// The cells of all node words.
+pub fn arities(table: &[u16]) -> [u32; 272]
+    requires { ⌜ length (now table) ≤ 1025 ⌝ }
+    ensures { λ r. ⌜ Arities (signatureOf (now (table .entry))) r ⌝ }
+{
+    let mut cells = [0u32; 272];
+    let count = (table.len() + 2) / 4;
+    put_cells(table, &mut cells, 0, count as u16);
+    put_cells(table, &mut cells, 256, 272);
+    cells
 }

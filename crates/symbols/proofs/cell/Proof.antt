@@ -1,0 +1,55 @@
+use mathlib.Core.Path.{sym, _∙_}
+use native.Mathlib.Omega.{arith}
+use lib.ListN.{length}
+use borrow.Author.Tests.{ltb-true, ltb-false}
+use borrow.Author.Needs.{needs}
+use Rattle.symbols.specs.Table.{signatureOf}
+use Rattle.symbols.proofs.ArityLaws.{variable-cell, symbol-cell, no-cell}
+use Rattle.symbols.proofs.cell.Statement.{statement}
+use Rattle.symbols.proofs.cell.Tie as tie
+
+returns : tie.Need-returns
+returns c = sym (variable-cell (signatureOf (c .before .before .args .table .now)) (c .before .before .args .word)
+    (omega arith))
+
+has-symbol-requires : tie.Need-has-symbol-requires
+has-symbol-requires c κs = search needs
+
+arity-requires : tie.Need-arity-requires
+arity-requires c κs = search needs
+
+cast-result : tie.Need-cast-result
+cast-result c = search needs
+
+add-result : tie.Need-add-result
+add-result c = search needs
+
+returns-2 : tie.Need-returns-2
+returns-2 c =
+    let σ = signatureOf (c .before .before .before .before .before .args .table .now) in
+    let k = ltb-true (c .before .before .before .before .before .args .word) (length (σ .symbols)) (sym (c .before
+    .before .has-symbol .ensures) ∙ c .before .if2 .taken) in
+    rw (symbol-cell σ (c .before .before .before .before .before .args .word) (omega arith) k) (omega (
+      arith,
+      c .arity
+          .ensures .0,
+    ))
+
+returns-3 : tie.Need-returns-3
+returns-3 c =
+    let σ = signatureOf (c .before .before .before .before .args .table .now) in
+    let k = ltb-false (c .before .before .before .before .args .word) (length (σ .symbols)) (sym (c .before .has-symbol
+    .ensures) ∙ c .if2 .left) in
+    sym (no-cell σ (c .before .before .before .before .args .word) (omega arith) k)
+
+pub cell-spec : {M : Type 1} → statement M
+cell-spec =
+    tie.close
+    (tie.spec
+    returns
+    has-symbol-requires
+    arity-requires
+    cast-result
+    add-result
+    returns-2
+    returns-3)

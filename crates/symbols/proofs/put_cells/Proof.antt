@@ -1,0 +1,79 @@
+use mathlib.Core.Path.{_≡_}
+use Prim.Native.Nat.{_-_, _≤_}
+use native.Mathlib.Omega.{arith}
+use lib.ListN.{length, length-set}
+use borrow.Author.Needs.{needs}
+use Rattle.symbols.specs.Table.{signatureOf}
+use Rattle.symbols.specs.Arities.{Between}
+use Rattle.symbols.proofs.ArityLaws.{between-none, between-more}
+use Rattle.symbols.proofs.put_cells.Statement.{statement}
+use Rattle.symbols.proofs.put_cells.Tie as tie
+
+abbrev Inv-loop : tie.InvT-loop
+Inv-loop table cells₀ from to word₀ cells word =
+    (from ≤ word) × (word ≤ to) × (length cells ≡ 272) × Between (signatureOf table) from word cells₀ cells
+
+abbrev μ-loop : tie.MeasureT-loop
+μ-loop table cells₀ from to word₀ cells word = to - word
+
+loop-holds : tie.Need-loop-holds Inv-loop μ-loop
+loop-holds c = (
+  omega arith,
+  omega arith,
+  c .before .pre .2,
+  between-none (signatureOf (c .before .args .table .now)) (c .before
+      .args .from) (c .before .args .cells .now),
+)
+
+cell-requires : tie.Need-cell-requires Inv-loop μ-loop
+cell-requires c κs = search needs
+
+wide-requires : tie.Need-wide-requires Inv-loop μ-loop
+wide-requires c κs = search needs
+
+mul-cells : tie.Need-mul-cells Inv-loop μ-loop
+mul-cells c = search needs
+
+element-write-cells : tie.Need-element-write-cells Inv-loop μ-loop
+element-write-cells c = search needs
+
+add-word : tie.Need-add-word Inv-loop μ-loop
+add-word c = search needs
+
+loop-less : tie.Need-loop-less Inv-loop μ-loop
+loop-less c = search needs
+
+loop-again : tie.Need-loop-again Inv-loop μ-loop
+loop-again c =
+    let v = c .before .before .before .loop .inv in (
+      omega arith,
+      omega arith,
+      simp length-set (v .2),
+      rw (c .wide .ensures .0) (between-more (signatureOf (c .before .before .before .before .before .args .table
+          .now)) (c .before .before .before .before .before .args .from) (c .before .before .before .loop .word) (c
+          .before .cell .result)
+          (c .before .before .before .before .before .args .cells .now) (c .before .before .before .loop .cells) (v .0)
+          (omega arith) (c .before .cell .ensures) (v .3)),
+    )
+
+returns : tie.Need-returns Inv-loop μ-loop
+returns c =
+    let v = c .before .loop .inv in
+    let e : c .before .loop .word ≡ c .before .before .before .args .to = omega arith in
+    (rw e at (v .3), v .2)
+
+pub put-cells-spec : {M : Type 1} → statement M
+put-cells-spec =
+    tie.close
+    (tie.spec
+    Inv-loop
+    μ-loop
+    loop-holds
+    cell-requires
+    wide-requires
+    mul-cells
+    element-write-cells
+    add-word
+    loop-less
+    loop-again
+    returns)

@@ -1,23 +1,42 @@
 -- Fields and nodes of a packed file as its reader gets them.
 --     field-got, field-missing      a field that fits, and one that does not
 --     field-lt, field-next          a field that was read is below 2 to its width, and ends that much further on
+--     field-end                     and by the end of the file
 --     node-got, node-cut, node-none a node from nine bits, one whose number does not fit, one that has no tag
+--     word-by-tag, width-by-tag     a node's word and width by its tag, with no test
+--     word-lt, tag-first            a node's word is below 272; its tag is the first of its bits
 --     node-lt                       a node that was read begins before the end
-use mathlib.Core.Path.{_≡_, sym, _∙_}
+use mathlib.Core.Path.{_≡_, refl, sym, _∙_}
 use mathlib.Core.List.{List}
 use mathlib.Core.Bool.{Bool, true, false, cond}
-use Prim.Native.Nat.{ℕ, _+_, _*_, _-_, _/_, _^_, _≤_, _<_}
-use native.Mathlib.Nat.{add-assoc}
+use Prim.Native.Nat.{ℕ, _+_, _*_, _-_, _/_, _%_, _^_, _≤_, _<_}
+use native.Mathlib.Nat.{add-assoc, add-zero, zero-add}
 use native.Mathlib.Omega.{arith}
-use lib.ListN.{length}
+use lib.ListN.{length, getD}
 use lib.Dec.{leb}
-use borrow.Author.Tests.{le-leb, lt-leb, lt-ltb, le-ltb}
+use borrow.Author.Tests.{leb-true, le-leb, lt-leb, lt-ltb, le-ltb}
 use Rattle.format.specs.Errors.{fieldMissing}
 use Rattle.multisets.proofs.Relations.{byOrder}
 use Rattle.format.specs.Reading.{Node, spelt, bitAt, bitField, bitSource}
 use Rattle.format.specs.Reading.Reading.{got, fault}
 use Rattle.bits.specs.Cursor.{nodeWidth, nodeWord}
 use Rattle.bits.proofs.BitLaws.{spelt-lt, spelt-add}
+
+-- The word and the width by the first of the nine bits, with no test.
+pub word-by-tag : (n : ℕ) → n < 512 → n / 2 ^ (4 * (n / 256)) + 240 * (n / 256) ≡ nodeWord n
+word-by-tag n h =
+    byOrder n 256
+    (λ l. let tag : n / 256 ≡ 0 = omega arith in rw (tag, lt-ltb n 256 l) (omega arith))
+    λ l. let tag : n / 256 ≡ 1 = omega arith in rw (tag, le-ltb n 256 l)
+
+pub width-by-tag : (n : ℕ) → n < 512 → 9 - 4 * (n / 256) ≡ nodeWidth n
+width-by-tag n h =
+    byOrder n 256
+    (λ l. let tag : n / 256 ≡ 0 = omega arith in rw (tag, lt-ltb n 256 l))
+    λ l. let tag : n / 256 ≡ 1 = omega arith in rw (tag, le-ltb n 256 l)
+
+pub word-lt : (n : ℕ) → n < 512 → nodeWord n < 272
+word-lt n h = byOrder n 256 (λ l. rw (lt-ltb n 256 l) (omega arith)) λ l. rw (le-ltb n 256 l) (omega arith)
 
 pub width-le : (n : ℕ) → nodeWidth n ≤ 9
 width-le n = byOrder n 256 (λ h. rw (lt-ltb n 256 h) (omega arith)) λ h. rw (le-ltb n 256 h) (omega arith)
@@ -48,9 +67,29 @@ module _ (bytes : List ℕ) where
   field-next width at v next e =
       got-value (leb (at + width) (8 * length bytes)) (spelt (bitAt bytes) at width) (at + width) at v next e .1
 
+  got-true : (b : Bool) (x y at v next : ℕ) → cond b (got x y) (fault fieldMissing at) ≡ got v next → b ≡ true
+  got-true true x y at v next e = refl
+  got-true false x y at v next e = let z : _≡_ {A = ℕ} 0 1 = cc in absurd (omega arith)
+
+  pub field-end : (width at v next : ℕ) → bitField bytes width at ≡ got v next → next ≤ 8 * length bytes
+  unfolding bitField
+  field-end width at v next e =
+      omega (
+        arith,
+        field-next width at v next e,
+        leb-true (at + width) (8 * length bytes)
+            (got-true (leb (at + width) (8 * length bytes)) (spelt (bitAt bytes) at width) (at + width) at v next e),
+      )
+
   module _ (at n : ℕ) (e : spelt (bitAt bytes) at 9 ≡ n) where
     halves : n ≡ spelt (bitAt bytes) at 1 * 256 + spelt (bitAt bytes) (at + 1) 8
     halves = sym e ∙ spelt-add (bitAt bytes) at 1 8
+
+    -- The first of the nine bits.
+    pub tag-first : getD bytes (at / 8) 0 / 2 ^ (7 - at % 8) % 2 ≡ n / 256
+    tag-first =
+        let one : spelt (bitAt bytes) at 1 ≡ getD bytes (at / 8) 0 / 2 ^ (7 - at % 8) % 2 = rw (add-zero, zero-add) in
+        sym one ∙ omega (arith, halves, spelt-lt bytes (at + 1) 8)
 
     quarters : spelt (bitAt bytes) (at + 1) 8 ≡ spelt (bitAt bytes) (at + 1) 4 * 16 + spelt (bitAt bytes) (at + 1 + 4) 4
     quarters = spelt-add (bitAt bytes) (at + 1) 4 4

@@ -1,16 +1,16 @@
 -- What the bit cursor's answers stand for.
 -- Renders: 01, "Book layout": "The reading position moves on by the width of each field"; "Reading a book", 2: "a field
 -- doesn't fit, place of its first bit".
-use mathlib.Core.Path.{_≡_}
 use mathlib.Core.List.{List}
 use mathlib.Core.Bool.{Bool, cond, _&&_}
-use Prim.Native.Nat.{ℕ, _+_, _-_, _*_, _/_, _≤_, _<_}
+use Prim.Native.Nat.{ℕ, _+_, _-_, _*_, _/_, _<_}
 use lib.ListN.{length}
 use lib.Dec.{eqb, ltb}
+use Rattle.terms.specs.Term.{variableCount}
 use Rattle.terms.specs.Words.{firstVariable}
 use Rattle.format.specs.Errors.{fieldMissing}
 use Rattle.format.specs.Layout.{tagWidth}
-use Rattle.format.specs.Reading.{Reading, Source, spelt, bitAt}
+use Rattle.format.specs.Reading.{Reading, spelt, bitAt}
 use Rattle.format.specs.Reading as reading
 use Rattle.format.specs.Reading.Reading.{got, fault}
 use Rattle.bits.specs.declared.Field.{Field}
@@ -25,23 +25,15 @@ fieldReading at Missing = fault fieldMissing at
 
 -- The reading of a node at an offset; its number stands after its tag.
 abbrev pub nodeReading : ℕ → Node → Reading reading.Node
-nodeReading at (node.Symbol word next) = got (record { word = word; offset = at + tagWidth }) (next .at)
-nodeReading at (node.Variable word next) = got (record { word = word; offset = at + tagWidth }) (next .at)
+nodeReading at (node.Got word next) = got (record { word = word; offset = at + tagWidth }) (next .at)
 nodeReading at (node.Missing offset) = fault fieldMissing offset
 
--- A symbol's word is below those of the variables.
-abbrev pub KindTold : Node → Type 0
-KindTold (node.Symbol word next) = word < firstVariable
-KindTold (node.Variable word next) = firstVariable ≤ word
-KindTold (node.Missing offset) = Unit {0}
+-- A symbol's word is below 256, a variable's below 272.
+abbrev pub WordFits : Node → Type 0
+WordFits (node.Got word next) = word < firstVariable + variableCount
+WordFits (node.Missing offset) = Unit {0}
 
--- The word of the node at an offset, or none.
-abbrev pub WordRead : Source → ℕ → Field → Type 0
-WordRead source at (Got word next) = source .node at ≡ got (record { word = word; offset = at + tagWidth }) (next .at)
-WordRead source at Missing = (offset : ℕ) × (source .node at ≡ fault fieldMissing offset)
-
--- The width and the word of a node that begins with these nine bits: bit 0 and a symbol's number of eight bits, or bit
--- 1
+-- The width and the word of a node that begins with these nine bits: bit 0 and a symbol's number of eight bits, or bit 1
 -- and a variable's number of four.
 abbrev pub nodeWidth : ℕ → ℕ
 nodeWidth nine = cond (ltb nine 256) 9 5

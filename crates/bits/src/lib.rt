@@ -5,8 +5,7 @@ ghost use lib.ListN.{length, getD};
 ghost use Rattle.format.specs.Layout.{maxBytes, tagWidth};
 ghost use Rattle.format.specs.Reading.{bitField, bitSource};
 ghost use Rattle.format.specs.Reading.Reading.{got};
-ghost use Rattle.bits.specs.Cursor.{fieldReading, nodeReading, KindTold, WordRead};
-ghost use Rattle.bits.specs.Cursor.{nodeWidth, nodeWord, isPadding};
+ghost use Rattle.bits.specs.Cursor.{fieldReading, nodeReading, WordFits, nodeWidth, nodeWord, isPadding};
 
 // An offset in bits.
 pub struct BitCursor {
@@ -19,10 +18,9 @@ pub enum Field {
     Missing,
 }
 
-// The word of a symbol or of a variable and the cursor past it, or the offset of the node's field that does not fit.
+// The word of a node and the cursor past it, or the offset of the node's field that does not fit.
 pub enum Node {
-    Symbol(u16, BitCursor),
-    Variable(u16, BitCursor),
+    Got(u16, BitCursor),
     Missing(usize),
 }
 
@@ -58,19 +56,22 @@ fn node_width(nine: u32) -> usize
     if nine < 256 { 9 } else { 5 }
 }
 
-// The node at an offset that begins with these nine bits.
-fn node_of(nine: u32, at: usize) -> Node
-    requires { ⌜ (nine < 512) × (at < 2 ^ 62) ⌝ }
+// The node at an offset that begins with these nine bits, the first of which is its tag. A variable leaves the last
+// four unused. There is no branch, since none could foresee which of the two a node is.
+fn node_of(nine: u32, tag: u32, at: usize) -> Node
+    requires { ⌜ (nine < 512) × (tag ≡ nine / 256) × (at < 2 ^ 62) ⌝ }
     ensures { λ r. ⌜
         nodeReading at r ≡ got (record { word = nodeWord nine; offset = at + tagWidth }) (at + nodeWidth nine)
         ⌝ }
-    ensures { λ r. ⌜ KindTold r ⌝ }
+    ensures { λ r. ⌜ WordFits r ⌝ }
 {
-    if nine < 256 {
-        Node::Symbol(nine as u16, BitCursor { at: at + 9 })
-    } else {
-        Node::Variable((nine / 16 + 240) as u16, BitCursor { at: at + 5 })
-    }
+    let unused = 4 * tag;
+    Node::Got(
+        ((nine >> unused) + 240 * tag) as u16,
+        BitCursor {
+            at: at + 9 - unused as usize,
+        },
+    )
 }
 
 impl BitCursor {
@@ -92,7 +93,7 @@ impl BitCursor {
     fn late_node(self, book: &[u8]) -> Node
         requires { ⌜ (length (now book) ≤ maxBytes) × (length (now book) ≤ self .at / 8 + 1) ⌝ }
         ensures { λ r. ⌜ nodeReading (self .at) r ≡ bitSource (now (book .entry)) .node (self .at) ⌝ }
-        ensures { λ r. ⌜ KindTold r ⌝ }
+        ensures { λ r. ⌜ WordFits r ⌝ }
     {
         let at = self.at;
         let end = 8 * book.len();
@@ -103,34 +104,24 @@ impl BitCursor {
         if end - at < node_width(nine) {
             return Node::Missing(at + 1);
         }
-        node_of(nine, at)
+        node_of(nine, nine / 256, at)
     }
 
     // The node here. Before the last byte its bits lie in two bytes, whatever it is.
     pub fn node(self, book: &[u8]) -> Node
         requires { ⌜ length (now book) ≤ maxBytes ⌝ }
         ensures { λ r. ⌜ nodeReading (self .at) r ≡ bitSource (now (book .entry)) .node (self .at) ⌝ }
-        ensures { λ r. ⌜ KindTold r ⌝ }
+        ensures { λ r. ⌜ WordFits r ⌝ }
     {
         let at = self.at;
         let index = at / 8;
         if book.len() <= index + 1 {
             return self.late_node(book);
         }
-        let nine = ((byte_at(book, index) * 256 + byte_at(book, index + 1)) >> (7 - at % 8)) % 512;
-        node_of(nine, at)
-    }
-
-    // The word of the node here, whatever it is.
-    pub fn word(self, book: &[u8]) -> Field
-        requires { ⌜ length (now book) ≤ maxBytes ⌝ }
-        ensures { λ r. ⌜ WordRead (bitSource (now (book .entry))) (self .at) r ⌝ }
-    {
-        match self.node(book) {
-            Node::Symbol(word, next) => Field::Got(word, next),
-            Node::Variable(word, next) => Field::Got(word, next),
-            Node::Missing(_) => Field::Missing,
-        }
+        let first = byte_at(book, index);
+        let after = 7 - at % 8;
+        let nine = ((first * 256 + byte_at(book, index + 1)) >> after) % 512;
+        node_of(nine, (first >> after) % 2, at)
     }
 
     // Whether fewer than eight bits are left here, and all of them zeros.

@@ -1,7 +1,8 @@
 -- A fault lies within the input, or at its end.
---     Within                       the next offset, or the fault's, is no further than the limit
+--     Within, within-fault, within-got     the next offset, or the fault's, is no further than the limit
+--     node-within-got, node-within-fault   the same of a node
 --     Bounded, file-within         what is asked of a source, and what then holds of reading a file
---     words-bounded, bits-bounded  the two sources
+--     words-bounded, bits-bounded, bits-within, bits-node   the two sources
 --     bytes-fault, words-fault, term-fault
 use mathlib.Core.Path.{_≡_}
 use mathlib.Core.List.{List, [], _∷_, _++_}
@@ -33,6 +34,10 @@ module _ (limit : ℕ) where
   unfolding Within
   within-fault r code offset h e = rw e at h
 
+  pub within-got : {A : Type 0} (r : Reading A) (a : A) (next : ℕ) → Within r → r ≡ got a next → next ≤ limit
+  unfolding Within
+  within-got r a next h e = rw e at h
+
   within-then : {A B : Type 0} (r : Reading A) (k : A → Reader B) → Within r →
       ((a : A) (next : ℕ) → next ≤ limit → Within (k a next)) → Within (andThen r k)
   unfolding Within
@@ -49,6 +54,15 @@ module _ (limit : ℕ) where
   unfoldable pub NodeWithin : Reading Node → Type 0
   NodeWithin (got v at) = (v .offset ≤ limit) × (at ≤ limit)
   NodeWithin (fault code offset) = offset ≤ limit
+
+  pub node-within-got : (r : Reading Node) (v : Node) (next : ℕ) → NodeWithin r → r ≡ got v next →
+      (v .offset ≤ limit) × (next ≤ limit)
+  unfolding NodeWithin
+  node-within-got r v next h e = rw e at h
+
+  pub node-within-fault : (r : Reading Node) (code offset : ℕ) → NodeWithin r → r ≡ fault code offset → offset ≤ limit
+  unfolding NodeWithin
+  node-within-fault r code offset h e = rw e at h
 
   node-then : {B : Type 0} (r : Reading Node) (k : Node → Reader B) → NodeWithin r →
       ((v : Node) (next : ℕ) → v .offset ≤ limit → next ≤ limit → Within (k v next)) → Within (andThen r k)
@@ -97,7 +111,7 @@ module _ (limit : ℕ) where
         (within-then (source .field rankWidth at₃) _ (b .field rankWidth at₃ h₃) λ rank end h₄.
         within-require (not (heldBy earlier rank)) _ at₃ end _ h₃ h₄))
 
-    symbols-within : (w0 n : ℕ) (earlier : List Symbol) (at : ℕ) → at ≤ limit →
+    pub symbols-within : (w0 n : ℕ) (earlier : List Symbol) (at : ℕ) → at ≤ limit →
         Within (symbolsReader source w0 n earlier at)
     unfolding symbolsReader Within
     symbols-within w0 zero earlier at h = h
@@ -164,19 +178,19 @@ module _ (bytes : List ℕ) where
   abbrev bitCount : ℕ
   bitCount = 8 * length bytes
 
-  bits-within : (width at : ℕ) → at ≤ bitCount → Within bitCount (bitField bytes width at)
+  pub bits-within : (width at : ℕ) → at ≤ bitCount → Within bitCount (bitField bytes width at)
   unfolding Within bitField
   bits-within width at h =
       byTest (leb (at + width) bitCount) (λ e. rw e (leb-true (at + width) bitCount e)) λ e. rw e h
 
-  bits-node : (at : ℕ) → at ≤ bitCount → NodeWithin bitCount (bitSource bytes .node at)
+  pub bits-node : (at : ℕ) → at ≤ bitCount → NodeWithin bitCount (bitSource bytes .node at)
   unfolding NodeWithin
   bits-node at h =
       node-after bitCount (bitField bytes tagWidth at) _ (bits-within tagWidth at h) λ tag at₁ h₁.
       let width = cond (eqb tag 0) symbolWidth variableWidth in
       node-after bitCount (bitField bytes width at₁) _ (bits-within width at₁ h₁) λ number next l. (h₁, l)
 
-  bits-bounded : Bounded bitCount (bitSource bytes)
+  pub bits-bounded : Bounded bitCount (bitSource bytes)
   bits-bounded = record { field = bits-within; node = bits-node }
 
   bytes-within : Within bitCount (readBytes bytes)

@@ -2,7 +2,9 @@
 --     signature-front                              the signature of a table's front part
 --     rules-length                                 as many rules as were asked for
 --     unpacked-parts, unpacked-length              the words of a file
---     symbols-fault, rules-fault, padding-fault, body-read    what follows a header
+--     symbols-fault, head-read                     what follows a header
+--     rules-fault, padding-fault, rest-read        what follows the symbols
+--     rest-fault, file-read                        the whole
 use mathlib.Core.Path.{_≡_, refl, sym, ap, _∙_}
 use mathlib.Core.List.{List, [], _∷_, _++_, map, flatMap}
 use mathlib.Core.Bool.{true, false}
@@ -21,13 +23,16 @@ use Rattle.format.specs.Packing.{itemWord, symbolItems, ruleItems, items, unpac
 use Rattle.format.specs.Packing.Item.{node}
 use Rattle.symbols.specs.Table.{symbolsAt, signatureOf}
 use Rattle.bits.specs.declared.BitCursor.{BitCursor}
-use Rattle.reader.specs.declared.rule.Stored.the-variants.{Past}
-use Rattle.reader.specs.declared.file.File.the-variants.{Read}
+use Rattle.reader.specs.declared.rule.Stored.the-variants.{Past, Fault}
+use Rattle.reader.specs.declared.file.Head.the-variants as head
+use Rattle.reader.specs.declared.file.File.the-variants as file
 use Rattle.bits.specs.Cursor.{isPadding}
 use Rattle.reader.specs.Rule.{WordsRead, ruleReader, rulesWords}
-use Rattle.reader.specs.File.{bodyReader, FileRead, symbolsWords}
+use Rattle.reader.specs.File.{bodyReader, restReader, HeadRead, RestRead, FileRead, symbolsWords}
+use Rattle.symbols.proofs.TableLaws.{length-symbols}
+use Rattle.format.proofs.ReadingLaws.{andThen-assoc, andThen-same}
+use Rattle.format.proofs.FaultLaws.{within-got, symbols-within, bits-bounded}
 use Rattle.reader.proofs.SymbolLaws.{symbols-same}
-use Rattle.reader.proofs.TermLaws.{length-symbols}
 use Rattle.reader.proofs.RuleLaws.{rules-step}
 
 pub signature-front : (table : List ℕ) (n : ℕ) → 1 + 4 * n ≤ length table →
@@ -119,63 +124,84 @@ unpacked-length file =
 
 -- ---- after the header
 
+-- What follows a header is what follows the symbols, after the symbols.
+body-rest : (bytes : List ℕ) (w0 symbols rules at : ℕ) →
+    bodyReader bytes w0 symbols rules at ≡
+    andThen (symbolsReader (bitSource bytes) w0 symbols [] at)
+    (λ ss. restReader bytes (record { w0 = w0; symbols = ss }) rules)
+unfolding bodyReader restReader
+body-rest bytes w0 symbols rules at =
+    andThen-assoc (symbolsReader (bitSource bytes) w0 symbols [] at) _ _
+    ∙ andThen-same (symbolsReader (bitSource bytes) w0 symbols [] at) _ _
+    (λ ss next. andThen-assoc (rulesReader (bitSource bytes) (record { w0 = w0; symbols = ss }) rules next) _ _)
+
 module _ (bytes : List ℕ) (w0 symbols rules at : ℕ) where
   pub symbols-fault : (code offset : ℕ) → symbolsReader (bitSource bytes) w0 symbols [] at ≡ fault code offset →
       bodyReader bytes w0 symbols rules at ≡ fault code offset
-  unfolding bodyReader
-  symbols-fault code offset e = rw e
+  symbols-fault code offset e = body-rest bytes w0 symbols rules at ∙ rw e
 
-  module _ (table : List ℕ) (start : ℕ) (read : symbolsReader (bitSource bytes) w0 symbols [] at ≡ got (symbolsAt table
-      0 symbols) start)
-      (weight : getD table 0 0 ≡ w0) (room : 1 + 4 * symbols ≤ length table) where
-    front-signature : signatureOf (take (1 + 4 * symbols) table) ≡ record {
-      w0 = w0;
-      symbols = symbolsAt table 0 symbols;
-    }
-    front-signature = signature-front table symbols room ∙ rw weight
+  pub head-read : (table : List ℕ) (next : BitCursor) →
+      symbolsReader (bitSource bytes) w0 symbols [] at ≡ got (symbolsAt table 0 symbols) (next .at) →
+      getD table 0 0 ≡ w0 → 1 + 4 * symbols ≤ length table → at ≤ 8 * length bytes → length bytes ≤ maxBytes →
+      symbols < 256 → rules < 1024 →
+      HeadRead bytes (bodyReader bytes w0 symbols rules at) (head.Read symbols rules next) table
+  head-read table next read weight room start short few some =
+      let σ : signatureOf (take (1 + 4 * symbols) table) ≡ record { w0 = w0; symbols = symbolsAt table 0 symbols } =
+      signature-front table symbols room ∙ rw weight in (
+        body-rest bytes w0 symbols rules at ∙ rw (read, σ),
+        record {
+          symbolCount = rw σ (sym (length-symbols table 0 symbols));
+          short = short;
+          fewSymbols = few;
+          fewRules = some;
+          within = within-got (8 * length bytes) (symbolsReader (bitSource bytes) w0 symbols [] at) _ _
+              (symbols-within (8 * length bytes) (bitSource bytes) (bits-bounded bytes) w0 symbols [] at start) read;
+        },
+      )
 
-    pub rules-fault : (code offset : ℕ) →
-        rulesReader (bitSource bytes) (signatureOf (take (1 + 4 * symbols) table)) rules start ≡ fault code offset →
-        bodyReader bytes w0 symbols rules at ≡ fault code offset
-    unfolding bodyReader
-    rules-fault code offset e = let f = rw front-signature at e in rw (read, f)
+-- ---- after the symbols
 
-    module _ (words : ℕ) (end : BitCursor) (before after : List ℕ)
-        (stored : WordsRead rulesWords (256 * rules)
-        (rulesReader (bitSource bytes) (signatureOf (take (1 + 4 * symbols) table)) rules start) (3 + (1 + 4 * symbols))
-        before
-        (Past words end) after) where
-      rules-read : rulesReader (bitSource bytes) (record { w0 = w0; symbols = symbolsAt table 0 symbols }) rules start ≡
-          got (stored .0) (end .at)
-      rules-read = rw front-signature at (stored .1)
+module _ (bytes : List ℕ) (σ : Signature) (count at : ℕ) (before after : List ℕ) where
+  pub rules-fault : (code offset : ℕ) → rulesReader (bitSource bytes) σ count at ≡ fault code offset →
+      RestRead bytes σ count at (Fault code offset) before after
+  unfolding restReader
+  rules-fault code offset e = rw e
 
-      pub padding-fault : isPadding bytes (end .at) ≡ false → bodyReader bytes w0 symbols rules at ≡
-          fault badPadding (end .at)
-      unfolding bodyReader paddingReader
-      padding-fault e = rw (read, rules-read, e)
+  module _ (nodes : ℕ) (next : BitCursor) (read : WordsRead rulesWords (rulesReader (bitSource bytes) σ count at) 0
+      before (Past nodes next) after) where
+    pub padding-fault : isPadding bytes (next .at) ≡ false →
+        RestRead bytes σ count at (Fault badPadding (next .at)) before after
+    unfolding restReader paddingReader
+    padding-fault e = rw (read .1, e)
 
-      pub body-read : (next : BitCursor) → next .at ≡ start → isPadding bytes (end .at) ≡ true →
-          length bytes ≤ maxBytes → symbols < 256 → rules < 1024 →
-          FileRead bytes (bodyReader bytes w0 symbols rules at) (Read symbols rules words next) table
-      unfolding bodyReader paddingReader
-      body-read next here e small few some =
-          let file : RuleFile =
-          record { signature = record { w0 = w0; symbols = symbolsAt table 0 symbols }; rules = stored .0 } in
-          let count : length (stored .0) ≡ rules =
-          rules-length (bitSource bytes) (file .signature) rules start (stored .0) (end .at) rules-read in
-          let many : length (symbolsAt table 0 symbols) ≡ symbols = length-symbols table 0 symbols in (
-            file,
-            end .at,
-            rw (read, rules-read, e),
-            record {
-              signature = front-signature;
-              symbolCount = sym many;
-              ruleCount = sym count;
-              wordCount = stored .2 ∙ omega (arith, unpacked-length file);
-              end = end .at;
-              rulesRead = rw here rules-read;
-              short = small;
-              fewSymbols = few;
-              fewRules = some;
-            },
-          )
+    pub rest-read : isPadding bytes (next .at) ≡ true → RestRead bytes σ count at (Past nodes next) before after
+    unfolding restReader paddingReader
+    rest-read e = (read .0, read .1, rw (read .1, e), omega (arith, read .2), read .3)
+
+-- ---- the whole
+
+module _ (bytes table before after : List ℕ) (reading : Reading RuleFile) (symbols rules : ℕ) (start : BitCursor)
+    (read : HeadRead bytes reading (head.Read symbols rules start) table) where
+  abbrev σ : Signature
+  σ = signatureOf (take (1 + 4 * symbols) table)
+
+  pub rest-fault : (code offset : ℕ) → RestRead bytes σ rules (start .at) (Fault code offset) before after →
+      FileRead bytes reading (file.Fault code offset) table before after
+  rest-fault code offset e = read .0 ∙ e
+
+  pub file-read : (nodes : ℕ) (next : BitCursor) → RestRead bytes σ rules (start .at) (Past nodes next) before after →
+      FileRead bytes reading (file.Read symbols rules nodes start) table before after
+  file-read nodes next (rs, rulesRead, all, count, stored) = (
+    record { signature = σ; rules = rs },
+    next .at,
+    read .0 ∙ all,
+    record {
+      head = read .1;
+      signature = refl;
+      ruleCount = sym (rules-length (bitSource bytes) σ rules (start .at) rs (next .at) rulesRead);
+      nodeCount = count;
+      end = next .at;
+      rulesRead = rulesRead;
+      stored = stored;
+    },
+  )

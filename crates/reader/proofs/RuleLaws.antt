@@ -1,16 +1,18 @@
 -- What the code that reads the rules has to show at each of its ends.
---     side-past                  a side that was read
---     side-front                 a side at the front of the words
+--     words-more                 words stored one by one
+--     side-stored                a side that was read
+--     stored-wider               a wider bound
 --     left-fault, right-read     a rule
 --     SoFar                      what a loop over the rules has read; so-far-none, so-far-fault, so-far-more,
--- so-far-done
+--                                so-far-done
 use mathlib.Core.Path.{_≡_, refl, sym, ap, _∙_}
 use mathlib.Core.List.{List, [], _∷_, _++_, append-assoc, append-nil}
-use Prim.Native.Nat.{ℕ, suc, _+_, _-_, _*_, _≤_, _<_}
+use Prim.Native.Nat.{ℕ, suc, _+_, _-_, _≤_, _<_}
 use native.Mathlib.Nat.{add-zero, sub-zero}
+use native.Mathlib.Numerals.{add-one}
 use native.Mathlib.Omega.{arith}
-use lib.ListN.{length, length-append, take, drop}
-use lib.Seq.{sets, sets-eq, take-append-seam}
+use lib.ListN.{length, length-append, getD, set, take}
+use lib.Seq.{sets, take-suc, length-take-le}
 use Rattle.terms.specs.Signature.{Signature}
 use Rattle.format.specs.Layout.{maxNodes}
 use Rattle.format.specs.Reading.{Reading, andThen, give, Source}
@@ -18,53 +20,59 @@ use Rattle.format.specs.Reading.Reading.{got, fault}
 use Rattle.format.specs.Format.{Sides, forestReader, rulesReader}
 use Rattle.format.proofs.ReadingLaws.{andThen-give, andThen-assoc, andThen-same}
 use Rattle.bits.specs.declared.BitCursor.{BitCursor}
-use Rattle.reader.specs.declared.term.Terms.the-variants as terms
 use Rattle.reader.specs.declared.rule.Stored.{Stored}
 use Rattle.reader.specs.declared.rule.Stored.the-variants.{Past, Fault}
-use Rattle.reader.specs.Term.{TermsRead}
-use Rattle.reader.specs.Rule.{WordsRead, sideReading, CountWithin, ruleReader, sideWords, rulesWords}
+use Rattle.reader.specs.Rule.{WordsRead, StoredWithin, ruleReader, sideWords, rulesWords}
 use Rattle.reader.proofs.TermLaws.{sets-append}
 
 abbrev pub itself : List ℕ → List ℕ
 itself nodes = nodes
 
-pub side-past : (reading : Reading (List ℕ)) (index end : ℕ) (next : BitCursor) (words after : List ℕ) →
-    TermsRead reading (index + 128) index words (terms.Read end next) after →
-    WordsRead itself 128 reading index words (Past end next) after
-side-past reading index end next words after (nodes, read, long, within, stored) =
-    (nodes, read, long, omega arith, stored)
+-- Words stored one by one.
+pub words-more : (words nodes : List ℕ) (index i : ℕ) → i < length nodes →
+    set (sets words index (take i nodes)) (index + i) (getD nodes i 0) ≡ sets words index (take (i + 1) nodes)
+words-more words nodes index i h =
+    let long : length (take i nodes) ≡ i = length-take-le i nodes (omega arith) in
+    rw (add-one i, take-suc nodes i 0 h, sets-append words index (take i nodes) (getD nodes i 0 ∷ []), long)
 
--- A side whose words stand first.
-pub side-front : (reading : Reading (List ℕ)) (words : List ℕ) → 128 ≤ length words → (r : Stored) (after : List ℕ) →
-    WordsRead itself 128 reading 0 words r after → (sideReading after r ≡ reading) × CountWithin 128 r
-side-front reading words room (Past end next) after (nodes, read, long, short, stored) =
-    let e : end ≡ length nodes = omega arith in
-    let front : take (length nodes) after ≡ nodes =
-    rw (stored, sets-eq nodes words 0 (omega arith)) (take-append-seam nodes (drop (0 + length nodes) words)) in
-    (rw (e, front) (sym read), omega arith)
-side-front reading words room (Fault code offset) after read = (sym read, tt)
+pub side-stored : (reading : Reading (List ℕ)) (index : ℕ) (words nodes after : List ℕ) (end : ℕ) (next : BitCursor) →
+    got nodes (next .at) ≡ reading → end ≡ index + length nodes →
+    (index + length nodes ≤ length words → after ≡ sets words index nodes) →
+    WordsRead itself reading index words (Past end next) after
+side-stored reading index words nodes after end next read long stored = (
+  nodes,
+  sym read,
+  long,
+  λ room. stored (omega
+      arith),
+)
+
+pub stored-wider : (last wider limit : ℕ) → last ≤ wider → (r : Stored) → StoredWithin last limit r →
+    StoredWithin wider limit r
+stored-wider last wider limit h (Past end next) (e, n) = (omega arith, n)
+stored-wider last wider limit h (Fault code offset) w = tt
 
 module _ (source : Source) (σ : Signature) (at index : ℕ) (words : List ℕ) where
   pub left-fault : (code offset : ℕ) (after : List ℕ) → forestReader source σ maxNodes 1 at ≡ fault code offset →
-      WordsRead sideWords 256 (ruleReader source σ at) index words (Fault code offset) after
+      WordsRead sideWords (ruleReader source σ at) index words (Fault code offset) after
   unfolding ruleReader
   left-fault code offset after e = rw e
 
-  pub right-read : (middle : ℕ) (next : BitCursor) (between : List ℕ) →
-      WordsRead itself 128 (forestReader source σ maxNodes 1 at) index words (Past middle next) between →
+  pub right-read : (middle : ℕ) (next : BitCursor) (between : List ℕ) → length between ≡ length words →
+      WordsRead itself (forestReader source σ maxNodes 1 at) index words (Past middle next) between →
       (r : Stored) (after : List ℕ) →
-      WordsRead itself 128 (forestReader source σ maxNodes 1 (next .at)) middle between r after →
-      WordsRead sideWords 256 (ruleReader source σ at) index words r after
+      WordsRead itself (forestReader source σ maxNodes 1 (next .at)) middle between r after →
+      WordsRead sideWords (ruleReader source σ at) index words r after
   unfolding ruleReader
-  right-read middle next between (left, read, length-left, short, stored) (Past end last) after
-      (right, read', length-right, short', stored') = (
+  right-read middle next between same (left, read, length-left, stored) (Past end last) after
+      (right, read', length-right, stored') = (
         record { left = left; right = right },
         rw (read, read'),
         simp length-append (omega arith),
-        simp length-append (omega arith),
-        stored' ∙ rw (length-left, stored) (sym (sets-append words index left right)),
+        λ room. stored' (omega arith) ∙
+            rw (length-left, stored (omega arith)) (sym (sets-append words index left right)),
       )
-  right-read middle next between (left, read, length-left, short, stored) (Fault code offset) after read' =
+  right-read middle next between same (left, read, length-left, stored) (Fault code offset) after read' =
       rw (read, read')
 
 -- ---- so many rules
@@ -75,8 +83,7 @@ SoFar source σ count number start at index₀ index words₀ words =
     (done : List Sides)
     × (rulesReader source σ count start ≡ andThen (rulesReader source σ (count - number) at) (λ rest. give (done ++
     rest)))
-    × (index ≡ index₀ + length (rulesWords done)) × (length (rulesWords done) ≤ 256 * number)
-    × (words ≡ sets words₀ index₀ (rulesWords done))
+    × (index ≡ index₀ + length (rulesWords done)) × (index ≤ length words₀ → words ≡ sets words₀ index₀ (rulesWords done))
 
 pub rules-step : (source : Source) (σ : Signature) (n at : ℕ) → rulesReader source σ (suc n) at ≡
     andThen (ruleReader source σ at) (λ r next. andThen (rulesReader source σ n next) (λ rest. give (r ∷ rest)))
@@ -97,8 +104,7 @@ module _ (source : Source) (σ : Signature) (count start index₀ : ℕ) (words�
     [],
     rw sub-zero (sym (andThen-give (rulesReader source σ count start))),
     sym (add-zero index₀),
-    omega arith,
-    refl,
+    λ room. refl,
   )
 
   module _ (number at index : ℕ) (words : List ℕ) (more : number < count)
@@ -110,14 +116,14 @@ module _ (source : Source) (σ : Signature) (count start index₀ : ℕ) (words�
         rw e (rules-step source σ (count - (number + 1)) at)
 
     pub so-far-fault : (code offset : ℕ) (after : List ℕ) → ruleReader source σ at ≡ fault code offset →
-        WordsRead rulesWords (256 * count) (rulesReader source σ count start) index₀ words₀ (Fault code offset) after
+        WordsRead rulesWords (rulesReader source σ count start) index₀ words₀ (Fault code offset) after
     so-far-fault code offset after e = so .1 ∙ rw (step-at, e)
 
-    pub so-far-more : (end : ℕ) (next : BitCursor) (after : List ℕ) →
-        WordsRead sideWords 256 (ruleReader source σ at) index words (Past end next) after →
+    pub so-far-more : (end : ℕ) (next : BitCursor) (after : List ℕ) → length words ≡ length words₀ →
+        WordsRead sideWords (ruleReader source σ at) index words (Past end next) after →
         SoFar source σ count (number + 1) start (next .at) index₀ end words₀ after
-    so-far-more end next after (r, read, long, short, stored) =
-        let (done, e, i, few, put) = so in
+    so-far-more end next after same (r, read, long, stored) =
+        let (done, e, i, put) = so in
         let rest = rulesReader source σ (count - (number + 1)) (next .at) in
         let all : length (rulesWords (done ++ (r ∷ []))) ≡ length (rulesWords done) + length (sideWords r) =
         ap length (rulesWords-snoc done r) ∙ length-append (rulesWords done) (sideWords r) in (
@@ -125,15 +131,14 @@ module _ (source : Source) (σ : Signature) (count start index₀ : ℕ) (words�
           e ∙ rw (step-at, read) (andThen-assoc rest _ _ ∙ andThen-same rest _ _ (λ rs last. ap (λ (l : List Sides). got
               l last) (sym (append-assoc done (r ∷ []) rs)))),
           omega arith,
-          omega arith,
-          stored ∙ rw (i, put, rulesWords-snoc done r) (sym (sets-append words₀ index₀ (rulesWords done) (sideWords
-              r))),
+          λ room. stored (omega arith) ∙ rw (i, put (omega arith), rulesWords-snoc done r)
+              (sym (sets-append words₀ index₀ (rulesWords done) (sideWords r))),
         )
 
   pub so-far-done : (index : ℕ) (cursor : BitCursor) (words : List ℕ) (number : ℕ) → number ≡ count →
       SoFar source σ count number start (cursor .at) index₀ index words₀ words →
-      WordsRead rulesWords (256 * count) (rulesReader source σ count start) index₀ words₀ (Past index cursor) words
+      WordsRead rulesWords (rulesReader source σ count start) index₀ words₀ (Past index cursor) words
   unfolding rulesReader
-  so-far-done index cursor words number h (done, e, i, few, put) =
+  so-far-done index cursor words number h (done, e, i, put) =
       let z : count - number ≡ 0 = omega arith in
-      (done, e ∙ rw (z, append-nil), i, omega arith, put)
+      (done, e ∙ rw (z, append-nil), i, put)

@@ -1,151 +1,138 @@
 -- What the code that reads terms has to show at each of its ends.
---     symbol-count, index-count                  how many symbols a table has
---     sets-append                                words stored after words
---     none-taken                                 nothing read
---     none-left, bad-node, no-symbol             a node that is refused
---     variable-taken, symbol-taken, beyond-rest  a node that is read
---     row-fault, row-taken                       a row of terms, and others owed after it
---     rest-more, rest-done                       what was read before goes before what is read
+--     sets-append                          words stored after words
+--     fewer-allowed, owed-fits             one node fewer is allowed, and what is owed stays small
+--     node-read, node-unknown              what follows a node, by its cell in the table of arities
+--     answers-none, answers-many, answers-fault, answers-before     the number that answers a reading
+--     side-read, side-fault                a side, from that number
 use mathlib.Core.Path.{_≡_, refl, sym, ap, _∙_}
-use mathlib.Core.List.{List, [], _∷_, _++_, append-assoc, append-nil}
-use Prim.Native.Nat.{ℕ, suc, zero, _+_, _-_, _*_, _/_, _≤_, _<_}
+use mathlib.Core.List.{List, [], _∷_, _++_}
+use Prim.Native.Nat.{ℕ, suc, _+_, _-_, _*_, _/_, _%_, _^_, _≤_, _<_}
 use native.Mathlib.Nat.{add-zero, suc-add, add-suc}
 use native.Mathlib.Omega.{arith}
-use lib.ListN.{length, length-append, set}
-use lib.Seq.{sets}
-use lib.Dec.{ltb}
-use borrow.Author.Tests.{lt-ltb, ltb-true}
-use Rattle.multisets.proofs.Relations.{sameTest}
+use lib.ListN.{length, getD, set, take, drop}
+use lib.Seq.{sets, sets-eq, take-append-seam}
+use Rattle.multisets.proofs.Relations.{byOrder}
 use Rattle.terms.specs.Signature.{Signature, symbolOf}
 use Rattle.terms.specs.Words.{firstVariable}
 use Rattle.format.specs.Errors.{noSuchSymbol, tooManyNodes}
-use Rattle.format.specs.Reading.{Reader, Node, Source}
+use Rattle.format.specs.Layout.{maxNodes}
+use Rattle.format.specs.Reading.{Reading, Node, Source}
 use Rattle.format.specs.Reading.Reading.{got, fault}
 use Rattle.format.specs.Format.{forestReader}
-use Rattle.format.proofs.ReadingLaws.{andThen-give, andThen-assoc, andThen-same}
-use Rattle.format.proofs.ForestLaws.{nothing-owed, none-allowed, node-fault, unknown-symbol, variable-read, symbol-read}
-use Rattle.format.proofs.ForestLaws.{forest-add}
-use Rattle.symbols.specs.Table.{symbolsAt, signatureOf}
-use Rattle.bits.specs.declared.BitCursor.{BitCursor}
-use Rattle.reader.specs.declared.term.Terms.the-variants.{Read}
-use Rattle.reader.specs.declared.term.Rest.{Rest}
-use Rattle.reader.specs.declared.term.Rest.the-variants.{Owed, Fault}
-use Rattle.reader.specs.Term.{TermsRead, RestOwed, Beyond}
-
-pub length-symbols : (table : List ℕ) (f n : ℕ) → length (symbolsAt table f n) ≡ n
-length-symbols table f zero = refl
-length-symbols table f (suc n) = ap suc (length-symbols table (suc f) n)
-
-pub symbol-count : (table : List ℕ) → length (signatureOf table .symbols) ≡ (length table + 2) / 4
-unfolding signatureOf
-symbol-count table = length-symbols table 0 ((length table + 2) / 4)
-
-pub index-count : (f n : ℕ) → ltb (4 * f + 1) n ≡ ltb f ((n + 2) / 4)
-index-count f n =
-    sameTest (ltb (4 * f + 1) n) (ltb f ((n + 2) / 4))
-    (λ e. lt-ltb f ((n + 2) / 4) (omega (arith, ltb-true (4 * f + 1) n e)))
-    λ e. lt-ltb (4 * f + 1) n (omega (arith, ltb-true f ((n + 2) / 4) e))
+use Rattle.format.proofs.ForestLaws.{before, nothing-owed, none-allowed, node-fault, unknown-symbol, variable-read}
+use Rattle.format.proofs.ForestLaws.{symbol-read}
+use Rattle.symbols.specs.Arities.{cellOf, Arities}
+use Rattle.symbols.proofs.ArityLaws.{variable-cell, symbol-cell, no-cell}
+use Rattle.reader.specs.Term.{numbered, Answers}
 
 pub sets-append : (l : List ℕ) (i : ℕ) (xs ys : List ℕ) → sets l i (xs ++ ys) ≡ sets (sets l i xs) (i + length xs) ys
 sets-append l i [] ys = rw add-zero
 sets-append l i (x ∷ xs) ys = sets-append (set l i x) (suc i) xs ys ∙ rw (suc-add, add-suc)
 
-module _ (source : Source) (σ : Signature) (limit index owed at : ℕ) (words : List ℕ) where
-  -- ---- nothing read yet
+-- ---- a node by its cell
 
-  pub none-taken : index ≤ limit → (left : ℕ) → left ≡ owed → (cursor : BitCursor) → cursor .at ≡ at →
-      RestOwed (forestReader source σ) limit index owed at words (Owed index cursor left) words
-  none-taken h left e cursor c =
-      ([], rw (e, c) (sym (andThen-give (forestReader source σ (limit - index) owed at))), omega arith, h, refl)
+module _ (source : Source) (σ : Signature) (cells : List ℕ) (k : Arities σ cells) (a n at : ℕ) (ha : 0 < a) (hn : 0 < n)
+    (v : Node) (next : ℕ) (e : source .node at ≡ got v next) (small : v .word < 272) where
+  cell : getD cells (v .word) 0 ≡ cellOf σ (v .word)
+  cell = k (v .word) small
 
-  -- ---- a node
+  pub node-read : 0 < getD cells (v .word) 0 → forestReader source σ a n at ≡
+      before (v .word) (forestReader source σ (a - 1) (getD cells (v .word) 0 - 1 + (n - 1)) next)
+  node-read h =
+      byOrder (v .word) firstVariable
+      (λ l. byOrder (v .word) (length (σ .symbols))
+      (λ known.
+      let c : getD cells (v .word) 0 - 1 ≡ symbolOf σ (v .word) .arity =
+      omega (arith, cell, symbol-cell σ (v .word) l known) in
+      symbol-read source σ a n at ha hn v next e l known
+      ∙ ap (λ (m : ℕ). before (v .word) (forestReader source σ (a - 1) (m + (n - 1)) next)) (sym c))
+      λ none. absurd (omega (arith, cell, no-cell σ (v .word) l none)))
+      λ l.
+      let c : getD cells (v .word) 0 - 1 + (n - 1) ≡ n - 1 = omega (arith, cell, variable-cell σ (v .word) l) in
+      variable-read source σ a n at ha hn v next e l
+      ∙ ap (λ (m : ℕ). before (v .word) (forestReader source σ (a - 1) m next)) (sym c)
 
-  module _ (more : 0 < owed) where
-    pub none-left : index ≡ limit → forestReader source σ (limit - index) owed at ≡ fault tooManyNodes at
-    none-left e =
-        let z : limit - index ≡ 0 = omega arith in
-        rw z (none-allowed source σ owed at more)
+  pub node-unknown : getD cells (v .word) 0 ≡ 0 → forestReader source σ a n at ≡ fault noSuchSymbol (v .offset)
+  node-unknown z =
+      byOrder (v .word) firstVariable
+      (λ l. byOrder (v .word) (length (σ .symbols))
+      (λ known. absurd (omega (arith, cell, symbol-cell σ (v .word) l known)))
+      λ none. unknown-symbol source σ a n at ha hn v next e l none)
+      λ l. absurd (omega (arith, cell, variable-cell σ (v .word) l))
 
-    module _ (h : index < limit) where
-      pub bad-node : (code offset : ℕ) → source .node at ≡ fault code offset →
-          forestReader source σ (limit - index) owed at ≡ fault code offset
-      bad-node = node-fault source σ (limit - index) owed at (omega arith) more
+-- One node fewer is allowed after a node.
+pub fewer-allowed : (count t : ℕ) → count ≤ maxNodes → (count ≡ maxNodes → ⊥) → maxNodes - count ≡ t →
+    (maxNodes - (count + 1) < t) × (count + 1 ≤ maxNodes)
+fewer-allowed count t h n e = omega arith
 
-      module _ (v : Node) (next : BitCursor) (e : source .node at ≡ got v (next .at)) where
-        pub no-symbol : v .word < firstVariable → length (σ .symbols) ≤ v .word →
-            forestReader source σ (limit - index) owed at ≡ fault noSuchSymbol (v .offset)
-        no-symbol = unknown-symbol source σ (limit - index) owed at (omega arith) more v (next .at) e
+-- What is owed after a node stays small.
+pub owed-fits : (cell owed count : ℕ) → 0 < cell → cell < 2 ^ 32 → 0 < owed → count < maxNodes →
+    owed + 2 ^ 32 * (maxNodes - count) < 2 ^ 62 →
+    (cell - 1 + (owed - 1) < 2 ^ 63) × (cell - 1 + (owed - 1) + 2 ^ 32 * (maxNodes - (count + 1)) < 2 ^ 62)
+owed-fits cell owed count c small o l h =
+    let e : maxNodes - count ≡ 1 + (maxNodes - (count + 1)) = omega arith in
+    omega arith
 
-        fewer : limit - index - 1 ≡ limit - (index + 1)
-        fewer = omega arith
+-- ---- the number that answers
 
-        pub variable-taken : firstVariable ≤ v .word →
-            RestOwed (forestReader source σ) limit index owed at words (Owed (index + 1) next (owed - 1))
-            (set words index (v .word))
-        variable-taken hv = (
-          v .word ∷ [],
-          rw fewer at (variable-read source σ (limit - index) owed at (omega arith) more v (next .at) e hv),
-          omega arith,
-          omega arith,
-          refl,
-        )
+answers-same : (count : ℕ) (words : List ℕ) (r : ℕ) (after : List ℕ) (x y : Reading (List ℕ)) → x ≡ y →
+    Answers count words r after y → Answers count words r after x
+answers-same count words r after x y e h = rw e h
 
-        pub symbol-taken : v .word < firstVariable → v .word < length (σ .symbols) →
-            RestOwed (forestReader source σ) limit index owed at words
-            (Owed (index + 1) next (symbolOf σ (v .word) .arity + (owed - 1))) (set words index (v .word))
-        symbol-taken hv hs = (
-          v .word ∷ [],
-          rw fewer at (symbol-read source σ (limit - index) owed at (omega arith) more v (next .at) e hv hs),
-          omega arith,
-          omega arith,
-          refl,
-        )
+module _ (source : Source) (σ : Signature) (count n at : ℕ) (words : List ℕ) (r : ℕ) (after : List ℕ) where
+  abbrev whole : Reading (List ℕ)
+  whole = forestReader source σ (maxNodes - count) n at
 
-  -- ---- the first of the terms, as a row
+  pub answers-none : n ≡ 0 → count ≤ maxNodes → r ≡ numbered at count 0 → after ≡ words →
+      Answers count words r after whole
+  answers-none z short e f =
+      answers-same count words r after whole (got [] at) (rw z (nothing-owed source σ (maxNodes - count) at))
+      (omega arith, omega arith, f)
 
-  module _ (others : ℕ) where
-    pub row-fault : (code offset : ℕ) → forestReader source σ (limit - index) owed at ≡ fault code offset →
-        forestReader source σ (limit - index) (owed + others) at ≡ fault code offset
-    row-fault code offset e = forest-add source σ (limit - index) owed others at ∙ rw e
+  pub answers-many : 0 < n → count ≡ maxNodes → r ≡ numbered at 0 tooManyNodes → Answers count words r after whole
+  answers-many h full e =
+      let z : maxNodes - count ≡ 0 = omega arith in
+      answers-same count words r after whole (fault tooManyNodes at) (rw z (none-allowed source σ n at h))
+      (e, omega arith, omega arith)
 
-    pub row-taken : (end : ℕ) (next : BitCursor) (after : List ℕ) →
-        TermsRead (forestReader source σ (limit - index) owed at) limit index words (Read end next) after →
-        RestOwed (forestReader source σ) limit index (owed + others) at words (Owed end next others) after
-    row-taken end next after (nodes, read, long, within, stored) =
-        let l : limit - index - length nodes ≡ limit - end = omega arith in
-        (nodes, forest-add source σ (limit - index) owed others at ∙ rw (read, l), long, within, stored)
+  pub answers-fault : (code offset : ℕ) → whole ≡ fault code offset → 0 < code → code < 16 → r ≡ numbered offset 0 code →
+      Answers count words r after whole
+  answers-fault code offset e l h f = answers-same count words r after whole (fault code offset) e (f, l, h)
 
-  -- ---- what was read before
+  after-word : (w : ℕ) (x : Reading (List ℕ)) → Answers (count + 1) (set words count w) r after x →
+      Answers count words r after (before w x)
+  after-word w (got nodes next) (e, l, f) =
+      let c : count + 1 + length nodes ≡ count + suc (length nodes) = omega arith in
+      let s : count + 1 ≡ suc count = omega arith in
+      (rw c at e, omega arith, rw s at f)
+  after-word w (fault code offset) h = h
 
-  module _ (end : ℕ) (here : BitCursor) (left : ℕ) (middle : List ℕ)
-      (so : RestOwed (forestReader source σ) limit index owed at words (Owed end here left) middle) where
-    pub rest-more : (r : Rest) (after : List ℕ) →
-        RestOwed (forestReader source σ) limit end left (here .at) middle r after →
-        RestOwed (forestReader source σ) limit index owed at words r after
-    rest-more (Owed last next fewer) after (others, read', long', within', stored') =
-        let (nodes, read, long, within, stored) = so in
-        let rest = forestReader source σ (limit - last) fewer (next .at) in (
-          nodes ++ others,
-          read ∙ rw read' (andThen-assoc rest _ _ ∙ andThen-same rest _ _ (λ ws to. ap (λ (l : List ℕ). got l to)
-              (sym (append-assoc nodes others ws)))),
-          simp length-append (omega arith),
-          within',
-          stored' ∙ rw (long, stored) (sym (sets-append words index nodes others)),
-        )
-    rest-more (Fault code offset) after read' = so .1 ∙ rw read'
+  pub answers-before : (w m next : ℕ) →
+      whole ≡ before w (forestReader source σ (maxNodes - count - 1) m next) →
+      Answers (count + 1) (set words count w) r after (forestReader source σ (maxNodes - (count + 1)) m next) →
+      Answers count words r after whole
+  answers-before w m next e h =
+      let c : maxNodes - (count + 1) ≡ maxNodes - count - 1 = omega arith in
+      answers-same count words r after whole _ e
+      (after-word w (forestReader source σ (maxNodes - count - 1) m next) (rw c at h))
 
-    pub rest-done : left ≡ 0 →
-        TermsRead (forestReader source σ (limit - index) owed at) limit index words (Read end here) middle
-    rest-done z =
-        let (nodes, read, long, within, stored) = so in (
-          nodes,
-          read ∙ rw (z, nothing-owed source σ (limit - end) (here .at), append-nil),
-          long,
-          within,
-          stored,
-        )
+-- ---- a side
 
-pub beyond-rest : (read : ℕ → ℕ → Reader (List ℕ)) (limit index owed at : ℕ) (words : List ℕ) (r : Rest)
-    (after : List ℕ) → RestOwed read limit (index + 1) owed at words r after → Beyond index r
-beyond-rest read limit index owed at words (Owed end next left) after (nodes, all, long, within, stored) = omega arith
-beyond-rest read limit index owed at words (Fault code offset) after e = tt
+pub side-read : (words after : List ℕ) (r : ℕ) (x : Reading (List ℕ)) → length words ≡ 128 → r % 16 ≡ 0 →
+    Answers 0 words r after x → got (take (r / 16 % 256) after) (r / 4096) ≡ x
+side-read words after r (got nodes next) long z (e, l, f) =
+    let rest : r / 16 ≡ next * 256 + length nodes = omega arith in
+    let count : r / 16 % 256 ≡ length nodes = rw rest (omega arith) in
+    let offset : r / 4096 ≡ next = omega arith in
+    let front : take (length nodes) after ≡ nodes =
+    rw (f, sets-eq nodes words 0 (omega arith)) (take-append-seam nodes (drop (0 + length nodes) words)) in
+    rw (count, offset, front)
+side-read words after r (fault code offset) long z (e, l, h) = absurd (omega arith)
+
+pub side-fault : (words after : List ℕ) (r : ℕ) (x : Reading (List ℕ)) → (r % 16 ≡ 0 → ⊥) →
+    Answers 0 words r after x → fault (r % 16) (r / 4096) ≡ x
+side-fault words after r (got nodes next) h (e, l, f) = absurd (h (omega arith))
+side-fault words after r (fault code offset) h (e, l, f) =
+    let c : r % 16 ≡ code = omega arith in
+    let o : r / 4096 ≡ offset = omega arith in
+    rw (c, o)

@@ -1,11 +1,10 @@
 -- What the answers of reading the rules stand for.
 -- Renders: 01, "Book layout": "N rules, each a left side and a right side in prefix order"; "A sheet holds the same
--- fields
--- in the same order".
+-- fields in the same order".
 use mathlib.Core.Path.{_≡_}
 use mathlib.Core.List.{List, [], _∷_, _++_}
 use Prim.Native.Nat.{ℕ, _+_, _≤_}
-use lib.ListN.{length, take}
+use lib.ListN.{length}
 use lib.Seq.{sets}
 use Rattle.terms.specs.Signature.{Signature}
 use Rattle.format.specs.Layout.{maxNodes}
@@ -15,23 +14,18 @@ use Rattle.format.specs.Format.{Sides, forestReader}
 use Rattle.reader.specs.declared.rule.Stored.{Stored}
 use Rattle.reader.specs.declared.rule.Stored.the-variants.{Past, Fault}
 
--- What was read, the index of its words, the answer, and the words before and after. A fault leaves open which words
--- were
--- stored before it.
-abbrev pub WordsRead : {A : Type 0} → (A → List ℕ) → ℕ → Reading A → ℕ → List ℕ → Stored → List ℕ → Type 0
-WordsRead {A} wordsOf most reading index before (Past end next) after =
-    (a : A) × (reading ≡ got a (next .at)) × (end ≡ index + length (wordsOf a)) × (length (wordsOf a) ≤ most)
-    × (after ≡ sets before index (wordsOf a))
-WordsRead wordsOf most reading index before (Fault code offset) after = reading ≡ fault code offset
+-- What was read, the index of its words, the answer, and the words before and after: those that were read stand from
+-- the index on, where there is room for all of them.
+abbrev pub WordsRead : {A : Type 0} → (A → List ℕ) → Reading A → ℕ → List ℕ → Stored → List ℕ → Type 0
+WordsRead {A} wordsOf reading index before (Past end next) after =
+    (a : A) × (reading ≡ got a (next .at)) × (end ≡ index + length (wordsOf a))
+    × (end ≤ length before → after ≡ sets before index (wordsOf a))
+WordsRead wordsOf reading index before (Fault code offset) after = reading ≡ fault code offset
 
--- The reading of a side whose words stand first.
-abbrev pub sideReading : List ℕ → Stored → Reading (List ℕ)
-sideReading words (Past count next) = got (take count words) (next .at)
-sideReading words (Fault code offset) = fault code offset
-
-abbrev pub CountWithin : ℕ → Stored → Type 0
-CountWithin most (Past count next) = count ≤ most
-CountWithin most (Fault code offset) = Unit {0}
+-- The words end by that index, and what was read by that offset.
+abbrev pub StoredWithin : ℕ → ℕ → Stored → Type 0
+StoredWithin last limit (Past end next) = (end ≤ last) × (next .at ≤ limit)
+StoredWithin last limit (Fault code offset) = Unit {0}
 
 abbrev pub sideWords : Sides → List ℕ
 sideWords r = r .left ++ r .right

@@ -1,142 +1,90 @@
-// Reading terms in prefix order: a term is its node and then its arguments, a row of terms. The loop that reads a row
-// is called again for the arguments of a node in it; the nodes still allowed, those up to the limit, fall.
+// Reading a term in prefix order: a node, and then the arguments that it calls for, before the terms owed besides.
 ghost use mathlib.Core.Path.{_≡_};
-ghost use Prim.Native.Nat.{_+_, _-_, _≤_, _<_};
-ghost use lib.ListN.{length, set};
-ghost use lib.Dec.{ltb};
-ghost use Rattle.format.specs.Layout.{maxBytes};
+ghost use Prim.Native.Nat.{_+_, _-_, _*_, _/_, _%_, _^_, _≤_, _<_};
+ghost use lib.ListN.{length};
+ghost use Rattle.terms.specs.Signature.{Signature};
+ghost use Rattle.format.specs.Layout.{maxBytes, maxNodes};
 ghost use Rattle.format.specs.Reading.{bitSource};
 ghost use Rattle.format.specs.Format.{forestReader};
-ghost use Rattle.symbols.specs.Table.{signatureOf};
-ghost use Rattle.reader.specs.Term.{TermsRead, RestOwed, Beyond};
+ghost use Rattle.symbols.specs.Arities.{Arities};
+ghost use Rattle.reader.specs.Term.{numbered, Answers, sideReading, SideWithin};
 use bits::BitCursor;
 use bits::Node;
 
-// The index past the words of the terms that were read and the cursor past them, or an error's code and offset.
-pub enum Terms {
+// How many words a side has and the cursor past it, or an error's code and offset.
+pub enum Side {
     Read(usize, BitCursor),
     Fault(u8, usize),
 }
 
-// What is still to be read, the index of its words, its cursor and its count of terms; or an error's code and offset.
-pub enum Rest {
-    Owed(usize, BitCursor, usize),
-    Fault(u8, usize),
-}
-
-// Stores a word, where there is room for it.
-pub fn put_word(words: &mut [u16], index: usize, word: u16)
-    ensures { λ r. ⌜ now (words .exit) ≡ set (now (words .entry)) index word ⌝ }
+// An answer as one number: an offset, a count of words, and an error's code or 0.
+fn number(offset: usize, count: usize, code: usize) -> usize
+    requires { ⌜ (offset < 2 ^ 32) × (count < 256) × (code < 16) ⌝ }
+    ensures { λ r. ⌜ r ≡ numbered offset count code ⌝ }
 {
-    if index < words.len() {
-        words[index] = word;
-    }
+    (offset * 256 + count) * 16 + code
 }
 
-// Whether the table has a symbol of that number.
-fn has_symbol(table: &[u16], symbol: u16) -> bool
-    ensures { λ r. ⌜ r ≡ ltb symbol (length (signatureOf (now (table .entry)) .symbols)) ⌝ }
-{
-    4 * symbols::wide(symbol) + 1 < table.len()
-}
-
-// Reads the arguments of a symbol, one of the terms that are owed.
-fn read_arguments(
-    book: &[u8],
-    table: &[u16],
-    words: &mut [u16],
-    index: usize,
-    limit: usize,
-    cursor: BitCursor,
-    arity: usize,
-    owed: usize,
-) -> Rest
-    requires { ⌜ (length (now book) ≤ maxBytes) × (index ≤ limit) × (0 < owed) ⌝ }
-    ensures { λ r. ⌜
-        RestOwed (forestReader (bitSource (now (book .entry))) (signatureOf (now (table .entry))))
-        limit index (arity + (owed - 1)) (cursor .at) (now (words .entry)) r (now (words .exit))
-        ⌝ }
-{
-    match read_row(book, table, words, index, limit, cursor, arity) {
-        Terms::Fault(code, offset) => Rest::Fault(code, offset),
-        Terms::Read(end, next) => Rest::Owed(end, next, owed - 1),
-    }
-}
-
-// Reads the first node of the terms that are owed, and its arguments. They stay owed in its place where there is at
-// most one of them, or where nothing else is owed.
-fn read_node(
-    book: &[u8],
-    table: &[u16],
-    words: &mut [u16],
-    index: usize,
-    limit: usize,
+// Reads as many terms as are owed, their words stored after the first ones. It reads a node and calls itself for what
+// is then owed, with one node fewer allowed. The answer is a number, so that this call in last place is a jump.
+fn read_terms(
+    book: &&[u8],
+    arities: &[u32; 272],
+    words: &mut [u16; 128],
+    count: usize,
     cursor: BitCursor,
     owed: usize,
-) -> Rest
-    requires { ⌜ (length (now book) ≤ maxBytes) × (index ≤ limit) × (0 < owed) ⌝ }
+) -> usize
+    requires { ⌜ (length (now (now book)) ≤ maxBytes) × (cursor .at ≤ 8 * length (now (now book))) ⌝ }
+    requires { ⌜ (count ≤ maxNodes) × (owed + 2 ^ 32 * (maxNodes - count) < 2 ^ 62) × (length (now words) ≡ 128) ⌝ }
     ensures { λ r. ⌜
-        RestOwed (forestReader (bitSource (now (book .entry))) (signatureOf (now (table .entry))))
-        limit index owed (cursor .at) (now (words .entry)) r (now (words .exit))
+        ((σ : Signature) → Arities σ (now (arities .entry)) →
+        Answers count (now (words .entry)) r (now (words .exit))
+        (forestReader (bitSource (now (now (book .entry)))) σ (maxNodes - count) owed (cursor .at)))
         ⌝ }
-    ensures { λ r. ⌜ Beyond index r ⌝ }
+    ensures { λ r. ⌜ (r / 16 % 256 ≤ maxNodes) × (r / 4096 ≤ 8 * length (now (now (book .entry)))) ⌝ }
+    ensures { λ r. ⌜ length (now (words .exit)) ≡ 128 ⌝ }
 {
-    if index == limit {
-        return Rest::Fault(10, cursor.at);
+    if owed == 0 {
+        return number(cursor.at, count, 0);
     }
-    match cursor.node(book) {
-        Node::Missing(offset) => Rest::Fault(2, offset),
-        Node::Variable(word, next) => {
-            put_word(words, index, word);
-            Rest::Owed(index + 1, next, owed - 1)
-        }
-        Node::Symbol(word, next) => {
-            put_word(words, index, word);
-            if !has_symbol(table, word) {
-                return Rest::Fault(9, cursor.at + 1);
+    if count == 128 {
+        return number(cursor.at, 0, 10);
+    }
+    match cursor.node(*book) {
+        Node::Missing(offset) => number(offset, 0, 2),
+        Node::Got(word, next) => {
+            words[count] = word;
+            let cell = symbols::cell_at(arities, word);
+            if cell == 0 {
+                return number(cursor.at + 1, 0, 9);
             }
-            let arity = symbols::arity(table, word);
-            if arity <= 1 {
-                return Rest::Owed(index + 1, next, arity + (owed - 1));
-            }
-            if owed == 1 {
-                return Rest::Owed(index + 1, next, arity);
-            }
-            read_arguments(book, table, words, index + 1, limit, next, arity, owed)
+            read_terms(book, arities, words, count + 1, next, cell - 1 + (owed - 1))
         }
     }
 }
 
-// Reads as many terms as are owed, their words stored from an index on. The nodes allowed are those up to the limit.
-pub fn read_row(
+// Reads a side into the words.
+pub fn read_side(
     book: &[u8],
-    table: &[u16],
-    words: &mut [u16],
-    index: usize,
-    limit: usize,
+    arities: &[u32; 272],
+    words: &mut [u16; 128],
     cursor: BitCursor,
-    owed: usize,
-) -> Terms
-    requires { ⌜ (length (now book) ≤ maxBytes) × (index ≤ limit) ⌝ }
+) -> Side
+    requires { ⌜ (length (now book) ≤ maxBytes) × (cursor .at ≤ 8 * length (now book)) × (length (now words) ≡ 128) ⌝ }
     ensures { λ r. ⌜
-        TermsRead
-        (forestReader (bitSource (now (book .entry))) (signatureOf (now (table .entry)))
-        (limit - index) owed (cursor .at))
-        limit index (now (words .entry)) r (now (words .exit))
+        ((σ : Signature) → Arities σ (now (arities .entry)) →
+        sideReading (now (words .exit)) r
+        ≡ forestReader (bitSource (now (book .entry))) σ maxNodes 1 (cursor .at))
         ⌝ }
+    ensures { λ r. ⌜ SideWithin (8 * length (now (book .entry))) r ⌝ }
+    ensures { λ r. ⌜ length (now (words .exit)) ≡ 128 ⌝ }
 {
-    let mut end = index;
-    let mut here = cursor;
-    let mut left = owed;
-    while 0 < left {
-        match read_node(book, table, words, end, limit, here, left) {
-            Rest::Fault(code, offset) => return Terms::Fault(code, offset),
-            Rest::Owed(next_end, next, fewer) => {
-                end = next_end;
-                here = next;
-                left = fewer;
-            }
-        }
+    let answer = read_terms(&book, arities, words, 0, cursor, 1);
+    let code = answer % 16;
+    let offset = answer / 4096;
+    if code == 0 {
+        return Side::Read(answer / 16 % 256, BitCursor { at: offset });
     }
-    Terms::Read(end, here)
+    Side::Fault(code as u8, offset)
 }

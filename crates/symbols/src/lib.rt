@@ -1,6 +1,6 @@
 // The decoded symbol table: access to a symbol by its number. Only these functions know how the words lie.
 ghost use mathlib.Core.Path.{_≡_};
-ghost use Prim.Native.Nat.{_+_, _*_, _≤_, _<_};
+ghost use Prim.Native.Nat.{_+_, _*_, _^_, _≤_, _<_};
 ghost use lib.Dec.{ltb};
 ghost use lib.ListN.{length, getD};
 ghost use Rattle.terms.specs.Signature.{symbolOf};
@@ -104,4 +104,19 @@ pub fn arities(table: &[u16]) -> [u32; 272]
     put_cells(table, &mut cells, 0, count as u16);
     put_cells(table, &mut cells, 256, 272);
     cells
+}
+
+// The number as an index.
+fn widest(cell: u32) -> usize
+    ensures { λ r. ⌜ (r ≡ cell) × (r < 2 ^ 32) ⌝ }
+{
+    cell as usize
+}
+
+// The cell of a node word.
+pub fn cell_at(cells: &[u32; 272], word: u16) -> usize
+    requires { ⌜ word < 272 ⌝ }
+    ensures { λ r. ⌜ (r ≡ getD (now (cells .entry)) word 0) × (r < 2 ^ 32) ⌝ }
+{
+    widest(cells[wide(word)])
 }

@@ -1,14 +1,31 @@
-use borrow.Author.Tests.{lt-ltb, le-ltb}
+use mathlib.Core.Path.{_≡_}
+use Prim.Native.Nat.{ℕ, _+_, _-_, _*_, _/_, _^_, _<_}
 use native.Mathlib.Omega.{arith}
 use borrow.Author.Needs.{needs}
+use Rattle.bits.specs.Cursor.{nodeWidth, nodeWord}
+use Rattle.bits.proofs.NodeLaws.{word-by-tag, word-lt, width-by-tag}
 use Rattle.bits.proofs.node_of.Statement.{statement}
 use Rattle.bits.proofs.node_of.Tie as tie
 
-cast-t5 : tie.Need-cast-t5
-cast-t5 c = search needs
+-- A node's word, by its tag.
+word-of : (nine tag : ℕ) → nine < 512 → tag ≡ nine / 256 →
+    (nine / 2 ^ (4 * tag) + 240 * tag ≡ nodeWord nine) × (nodeWord nine < 272)
+word-of nine tag h e = (rw e (word-by-tag nine h), word-lt nine h)
 
-add-t6 : tie.Need-add-t6
-add-t6 c = search needs
+mul-unused : tie.Need-mul-unused
+mul-unused c = search needs
+
+shr-t5 : tie.Need-shr-t5
+shr-t5 c = search needs
+
+mul-t6 : tie.Need-mul-t6
+mul-t6 c = search needs
+
+add-t7 : tie.Need-add-t7
+add-t7 c = omega (arith, word-of (c .args .nine) (c .args .tag) (c .pre .0) (c .pre .1))
+
+cast-t8 : tie.Need-cast-t8
+cast-t8 c = omega (arith, word-of (c .args .nine) (c .args .tag) (c .pre .0) (c .pre .1))
 
 add-t9 : tie.Need-add-t9
 add-t9 c = search needs
@@ -16,14 +33,16 @@ add-t9 c = search needs
 cast-t10 : tie.Need-cast-t10
 cast-t10 c = search needs
 
-add-t11 : tie.Need-add-t11
-add-t11 c = search needs
+sub-t11 : tie.Need-sub-t11
+sub-t11 c = search needs
 
 returns : tie.Need-returns
-returns c = (rw (lt-ltb _ _ (c .if1 .taken)), c .if1 .taken)
-
-returns-2 : tie.Need-returns-2
-returns-2 c = (rw (le-ltb _ _ (c .if1 .left)), omega arith)
+returns c =
+    let word = word-of (c .args .nine) (c .args .tag) (c .pre .0) (c .pre .1) in
+    let width = width-by-tag (c .args .nine) (c .pre .0) in
+    let end : c .args .at + 9 - 4 * c .args .tag ≡ c .args .at + nodeWidth (c .args .nine) = omega arith in
+    (rw (word .0, end), rw (word .0) (word .1))
 
 pub node-of-spec : {M : Type 1} → statement M
-node-of-spec = tie.close (tie.spec cast-t5 add-t6 add-t9 cast-t10 add-t11 returns returns-2)
+node-of-spec =
+    tie.close (tie.spec mul-unused shr-t5 mul-t6 add-t7 cast-t8 add-t9 cast-t10 sub-t11 returns)

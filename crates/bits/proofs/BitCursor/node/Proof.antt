@@ -1,11 +1,11 @@
-use native.Mathlib.Omega.{arith}
-use mathlib.Core.Path.{_≡_, sym, _∙_}
+use mathlib.Core.Path.{_≡_, sym, ap, _∙_}
 use Prim.Native.Nat.{ℕ, _+_, _*_, _-_, _/_, _%_, _^_, _<_}
+use native.Mathlib.Omega.{arith}
 use lib.ListN.{getD}
+use borrow.Author.Needs.{needs}
 use Rattle.format.specs.Reading.{spelt, bitAt}
 use Rattle.bits.proofs.BitLaws.{field-two}
-use Rattle.bits.proofs.NodeLaws.{node-got, width-le}
-use borrow.Author.Needs.{needs}
+use Rattle.bits.proofs.NodeLaws.{node-got, tag-first, width-le}
 use Rattle.bits.proofs.BitCursor.node.Statement.{statement}
 use Rattle.bits.proofs.BitCursor.node.Tie as tie
 
@@ -21,6 +21,9 @@ returns c = search needs
 byte-at-requires : tie.Need-byte-at-requires
 byte-at-requires c κs = search needs
 
+sub-after : tie.Need-sub-after
+sub-after c = search needs
+
 mul-nine : tie.Need-mul-nine
 mul-nine c = search needs
 
@@ -33,17 +36,32 @@ byte-at-requires-2 c κs = search needs
 add-nine : tie.Need-add-nine
 add-nine c = search needs
 
-sub-nine : tie.Need-sub-nine
-sub-nine c = search needs
-
 cast-nine : tie.Need-cast-nine
 cast-nine c = search needs
 
 shr-nine : tie.Need-shr-nine
 shr-nine c = search needs
 
+cast-node-of : tie.Need-cast-node-of
+cast-node-of c = search needs
+
+shr-node-of : tie.Need-shr-node-of
+shr-node-of c = search needs
+
 node-of-requires : tie.Need-node-of-requires
-node-of-requires c κs = search needs
+node-of-requires c κs =
+    let a = c .before .before .before .before .args in
+    let bytes = c .before .before .before .shared-slice-known .given in
+    let small : (i : ℕ) → getD (a .book .now) i 0 < 256 = λ i. omega (arith, bytes i) in
+    let two = c .before .byte-at .result * 256 + c .byte-at2 .result in
+    let nine : spelt (bitAt (a .book .now)) (a .self .at) 9 ≡ two / 2 ^ (7 - a .self .at % 8) % 512 =
+    rw (c .before .byte-at .ensures .0, c .byte-at2 .ensures .0)
+    (field-two (a .book .now) small (a .self .at)) in (
+      omega arith,
+      ap (λ (x : ℕ). x / 2 ^ (7 - a .self .at % 8) % 2) (c .before .byte-at .ensures .0)
+          ∙ tag-first (a .book .now) (a .self .at) _ nine,
+      omega arith,
+    )
 
 returns-2 : tie.Need-returns-2
 returns-2 c =
@@ -67,12 +85,14 @@ node-spec =
     late-node-requires
     returns
     byte-at-requires
+    sub-after
     mul-nine
     add-byte-at
     byte-at-requires-2
     add-nine
-    sub-nine
     cast-nine
     shr-nine
+    cast-node-of
+    shr-node-of
     node-of-requires
     returns-2)

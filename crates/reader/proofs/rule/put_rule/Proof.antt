@@ -1,7 +1,6 @@
 use native.Mathlib.Omega.{arith}
 use Rattle.format.specs.Reading.{bitSource}
-use Rattle.symbols.specs.Table.{signatureOf}
-use Rattle.reader.proofs.RuleLaws.{left-fault, right-read}
+use Rattle.reader.proofs.RuleLaws.{left-fault, right-read, stored-wider}
 use borrow.Author.Needs.{needs}
 use Rattle.reader.proofs.rule.put_rule.Statement.{statement}
 use Rattle.reader.proofs.rule.put_rule.Tie as tie
@@ -16,37 +15,34 @@ enum-known-middle : tie.Need-enum-known-middle
 enum-known-middle c = search needs
 
 put-side-requires-2 : tie.Need-put-side-requires-2
-put-side-requires-2 c κs = let read = rw (c .before .before .middle .given .1) at (c .before .before .before .before
-    .before .before .put-side .ensures) in omega (arith, read .2, read .3)
+put-side-requires-2 c κs =
+    let within = rw (c .before .before .middle .given .1) at (c .before .before .before .before .before .before .put-side .ensures .1) in
+    (c .before .before .before .before .before .before .before .before .before .before .pre .0, within .1, omega (arith, within .0))
 
 same-length : tie.Need-same-length
 same-length c = search needs
 
 returns : tie.Need-returns
-returns c = left-fault (bitSource (c .before .before .before .before .before .before .before .before .before .before
-    .args .book .now)) (signatureOf (c .before .before .before .before .before .before .before .before .before .before
-    .args .table .now)) (c .before .before .before .before .before .before .before .before .before .before .args .cursor
-    .at) (c .before .before .before .before .before .before .before .before .before .before .args .index) (c .before
-    .before .before .before .before .before .before .before .before .before .args .words .now) _ _ (c .before .before
-    .before .before .before .put-side .last .1 .1 .0) (rw (c .before .code .given .1) at (c .before .before .before
-    .before .before .put-side .ensures))
+returns c =
+    let a = c .before .before .before .before .before .before .before .before .before .args in (
+      λ σ k. left-fault (bitSource (a .book .now)) σ (a .cursor .at) (a .index) (a .words .now) _ _ (c .before .before .before .before .before .put-side .last .1 .1 .0)
+          (rw (c .before .code .given .1) at (c .before .before .before .before .before .put-side .ensures .0 σ k)),
+      tt,
+    )
 
 same-length-2 : tie.Need-same-length-2
 same-length-2 c = search needs
 
 returns-2 : tie.Need-returns-2
 returns-2 c =
-    right-read (bitSource (c .before .before .before .before .before .before .before .before .before .before .before
-    .before .before .before .args .book .now)) (signatureOf (c .before .before .before .before .before .before .before
-    .before .before .before .before .before .before .before .args .table .now)) (c .before .before .before .before
-    .before .before .before .before .before .before .before .before .before .before .args .cursor .at) (c .before
-    .before .before .before .before .before .before .before .before .before .before .before .before .before .args
-    .index) (c .before .before .before .before .before .before .before .before .before .before .before .before .before
-    .before .args .words .now) _ _ (c .before .before .before .before .before .before .before .before .before .put-side
-    .last .1 .1 .0) (rw (c .before .before .before .before .before .middle .given .1) at (c .before .before .before
-    .before .before .before .before .before .before .put-side .ensures))
-    (c .before .before .put-side2 .result) (c .before .before .put-side2 .last .1 .1 .0) (c .before .before .put-side2
-    .ensures)
+    let a = c .before .before .before .before .before .before .before .before .before .before .before .before .before .args in
+    let within = rw (c .before .before .before .before .before .middle .given .1) at (c .before .before .before .before .before .before .before .before .before .put-side .ensures .1) in (
+      λ σ k. right-read (bitSource (a .book .now)) σ (a .cursor .at) (a .index) (a .words .now) _ _
+          (c .before .before .before .before .before .before .before .before .before .put-side .last .1 .1 .0) (c .before .before .before .before .before .before .before .before .before .put-side .kept .1 .1 .0)
+          (rw (c .before .before .before .before .before .middle .given .1) at (c .before .before .before .before .before .before .before .before .before .put-side .ensures .0 σ k)) (c .before .before .put-side2 .result)
+          (c .before .before .put-side2 .last .1 .1 .0) (c .before .before .put-side2 .ensures .0 σ k),
+      stored-wider _ _ _ (omega (arith, within .0)) (c .before .before .put-side2 .result) (c .before .before .put-side2 .ensures .1),
+    )
 
 pub put-rule-spec : {M : Type 1} → statement M
 put-rule-spec =

@@ -1,51 +1,68 @@
+use mathlib.Core.Path.{sym}
 use native.Mathlib.Omega.{arith}
-use mathlib.Core.Path.{_≡_}
-use Prim.Native.Nat.{_+_, _-_}
-use Rattle.reader.proofs.RuleLaws.{side-past}
+use lib.ListN.{take}
+use lib.Seq.{length-take-le}
+use Rattle.reader.proofs.RuleLaws.{side-stored}
 use borrow.Author.Needs.{needs}
 use Rattle.reader.proofs.rule.put_side.Statement.{statement}
 use Rattle.reader.proofs.rule.put_side.Tie as tie
 
-add-read-row : tie.Need-add-read-row
-add-read-row c = search needs
-
-read-row-requires : tie.Need-read-row-requires
-read-row-requires c κs = search needs
+read-side-requires : tie.Need-read-side-requires
+read-side-requires c κs = search needs
 
 enum-known-code : tie.Need-enum-known-code
 enum-known-code c = search needs
 
-enum-known-end : tie.Need-enum-known-end
-enum-known-end c = search needs
+enum-known-count : tie.Need-enum-known-count
+enum-known-count c = search needs
+
+array-share-prefix-side : tie.Need-array-share-prefix-side
+array-share-prefix-side c =
+    let within = rw (c .before .before .count .given .1) at (c .before .before .before .before .read-side .ensures .1 .0) in
+    omega (arith, within, c .before .before .before .before .read-side .ensures .1 .1)
+
+slice-aggregate-put-words : tie.Need-slice-aggregate-put-words
+slice-aggregate-put-words c =
+    let within = rw (c .before .before .before .count .given .1) at (c .before .before .before .before .before .read-side .ensures .1 .0) in
+    sym (length-take-le (c .before .before .before .count .given .0 .0) (c .before .before .before .before .before .read-side .last .1 .1 .0) (omega (arith, within, c .before .before .before .before .before .read-side .ensures .1 .1)))
+
+put-words-requires : tie.Need-put-words-requires
+put-words-requires c κs =
+    let within = rw (c .before .before .before .count .given .1) at (c .before .before .before .before .before .read-side .ensures .1 .0) in
+    omega (arith, within, length-take-le (c .before .before .before .count .given .0 .0) (c .before .before .before .before .before .read-side .last .1 .1 .0) (omega (arith, within, c .before .before .before .before .before .read-side .ensures .1 .1)))
+
+add-t19 : tie.Need-add-t19
+add-t19 c =
+    let within = rw (c .before .before .before .before .before .before .count .given .1) at (c .before .before .before .before .before .before .before .before .read-side .ensures .1 .0) in
+    omega (arith, within)
+
+returns : tie.Need-returns
+returns c = (λ σ k. sym (rw (c .before .code .given .1) at (c .before .before .before .read-side .ensures .0 σ k)), tt)
 
 same-length : tie.Need-same-length
 same-length c = search needs
 
-returns : tie.Need-returns
-returns c =
-    let a = c .before .before .before .before .before .before .before .before .before .before .args in
-    let all : a .index + 128 - a .index ≡ 128 = omega arith in
-    rw (c .before .code .given .1, all) at (c .before .before .before .before .before .read-row .ensures)
-
-same-length-2 : tie.Need-same-length-2
-same-length-2 c = search needs
-
 returns-2 : tie.Need-returns-2
 returns-2 c =
-    let a = c .before .before .before .before .before .before .before .before .before .before .args in
-    let all : a .index + 128 - a .index ≡ 128 = omega arith in
-    side-past _ (a .index) _ _ (a .words .now) (c .before .before .before .before .before .read-row .last .1 .1 .0)
-    (rw (c .before .end .given .1, all) at (c .before .before .before .before .before .read-row .ensures))
+    let a = c .before .before .before .before .before .before .before .before .before .before .before .before .args in
+    let within = rw (c .before .before .before .before .before .before .count .given .1) at (c .before .before .before .before .before .before .before .before .read-side .ensures .1 .0) in
+    let long = length-take-le (c .before .before .before .before .before .before .count .given .0 .0) (c .before .before .before .before .before .before .before .before .read-side .last .1 .1 .0) (omega (arith, within, c .before .before .before .before .before .before .before .before .read-side .ensures .1 .1)) in (
+      λ σ k. side-stored _ (a .index) (a .words .now) (take (c .before .before .before .before .before .before .count .given .0 .0) (c .before .before .before .before .before .before .before .before .read-side .last .1 .1 .0)) _ _ _
+          (rw (c .before .before .before .before .before .before .count .given .1) at (c .before .before .before .before .before .before .before .before .read-side .ensures .0 σ k)) (omega (arith, long)) (c .before .before .put-words .ensures),
+      (omega (arith, within), within .1),
+    )
 
 pub put-side-spec : {M : Type 1} → statement M
 put-side-spec =
     tie.close
     (tie.spec
-    add-read-row
-    read-row-requires
+    read-side-requires
     enum-known-code
-    enum-known-end
-    same-length
+    enum-known-count
+    array-share-prefix-side
+    slice-aggregate-put-words
+    put-words-requires
+    add-t19
     returns
-    same-length-2
+    same-length
     returns-2)

@@ -1,0 +1,264 @@
+use native.Mathlib.Omega.{arith}
+use mathlib.Core.Path.{sym, ap, _∙_}
+use lib.ListN.{length}
+use borrow.Author.Tests.{lt-ltb, le-ltb, lt-leb, le-leb, eq-eqb, ne-eqb}
+use Rattle.format.specs.Layout.{maxBytes}
+use Rattle.format.specs.Format.{fileReader}
+use Rattle.format.specs.Files.{readBytes}
+use Rattle.reader.specs.File.{bodyReader}
+use Rattle.bits.specs.Cursor.{fieldReading}
+use Rattle.bits.proofs.NodeLaws.{field-lt, field-end}
+use borrow.Author.Needs.{needs}
+use Rattle.reader.proofs.file.read_head.Statement.{statement}
+use Rattle.reader.proofs.file.read_head.Tie as tie
+
+returns : tie.Need-returns
+unfolding readBytes fileReader bodyReader
+returns c =
+    rw (lt-leb (length (c .before .before .before .args .book .now)) maxBytes (c .if1 .taken))
+
+field-requires : tie.Need-field-requires
+field-requires c κs = search needs
+
+enum-known-form : tie.Need-enum-known-form
+enum-known-form c = search needs
+
+enum-told : tie.Need-enum-told
+enum-told c = search needs
+
+returns-2 : tie.Need-returns-2
+unfolding readBytes fileReader bodyReader
+returns-2 c =
+    rw (
+      le-leb (length (c .before .before .before .before .before .before .args .book .now)) maxBytes (c .before .before
+          .before .if1 .left),
+      sym (c .before .before .field .ensures) ∙ ap (fieldReading _) (c .enum-told .given .1),
+    )
+
+returns-3 : tie.Need-returns-3
+unfolding readBytes fileReader bodyReader
+returns-3 c =
+    rw (
+      le-leb (length (c .before .before .before .before .before .before .before .before .args .book .now)) maxBytes (c
+          .before .before .before .before .before .if1 .left),
+      sym (c .before .before .before .before .field .ensures) ∙ ap (fieldReading _) (c .before .before .form .given .1),
+      ne-eqb _ _ (c .if2 .taken),
+    )
+
+field-requires-2 : tie.Need-field-requires-2
+field-requires-2 c κs = search needs
+
+enum-known-count : tie.Need-enum-known-count
+enum-known-count c = search needs
+
+enum-told-2 : tie.Need-enum-told-2
+enum-told-2 c = search needs
+
+returns-4 : tie.Need-returns-4
+unfolding readBytes fileReader bodyReader
+returns-4 c =
+    rw (
+      le-leb (length (c .before .before .before .before .before .before .before .before .before .before .before .args
+          .book .now)) maxBytes (c .before .before .before .before .before .before .before .before .if1 .left),
+      sym (c .before .before .before .before .before .before .before .field .ensures) ∙ ap (fieldReading _) (c .before
+          .before .before .before .before .form .given .1),
+      eq-eqb _ _ (c .before .before .before .if2 .left),
+      sym (c .before .before .field2 .ensures) ∙ ap (fieldReading _) (c .enum-told2 .given .1),
+    )
+
+returns-5 : tie.Need-returns-5
+unfolding readBytes fileReader bodyReader
+returns-5 c =
+    rw (
+      le-leb (length (c .before .before .before .before .before .before .before .before .before .before .before .before
+          .before .args .book .now)) maxBytes (c .before .before .before .before .before .before .before .before .before
+          .before .if1 .left),
+      sym (c .before .before .before .before .before .before .before .before .before .field .ensures) ∙ ap (fieldReading
+          _) (c .before .before .before .before .before .before .before .form .given .1),
+      eq-eqb _ _ (c .before .before .before .before .before .if2 .left),
+      sym (c .before .before .before .before .field2 .ensures) ∙ ap (fieldReading _) (c .before .before .count .given
+          .1),
+      le-ltb 0 (c .before .before .count .given .0 .0) (omega arith),
+    )
+
+field-requires-3 : tie.Need-field-requires-3
+field-requires-3 c κs = search needs
+
+enum-known-w0 : tie.Need-enum-known-w0
+enum-known-w0 c = search needs
+
+enum-told-3 : tie.Need-enum-told-3
+enum-told-3 c = search needs
+
+returns-6 : tie.Need-returns-6
+unfolding readBytes fileReader bodyReader
+returns-6 c =
+    rw (
+      le-leb (length (c .before .before .before .before .before .before .before .before .before .before .before .before
+          .before .before .before .before .args .book .now)) maxBytes (c .before .before .before .before .before .before
+          .before .before .before .before .before .before .before .if1 .left),
+      sym (c .before .before .before .before .before .before .before .before .before .before .before .before .field
+          .ensures) ∙ ap (fieldReading _) (c .before .before .before .before .before .before .before .before
+          .before .before
+          .form .given .1),
+      eq-eqb _ _ (c .before .before .before .before .before .before .before .before .if2 .left),
+      sym (c .before .before .before .before .before .before .before .field2 .ensures) ∙ ap (fieldReading _) (c .before
+          .before .before .before .before .count .given .1),
+      lt-ltb 0 (c .before .before .before .before .before .count .given .0 .0) (omega arith),
+      sym (c .before .before .field3 .ensures) ∙ ap (fieldReading _) (c .enum-told3 .given .1),
+    )
+
+returns-7 : tie.Need-returns-7
+unfolding readBytes fileReader bodyReader
+returns-7 c =
+    rw (
+      le-leb (length (c .before .before .before .before .before .before .before .before .before .before .before .before
+          .before .before .before .before .before .before .args .book .now)) maxBytes (c .before .before .before .before
+          .before .before .before .before .before .before .before .before .before .before .before .if1 .left),
+      sym (c .before .before .before .before .before .before .before .before .before .before .before .before .before
+          .before .field .ensures) ∙ ap (fieldReading _) (c .before .before .before .before .before .before
+          .before .before
+          .before .before .before .before .form .given .1),
+      eq-eqb _ _ (c .before .before .before .before .before .before .before .before .before .before .if2 .left),
+      sym (c .before .before .before .before .before .before .before .before .before .field2 .ensures) ∙ ap
+          (fieldReading _) (c .before .before .before .before .before .before .before .count .given .1),
+      lt-ltb 0 (c .before .before .before .before .before .before .before .count .given .0 .0) (omega arith),
+      sym (c .before .before .before .before .field3 .ensures) ∙ ap (fieldReading _) (c .before .before .w0 .given .1),
+      le-ltb 0 (c .before .before .w0 .given .0 .0) (omega arith),
+    )
+
+field-requires-4 : tie.Need-field-requires-4
+field-requires-4 c κs = search needs
+
+enum-known-rules : tie.Need-enum-known-rules
+enum-known-rules c = search needs
+
+enum-told-4 : tie.Need-enum-told-4
+enum-told-4 c = search needs
+
+returns-8 : tie.Need-returns-8
+unfolding readBytes fileReader bodyReader
+returns-8 c =
+    rw (
+      le-leb (length (c .before .before .before .before .before .before .before .before .before .before .before .before
+          .before .before .before .before .before .before .before .before .before .args .book .now)) maxBytes (c .before
+          .before .before .before .before .before .before .before .before .before .before .before .before
+          .before .before
+          .before .before .before .if1 .left),
+      sym (c .before .before .before .before .before .before .before .before .before .before .before .before .before
+          .before .before .before .before .field .ensures) ∙ ap (fieldReading _) (c .before .before .before
+          .before .before
+          .before .before .before .before .before .before .before .before .before .before .form .given .1),
+      eq-eqb _ _ (c .before .before .before .before .before .before .before .before .before .before .before .before
+          .before .if2 .left),
+      sym (c .before .before .before .before .before .before .before .before .before .before .before .before .field2
+          .ensures) ∙ ap (fieldReading _) (c .before .before .before .before .before .before .before .before
+          .before .before
+          .count .given .1),
+      lt-ltb 0 (c .before .before .before .before .before .before .before .before .before .before .count .given .0 .0)
+          (omega arith),
+      sym (c .before .before .before .before .before .before .before .field3 .ensures) ∙ ap (fieldReading _) (c .before
+          .before .before .before .before .w0 .given .1),
+      lt-ltb 0 (c .before .before .before .before .before .w0 .given .0 .0) (omega arith),
+      sym (c .before .before .field4 .ensures) ∙ ap (fieldReading _) (c .enum-told4 .given .1),
+    )
+
+wide-requires : tie.Need-wide-requires
+wide-requires c κs = search needs
+
+wide-requires-2 : tie.Need-wide-requires-2
+wide-requires-2 c κs = search needs
+
+read-table-requires : tie.Need-read-table-requires
+unfolding readBytes fileReader bodyReader
+read-table-requires c κs = omega (
+  arith,
+  c .before .before .before .before .before .before .before .before .before
+      .before .before .before .before .before .before .before .before .before .before .before .before .before .before
+      .before .before .pre,
+  c .before .wide .ensures .0,
+  c .wide2 .ensures .0,
+  field-lt (c .before .before .before .before
+      .before .before .before .before .before .before .before .before .before .before .before .before .before .before
+      .before .before .before .before .before .before .before .args .book .now) 8 _ _ _ (sym (c .before .before .before
+      .before .before .before .before .before .before .before .before .before .before .before .before .before .field2
+      .ensures) ∙ ap (fieldReading _) (c .before .before .before .before .before .before .before .before .before .before
+      .before .before .before .before .count .given .1)),
+  field-lt (c .before .before .before .before .before .before
+      .before .before .before .before .before .before .before .before .before .before .before .before .before .before
+      .before .before .before .before .before .args .book .now) 10 _ _ _ (sym (c .before .before .before .before .before
+      .before .field4 .ensures) ∙ ap (fieldReading _) (c .before .before .before .before .rules .given .1)),
+  field-end (c .before .before .before .before .before .before
+      .before .before .before .before .before .before .before .before .before .before .before .before .before .before
+      .before .before .before .before .before .args .book .now) 10 _ _ _ (sym (c .before .before .before .before .before
+      .before .field4 .ensures) ∙ ap (fieldReading _) (c .before .before .before .before .rules .given .1)),
+)
+
+same-length : tie.Need-same-length
+same-length c = search needs
+
+returns-9 : tie.Need-returns-9
+unfolding readBytes fileReader bodyReader
+returns-9 c =
+    rw (
+      le-leb (length (c .before .before .before .before .before .before .before .before .before .before .before .before
+          .before .before .before .before .before .before .before .before .before .before .before .before
+          .before .before
+          .before .before .args .book .now)) maxBytes (c .before .before .before .before .before .before .before .before
+          .before .before .before .before .before .before .before .before .before .before .before .before
+          .before .before
+          .before .before .before .if1 .left),
+      sym (c .before .before .before .before .before .before .before .before .before .before .before .before .before
+          .before .before .before .before .before .before .before .before .before .before .before .field .ensures) ∙ ap
+          (fieldReading _) (c .before .before .before .before .before .before .before .before .before .before .before
+          .before .before .before .before .before .before .before .before .before .before .before .form .given .1),
+      eq-eqb _ _ (c .before .before .before .before .before .before .before .before .before .before .before .before
+          .before .before .before .before .before .before .before .before .if2 .left),
+      sym (c .before .before .before .before .before .before .before .before .before .before .before .before .before
+          .before .before .before .before .before .before .field2 .ensures) ∙ ap (fieldReading _) (c .before
+          .before .before
+          .before .before .before .before .before .before .before .before .before .before .before .before
+          .before .before
+          .count .given .1),
+      lt-ltb 0 (c .before .before .before .before .before .before .before .before .before .before .before .before
+          .before .before .before .before .before .count .given .0 .0) (omega arith),
+      sym (c .before .before .before .before .before .before .before .before .before .before .before .before .before
+          .before .field3 .ensures) ∙ ap (fieldReading _) (c .before .before .before .before .before .before
+          .before .before
+          .before .before .before .before .w0 .given .1),
+      lt-ltb 0 (c .before .before .before .before .before .before .before .before .before .before .before .before .w0
+          .given .0 .0) (omega arith),
+      sym (c .before .before .before .before .before .before .before .before .before .field4 .ensures) ∙ ap
+          (fieldReading _) (c .before .before .before .before .before .before .before .rules .given .1),
+    ) (rw (c .before .before .before .before .wide .ensures .0, c .before .before .before .wide2 .ensures .0) at (c
+    .before .before .read-table .ensures))
+
+pub read-head-spec : {M : Type 1} → statement M
+read-head-spec =
+    tie.close
+    (tie.spec
+    returns
+    field-requires
+    enum-known-form
+    enum-told
+    returns-2
+    returns-3
+    field-requires-2
+    enum-known-count
+    enum-told-2
+    returns-4
+    returns-5
+    field-requires-3
+    enum-known-w0
+    enum-told-3
+    returns-6
+    returns-7
+    field-requires-4
+    enum-known-rules
+    enum-told-4
+    returns-8
+    wide-requires
+    wide-requires-2
+    read-table-requires
+    same-length
+    returns-9)

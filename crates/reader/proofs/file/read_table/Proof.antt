@@ -1,0 +1,43 @@
+use native.Mathlib.Omega.{arith}
+use borrow.Author.Needs.{needs}
+use Rattle.reader.proofs.FileLaws.{symbols-fault, head-read}
+use Rattle.reader.proofs.file.read_table.Statement.{statement}
+use Rattle.reader.proofs.file.read_table.Tie as tie
+
+read-symbols-requires : tie.Need-read-symbols-requires
+read-symbols-requires c κs = search needs
+
+enum-known-code : tie.Need-enum-known-code
+enum-known-code c = search needs
+
+enum-known-start : tie.Need-enum-known-start
+enum-known-start c = search needs
+
+same-length : tie.Need-same-length
+same-length c = search needs
+
+returns : tie.Need-returns
+returns c =
+    symbols-fault (c .before .before .before .before .before .before .before .before .before .args .book .now) (c .before .before .before .before .before .before .before .before .before .args .w0) (c .before .before .before .before .before .before .before .before .before .args .symbols) (c .before .before .before .before .before .before .before .before .before .args .rules) (c .before .before .before .before .before .before .before .before .before .args .cursor .at) _ _
+    (rw (c .before .code .given .1) at (c .before .before .before .before .before .read-symbols .ensures .0))
+
+same-length-2 : tie.Need-same-length-2
+same-length-2 c = search needs
+
+returns-2 : tie.Need-returns-2
+returns-2 c =
+    head-read (c .before .before .before .before .before .before .before .before .before .args .book .now) (c .before .before .before .before .before .before .before .before .before .args .w0) (c .before .before .before .before .before .before .before .before .before .args .symbols) (c .before .before .before .before .before .before .before .before .before .args .rules) (c .before .before .before .before .before .before .before .before .before .args .cursor .at) (c .before .before .before .before .before .read-symbols .last .1 .0) _
+    (rw (c .before .start .given .1) at (c .before .before .before .before .before .read-symbols .ensures .0)) (c .before .before .before .before .before .read-symbols .ensures .1)
+    (omega (arith, c .before .before .before .before .before .read-symbols .kept .1 .0)) (omega arith) (omega arith) (omega arith) (omega arith)
+
+pub read-table-spec : {M : Type 1} → statement M
+read-table-spec =
+    tie.close
+    (tie.spec
+    read-symbols-requires
+    enum-known-code
+    enum-known-start
+    same-length
+    returns
+    same-length-2
+    returns-2)

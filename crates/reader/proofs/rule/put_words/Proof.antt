@@ -1,0 +1,85 @@
+use mathlib.Core.Path.{_≡_, refl, ap, _∙_}
+use mathlib.Core.List.{List}
+use Prim.Native.Nat.{ℕ, _+_, _-_, _≤_}
+use native.Mathlib.Omega.{arith}
+use lib.ListN.{length, length-set, getD, set, take}
+use lib.Seq.{sets, take-all}
+use borrow.Author.Needs.{needs}
+use Rattle.reader.proofs.RuleLaws.{words-more}
+use Rattle.reader.proofs.rule.put_words.Statement.{statement}
+use Rattle.reader.proofs.rule.put_words.Tie as tie
+
+abbrev Inv-loop : tie.InvT-loop
+Inv-loop words₀ index nodes i₀ words i =
+    (i ≤ length nodes) × (length words ≡ length words₀) × (words ≡ sets words₀ index (take i nodes))
+
+abbrev μ-loop : tie.MeasureT-loop
+μ-loop words₀ index nodes i₀ words i = length nodes - i
+
+add-if1 : tie.Need-add-if1 Inv-loop μ-loop
+add-if1 c = search needs
+
+returns : tie.Need-returns Inv-loop μ-loop
+returns c = λ room. absurd (omega arith)
+
+loop-holds : tie.Need-loop-holds Inv-loop μ-loop
+loop-holds c = (omega arith, refl, refl)
+
+mul-words : tie.Need-mul-words Inv-loop μ-loop
+mul-words c = search needs
+
+shared-slice-read-words : tie.Need-shared-slice-read-words Inv-loop μ-loop
+shared-slice-read-words c = search needs
+
+add-words : tie.Need-add-words Inv-loop μ-loop
+add-words c = search needs
+
+mul-words-2 : tie.Need-mul-words-2 Inv-loop μ-loop
+mul-words-2 c = search needs
+
+slice-write-words : tie.Need-slice-write-words Inv-loop μ-loop
+slice-write-words c = search needs
+
+add-i : tie.Need-add-i Inv-loop μ-loop
+add-i c = search needs
+
+loop-less : tie.Need-loop-less Inv-loop μ-loop
+loop-less c = search needs
+
+loop-again : tie.Need-loop-again Inv-loop μ-loop
+loop-again c =
+    let v = c .before .before .loop .inv in (
+      omega arith,
+      simp length-set (v .1),
+      ap (λ (l : List ℕ). set l (c .before .before .before .before .args .index + c .before .before .loop .i) (getD (c .before .before .before .before .args .nodes .now) (c .before .before .loop .i) 0)) (v .2)
+          ∙ words-more (c .before .before .before .before .args .words .now) (c .before .before .before .before .args .nodes .now) (c .before .before .before .before .args .index) (c .before .before .loop .i) (omega arith),
+    )
+
+same-length : tie.Need-same-length Inv-loop μ-loop
+same-length c = c .before .loop .inv .1
+
+returns-2 : tie.Need-returns-2 Inv-loop μ-loop
+returns-2 c =
+    let v = c .before .loop .inv in
+    let all : take (c .before .loop .i) (c .before .before .before .args .nodes .now) ≡ c .before .before .before .args .nodes .now = take-all (c .before .loop .i) (c .before .before .before .args .nodes .now) (omega arith) in
+    λ room. v .2 ∙ ap (sets (c .before .before .before .args .words .now) (c .before .before .before .args .index)) all
+
+pub put-words-spec : {M : Type 1} → statement M
+put-words-spec =
+    tie.close
+    (tie.spec
+    Inv-loop
+    μ-loop
+    add-if1
+    returns
+    loop-holds
+    mul-words
+    shared-slice-read-words
+    add-words
+    mul-words-2
+    slice-write-words
+    add-i
+    loop-less
+    loop-again
+    same-length
+    returns-2)

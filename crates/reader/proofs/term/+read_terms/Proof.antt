@@ -1,0 +1,388 @@
+use mathlib.Core.Path.{refl, sym, _∙_}
+use Prim.Native.Nat.{_-_, _*_}
+use native.Mathlib.Omega.{arith}
+use lib.ListN.{length, length-set, getD}
+use borrow.Author.Needs.{needs}
+use Rattle.format.specs.Errors.{fieldMissing, noSuchSymbol}
+use Rattle.format.specs.Reading.{bitSource}
+use Rattle.format.proofs.FaultLaws.{node-within-got, node-within-fault, bits-node}
+use Rattle.format.proofs.ForestLaws.{node-fault}
+use Rattle.reader.proofs.TermLaws.{fewer-allowed, owed-fits, node-read, node-unknown, answers-none}
+use Rattle.reader.proofs.TermLaws.{answers-many, answers-fault, answers-before}
+use Prim.Native.Nat.{ℕ, _<_}
+use borrow.Fn.Kinds.{In}
+use borrow.Fn.PlainCycle.{Measures, is, falls, and}
+use Rattle.reader.proofs.term.read_terms.Reads as read-terms
+use Rattle.reader.proofs.term.read_terms.Kinds as read-terms-kinds
+use Rattle.reader.proofs.term.+read_terms.Lts-read_terms as read-terms-lts
+use Rattle.bits.proofs.BitCursor.node.Reads as node-reads
+use Rattle.reader.proofs.term.number.Reads as number-reads
+use Rattle.symbols.proofs.cell_at.Reads as cell-at-reads
+use Rattle.reader.proofs.term.+read_terms.{statement}
+use Rattle.reader.proofs.term.+read_terms.Tie.{close}
+
+abbrev μ-read-terms : Measures 4 read-terms-kinds.ps ℕ
+μ-read-terms κs a = 128 - a .1 .1 .1 .0
+
+abbrev read-terms-at : ℕ → In 4 read-terms-kinds.ps
+read-terms-at t =
+    and 4 read-terms-kinds.ps (is 4 read-terms-kinds.ps μ-read-terms t) read-terms.Pre
+
+abbrev read-terms-below : ℕ → In 4 read-terms-kinds.ps
+read-terms-below t =
+    and 4 read-terms-kinds.ps (falls 4 read-terms-kinds.ps _<_ μ-read-terms t) read-terms.Pre
+
+read-terms-number-requires : (t : ℕ) → read-terms-lts.Need-number-requires (
+  number-reads.Asked,
+  number-reads.Learnt,
+  node-reads.Asked,
+  node-reads.Learnt,
+  cell-at-reads.Asked,
+  cell-at-reads.Learnt,
+  read-terms-below t,
+  read-terms.Post,
+) (read-terms-at t) read-terms.Post
+read-terms-number-requires t c κs = omega arith
+
+read-terms-returns : (t : ℕ) → read-terms-lts.Need-returns (
+  number-reads.Asked,
+  number-reads.Learnt,
+  node-reads.Asked,
+  node-reads.Learnt,
+  cell-at-reads.Asked,
+  cell-at-reads.Learnt,
+  read-terms-below t,
+  read-terms.Post,
+) (read-terms-at t) read-terms.Post
+read-terms-returns t c =
+    let a = c .before .before .args in (
+      λ σ k. answers-none (bitSource (a .book .now .now)) σ (a .count) (a .owed) (a .cursor .at) (a .words .now) _ _
+          (c .before .if1 .taken) (omega arith) (c .number .ensures) refl,
+      (omega (arith, c .number .ensures), c .before .before .pre .1 .1 .2),
+    )
+
+read-terms-number-requires-2 : (t : ℕ) → read-terms-lts.Need-number-requires-2 (
+  number-reads.Asked,
+  number-reads.Learnt,
+  node-reads.Asked,
+  node-reads.Learnt,
+  cell-at-reads.Asked,
+  cell-at-reads.Learnt,
+  read-terms-below t,
+  read-terms.Post,
+) (read-terms-at t) read-terms.Post
+read-terms-number-requires-2 t c κs = omega arith
+
+read-terms-returns-2 : (t : ℕ) → read-terms-lts.Need-returns-2 (
+  number-reads.Asked,
+  number-reads.Learnt,
+  node-reads.Asked,
+  node-reads.Learnt,
+  cell-at-reads.Asked,
+  cell-at-reads.Learnt,
+  read-terms-below t,
+  read-terms.Post,
+) (read-terms-at t) read-terms.Post
+read-terms-returns-2 t c =
+    let a = c .before .before .before .args in (
+      λ σ k. answers-many (bitSource (a .book .now .now)) σ (a .count) (a .owed) (a .cursor .at) (a .words .now) _ _
+          (omega arith) (c .before .if2 .taken) (c .number2 .ensures),
+      (omega (arith, c .number2 .ensures), c .before .before .before .pre .1 .1 .2),
+    )
+
+read-terms-node-requires : (t : ℕ) → read-terms-lts.Need-node-requires (
+  number-reads.Asked,
+  number-reads.Learnt,
+  node-reads.Asked,
+  node-reads.Learnt,
+  cell-at-reads.Asked,
+  cell-at-reads.Learnt,
+  read-terms-below t,
+  read-terms.Post,
+) (read-terms-at t) read-terms.Post
+read-terms-node-requires t c κs = omega arith
+
+read-terms-enum-known-offset : (t : ℕ) → read-terms-lts.Need-enum-known-offset (
+  number-reads.Asked,
+  number-reads.Learnt,
+  node-reads.Asked,
+  node-reads.Learnt,
+  cell-at-reads.Asked,
+  cell-at-reads.Learnt,
+  read-terms-below t,
+  read-terms.Post,
+) (read-terms-at t) read-terms.Post
+read-terms-enum-known-offset t c = search needs
+
+read-terms-number-requires-3 : (t : ℕ) → read-terms-lts.Need-number-requires-3 (
+  number-reads.Asked,
+  number-reads.Learnt,
+  node-reads.Asked,
+  node-reads.Learnt,
+  cell-at-reads.Asked,
+  cell-at-reads.Learnt,
+  read-terms-below t,
+  read-terms.Post,
+) (read-terms-at t) read-terms.Post
+read-terms-number-requires-3 t c κs =
+    let a = c .before .before .before .before .before .before .before .args in
+    let limit = 8 * length (a .book .now .now) in
+    let node = sym (rw (c .before .offset .given .1) at (c .before .before .before .node .ensures .0)) in
+    let end = node-within-fault limit _ _ _ (bits-node (a .book .now .now) (a .cursor .at) (c .before .before .before .before .before .before .before .pre .1 .0 .1)) node in
+    omega (arith, end)
+
+read-terms-enum-known-word : (t : ℕ) → read-terms-lts.Need-enum-known-word (
+  number-reads.Asked,
+  number-reads.Learnt,
+  node-reads.Asked,
+  node-reads.Learnt,
+  cell-at-reads.Asked,
+  cell-at-reads.Learnt,
+  read-terms-below t,
+  read-terms.Post,
+) (read-terms-at t) read-terms.Post
+read-terms-enum-known-word t c = search needs
+
+read-terms-mul-words : (t : ℕ) → read-terms-lts.Need-mul-words (
+  number-reads.Asked,
+  number-reads.Learnt,
+  node-reads.Asked,
+  node-reads.Learnt,
+  cell-at-reads.Asked,
+  cell-at-reads.Learnt,
+  read-terms-below t,
+  read-terms.Post,
+) (read-terms-at t) read-terms.Post
+read-terms-mul-words t c = search needs
+
+read-terms-element-write-words : (t : ℕ) → read-terms-lts.Need-element-write-words (
+  number-reads.Asked,
+  number-reads.Learnt,
+  node-reads.Asked,
+  node-reads.Learnt,
+  cell-at-reads.Asked,
+  cell-at-reads.Learnt,
+  read-terms-below t,
+  read-terms.Post,
+) (read-terms-at t) read-terms.Post
+read-terms-element-write-words t c = search needs
+
+read-terms-cell-at-requires : (t : ℕ) → read-terms-lts.Need-cell-at-requires (
+  number-reads.Asked,
+  number-reads.Learnt,
+  node-reads.Asked,
+  node-reads.Learnt,
+  cell-at-reads.Asked,
+  cell-at-reads.Learnt,
+  read-terms-below t,
+  read-terms.Post,
+) (read-terms-at t) read-terms.Post
+read-terms-cell-at-requires t c κs = rw (c .before .word .given .1) at (c .before .before .before .node .ensures .1)
+
+read-terms-add-number : (t : ℕ) → read-terms-lts.Need-add-number (
+  number-reads.Asked,
+  number-reads.Learnt,
+  node-reads.Asked,
+  node-reads.Learnt,
+  cell-at-reads.Asked,
+  cell-at-reads.Learnt,
+  read-terms-below t,
+  read-terms.Post,
+) (read-terms-at t) read-terms.Post
+read-terms-add-number t c = search needs
+
+read-terms-number-requires-4 : (t : ℕ) → read-terms-lts.Need-number-requires-4 (
+  number-reads.Asked,
+  number-reads.Learnt,
+  node-reads.Asked,
+  node-reads.Learnt,
+  cell-at-reads.Asked,
+  cell-at-reads.Learnt,
+  read-terms-below t,
+  read-terms.Post,
+) (read-terms-at t) read-terms.Post
+read-terms-number-requires-4 t c κs =
+    let a = c .before .before .before .before .before .before .before .before .before .before .args in
+    let limit = 8 * length (a .book .now .now) in
+    let node = sym (rw (c .before .before .before .before .word .given .1) at (c .before .before .before .before .before .before .node .ensures .0)) in
+    let end = node-within-got limit _ _ _ (bits-node (a .book .now .now) (a .cursor .at) (c .before .before .before .before .before .before .before .before .before .before .pre .1 .0 .1)) node in
+    omega (arith, end .0)
+
+read-terms-returns-3 : (t : ℕ) → read-terms-lts.Need-returns-3 (
+  number-reads.Asked,
+  number-reads.Learnt,
+  node-reads.Asked,
+  node-reads.Learnt,
+  cell-at-reads.Asked,
+  cell-at-reads.Learnt,
+  read-terms-below t,
+  read-terms.Post,
+) (read-terms-at t) read-terms.Post
+read-terms-returns-3 t c =
+    let a = c .before .before .before .before .before .before .before .before .before .before .before .args in
+    let limit = 8 * length (a .book .now .now) in
+    let node = sym (rw (c .before .before .before .before .before .word .given .1) at (c .before .before .before .before .before .before .before .node .ensures .0)) in
+    let end = node-within-got limit _ _ _ (bits-node (a .book .now .now) (a .cursor .at) (c .before .before .before .before .before .before .before .before .before .before .before .pre .1 .0 .1)) node in
+    let source = bitSource (a .book .now .now) in
+    let fits = rw (c .before .before .before .before .before .word .given .1) at (c .before .before .before .before .before .before .before .node .ensures .1) in (
+      λ σ k. answers-fault source σ (a .count) (a .owed) (a .cursor .at) (a .words .now) _ _ noSuchSymbol _
+          (node-unknown source σ (a .arities .now) k (128 - a .count) (a .owed) (a .cursor .at) (omega arith) (omega arith) _ _ node fits
+          (sym (c .before .before .before .cell-at .ensures .0) ∙ c .before .before .if3 .taken))
+          (omega arith) (omega arith) (c .number4 .ensures),
+      (omega (arith, c .number4 .ensures, end .0), simp length-set (c .before .before .before .before .before .before .before .before .before .before .before .pre .1 .1 .2)),
+    )
+
+read-terms-add-read-terms : (t : ℕ) → read-terms-lts.Need-add-read-terms (
+  number-reads.Asked,
+  number-reads.Learnt,
+  node-reads.Asked,
+  node-reads.Learnt,
+  cell-at-reads.Asked,
+  cell-at-reads.Learnt,
+  read-terms-below t,
+  read-terms.Post,
+) (read-terms-at t) read-terms.Post
+read-terms-add-read-terms t c = search needs
+
+read-terms-sub-read-terms : (t : ℕ) → read-terms-lts.Need-sub-read-terms (
+  number-reads.Asked,
+  number-reads.Learnt,
+  node-reads.Asked,
+  node-reads.Learnt,
+  cell-at-reads.Asked,
+  cell-at-reads.Learnt,
+  read-terms-below t,
+  read-terms.Post,
+) (read-terms-at t) read-terms.Post
+read-terms-sub-read-terms t c = search needs
+
+read-terms-sub-read-terms-2 : (t : ℕ) → read-terms-lts.Need-sub-read-terms-2 (
+  number-reads.Asked,
+  number-reads.Learnt,
+  node-reads.Asked,
+  node-reads.Learnt,
+  cell-at-reads.Asked,
+  cell-at-reads.Learnt,
+  read-terms-below t,
+  read-terms.Post,
+) (read-terms-at t) read-terms.Post
+read-terms-sub-read-terms-2 t c = search needs
+
+read-terms-add-read-terms-2 : (t : ℕ) → read-terms-lts.Need-add-read-terms-2 (
+  number-reads.Asked,
+  number-reads.Learnt,
+  node-reads.Asked,
+  node-reads.Learnt,
+  cell-at-reads.Asked,
+  cell-at-reads.Learnt,
+  read-terms-below t,
+  read-terms.Post,
+) (read-terms-at t) read-terms.Post
+read-terms-add-read-terms-2 t c =
+    omega (
+      arith,
+      owed-fits (c .before .before .cell-at .result) (c .before .before .before .before .before .before .before .before .before .before .args .owed) (c .before .before .before .before .before .before .before .before .before .before .args .count) (omega arith) (c .before .before .cell-at .ensures .1)
+          (omega arith) (omega arith) (c .before .before .before .before .before .before .before .before .before .before .pre .1 .1 .1) .0,
+    )
+
+read-terms-read-terms-requires : (t : ℕ) → read-terms-lts.Need-read-terms-requires (
+  number-reads.Asked,
+  number-reads.Learnt,
+  node-reads.Asked,
+  node-reads.Learnt,
+  cell-at-reads.Asked,
+  cell-at-reads.Learnt,
+  read-terms-below t,
+  read-terms.Post,
+) (read-terms-at t) read-terms.Post
+read-terms-read-terms-requires t c κs =
+    let a = c .before .before .before .before .before .before .before .before .before .before .args in
+    let limit = 8 * length (a .book .now .now) in
+    let node = sym (rw (c .before .before .before .before .word .given .1) at (c .before .before .before .before .before .before .node .ensures .0)) in
+    let end = node-within-got limit _ _ _ (bits-node (a .book .now .now) (a .cursor .at) (c .before .before .before .before .before .before .before .before .before .before .pre .1 .0 .1)) node in
+    let fits = owed-fits (c .before .before .cell-at .result) (c .before .before .before .before .before .before .before .before .before .before .args .owed) (c .before .before .before .before .before .before .before .before .before .before .args .count) (omega arith) (c .before .before .cell-at .ensures .1)
+    (omega arith) (omega arith) (c .before .before .before .before .before .before .before .before .before .before .pre .1 .1 .1) .1 in
+    let fewer = fewer-allowed (a .count) t (c .before .before .before .before .before .before .before .before .before .before .pre .1 .1 .0) (c .before .before .before .before .before .before .before .before .if2 .left) (c .before .before .before .before .before .before .before .before .before .before .pre .0) in
+    (fewer .0, ((c .before .before .before .before .before .before .before .before .before .before .pre .1 .0 .0, end .1), (fewer .1, fits, simp length-set (c .before .before .before .before .before .before .before .before .before .before .pre .1 .1 .2))))
+
+read-terms-returns-4 : (t : ℕ) → read-terms-lts.Need-returns-4 (
+  number-reads.Asked,
+  number-reads.Learnt,
+  node-reads.Asked,
+  node-reads.Learnt,
+  cell-at-reads.Asked,
+  cell-at-reads.Learnt,
+  read-terms-below t,
+  read-terms.Post,
+) (read-terms-at t) read-terms.Post
+read-terms-returns-4 t c =
+    let a = c .before .before .before .before .before .before .before .before .args in
+    let limit = 8 * length (a .book .now .now) in
+    let node = sym (rw (c .before .before .offset .given .1) at (c .before .before .before .before .node .ensures .0)) in
+    let end = node-within-fault limit _ _ _ (bits-node (a .book .now .now) (a .cursor .at) (c .before .before .before .before .before .before .before .before .pre .1 .0 .1)) node in
+    let source = bitSource (a .book .now .now) in (
+      λ σ k. answers-fault source σ (a .count) (a .owed) (a .cursor .at) (a .words .now) _ _ fieldMissing _
+          (node-fault source σ (128 - a .count) (a .owed) (a .cursor .at) (omega arith) (omega arith) _ _ node)
+          (omega arith) (omega arith) (c .number3 .ensures),
+      (omega (arith, c .number3 .ensures, end), c .before .before .before .before .before .before .before .before .pre .1 .1 .2),
+    )
+
+read-terms-returns-5 : (t : ℕ) → read-terms-lts.Need-returns-5 (
+  number-reads.Asked,
+  number-reads.Learnt,
+  node-reads.Asked,
+  node-reads.Learnt,
+  cell-at-reads.Asked,
+  cell-at-reads.Learnt,
+  read-terms-below t,
+  read-terms.Post,
+) (read-terms-at t) read-terms.Post
+read-terms-returns-5 t c =
+    let a = c .before .before .before .before .before .before .before .before .before .before .before .args in
+    let limit = 8 * length (a .book .now .now) in
+    let node = sym (rw (c .before .before .before .before .before .word .given .1) at (c .before .before .before .before .before .before .before .node .ensures .0)) in
+    let end = node-within-got limit _ _ _ (bits-node (a .book .now .now) (a .cursor .at) (c .before .before .before .before .before .before .before .before .before .before .before .pre .1 .0 .1)) node in
+    let source = bitSource (a .book .now .now) in
+    let fits = rw (c .before .before .before .before .before .word .given .1) at (c .before .before .before .before .before .before .before .node .ensures .1) in
+    let some : 0 < getD (a .arities .now) (c .before .before .before .before .before .word .given .0 .0) 0 = omega (arith, c .before .before .before .cell-at .ensures .0) in (
+      λ σ k. answers-before source σ (a .count) (a .owed) (a .cursor .at) (a .words .now) _ _ _ _ _
+          (node-read source σ (a .arities .now) k (128 - a .count) (a .owed) (a .cursor .at) (omega arith) (omega arith) _ _ node fits
+          some)
+          (rw (c .before .before .before .cell-at .ensures .0) at (c .read-terms .ensures .0 σ k)),
+      c .read-terms .ensures .1,
+    )
+
+pub +read-terms-spec : {M : Type 1} → statement M
++read-terms-spec = close μ-read-terms λ t. read-terms-lts.spec (
+  number-reads.Asked,
+  number-reads.Learnt,
+  node-reads.Asked,
+  node-reads.Learnt,
+  cell-at-reads.Asked,
+  cell-at-reads.Learnt,
+  read-terms-below t,
+  read-terms.Post,
+)
+    (read-terms-at t)
+    read-terms.Post
+    (read-terms-number-requires t)
+    (read-terms-returns t)
+    (read-terms-number-requires-2 t)
+    (read-terms-returns-2 t)
+    (read-terms-node-requires t)
+    (read-terms-enum-known-offset t)
+    (read-terms-number-requires-3 t)
+    (read-terms-enum-known-word t)
+    (read-terms-mul-words t)
+    (read-terms-element-write-words t)
+    (read-terms-cell-at-requires t)
+    (read-terms-add-number t)
+    (read-terms-number-requires-4 t)
+    (read-terms-returns-3 t)
+    (read-terms-add-read-terms t)
+    (read-terms-sub-read-terms t)
+    (read-terms-sub-read-terms-2 t)
+    (read-terms-add-read-terms-2 t)
+    (read-terms-read-terms-requires t)
+    (read-terms-returns-4 t)
+    (read-terms-returns-5 t)

@@ -3,6 +3,7 @@
 --     symbols-more         one symbol more
 --     stored-file          the words of a file, stored in three parts
 --     decode-fault, decode-short, decode-written   the reply and the words afterwards
+--     symbol-count, word-count, nodes-few, nodes-front   a file whose nodes were stored elsewhere
 use mathlib.Core.Path.{_≡_, refl, sym, ap, _∙_}
 use mathlib.Core.List.{List, [], _∷_, _++_, map}
 use Prim.Native.Nat.{ℕ, suc, _+_, _-_, _*_, _≤_, _<_}
@@ -12,10 +13,10 @@ use native.Mathlib.Omega.{arith}
 use native.Mathlib.Nat.{zero-add}
 use borrow.Author.Tests.{lt-leb, le-leb}
 use lib.ListN.{length, take, drop, set}
-use lib.Seq.{sets, sets-eq, take-suc, length-take-le}
+use lib.Seq.{sets, sets-eq, take-suc, take-append-seam, length-take-le}
 use Rattle.terms.specs.Signature.{Symbol, Signature, symbolOf}
 use Rattle.format.specs.Errors.{wordsTooShort}
-use Rattle.format.specs.Layout.{formNumber}
+use Rattle.format.specs.Layout.{formNumber, maxBytes}
 use Rattle.format.specs.Reading.Reading.{got, fault}
 use Rattle.format.specs.Format.{Sides, RuleFile}
 use Rattle.format.specs.Files.{readBytes}
@@ -23,9 +24,11 @@ use Rattle.format.specs.Packing.{itemWord, symbolItems, unpacked}
 use Rattle.format.specs.Replies.Reply.{accepted, refused}
 use Rattle.format.specs.Operations.{decoded}
 use Rattle.reader.specs.Rule.{rulesWords}
-use Rattle.reader.specs.File.{symbolsWords}
+use Rattle.symbols.specs.Table.{signatureOf}
+use Rattle.reader.specs.File.{symbolsWords, FileParts}
 use Rattle.reader.proofs.TermLaws.{sets-append}
-use Rattle.reader.proofs.FileLaws.{length-symbolsWords, unpacked-parts}
+use Rattle.reader.proofs.FileLaws.{length-symbolsWords, unpacked-parts, unpacked-length}
+use Rattle.decoder.proofs.NodesLaws.{nodes-fit}
 
 pub stored-four : (l l₁ l₂ l₃ l₄ : List ℕ) (i a b c d : ℕ) → l₁ ≡ set l i a → l₂ ≡ set l₁ (i + 1) b →
     l₃ ≡ set l₂ (i + 2) c → l₄ ≡ set l₃ (i + 3) d → l₄ ≡ sets l i (a ∷ b ∷ c ∷ d ∷ [])
@@ -100,3 +103,29 @@ module _ (bytes words : List ℕ) where
         let front : sets words 0 (unpacked file) ≡ unpacked file ++ drop (length (unpacked file)) words =
         sets-eq (unpacked file) words 0 (omega arith) ∙ rw zero-add in
         (rw (e, fits), rw (e, fits) front)
+
+-- ---- a file whose nodes were stored elsewhere
+
+module _ (bytes table before after : List ℕ) (file : RuleFile) (symbols rules nodes offset : ℕ)
+    (parts : FileParts bytes table before after file symbols rules nodes offset) where
+  pub symbol-count : symbols ≡ length (signatureOf (take (1 + 4 * symbols) table) .symbols)
+  symbol-count = parts .head .symbolCount
+
+  pub word-count : 4 + 4 * symbols + nodes ≡ length (unpacked file)
+  word-count =
+      let k : symbols ≡ length (file .signature .symbols) =
+      symbol-count ∙ ap (λ (σ : Signature). length (σ .symbols)) (parts .signature) in
+      omega (arith, k, parts .nodeCount, unpacked-length file)
+
+  module _ (room : length bytes ≤ maxBytes → 8 * length bytes ≤ 5 * length before) where
+    pub nodes-few : nodes ≤ length before
+    nodes-few =
+        rw (parts .nodeCount)
+        (nodes-fit bytes (file .signature) rules offset (file .rules) (parts .end) (length before) (parts .rulesRead)
+        (parts .head .within) (room (parts .head .short)))
+
+    pub nodes-front : take nodes after ≡ rulesWords (file .rules)
+    nodes-front =
+        let l = rulesWords (file .rules) in
+        rw (parts .stored nodes-few, parts .nodeCount, sets-eq l before 0 (omega (arith, nodes-few, parts .nodeCount)))
+        (take-append-seam l (drop (0 + length l) before))

@@ -1,20 +1,19 @@
--- The words of terms are those of the nodes that stand one after the other.
---     nodes-append               nodes after nodes
---     forest-nodes, rules-nodes  the nodes of terms and of rules
---     nodes-step, nodes-missing  the first of some nodes
---     RestRead                   what a loop has yet to store; rest-all, rest-none, rest-missing, rest-more
+-- How many nodes the rules of a packed file have at most.
+--     NodesRead, forest-nodes, rules-nodes  the nodes of terms and of rules stand one after the other
+--     node-long, nodes-fit                  a node takes five bits or more, so they are few
 use mathlib.Core.Path.{_≡_, refl, sym, ap, _∙_}
 use mathlib.Core.List.{List, [], _∷_, _++_}
-use Prim.Native.Nat.{ℕ, suc, zero, _+_, _-_, _≤_, _<_}
+use mathlib.Core.Bool.{cond}
+use Prim.Native.Nat.{ℕ, suc, zero, _+_, _-_, _*_, _≤_}
 use native.Mathlib.Omega.{arith}
-use native.Mathlib.Numerals.{add-one}
-use lib.ListN.{length, set}
-use lib.Seq.{sets}
-use Rattle.multisets.proofs.Relations.{byOrder}
+use lib.ListN.{length}
+use lib.Dec.{eqb}
+use Rattle.multisets.proofs.Relations.{byTest, byOrder}
+use Rattle.format.proofs.FaultLaws.{within-got, rules-within, bits-bounded}
 use Rattle.terms.specs.Signature.{Signature, symbolOf}
 use Rattle.terms.specs.Words.{firstVariable}
-use Rattle.format.specs.Layout.{maxNodes}
-use Rattle.format.specs.Reading.{Reading, andThen, Node, Source}
+use Rattle.format.specs.Layout.{tagWidth, symbolWidth, variableWidth, maxNodes}
+use Rattle.format.specs.Reading.{Reading, andThen, give, Node, Source, bitField, bitSource}
 use Rattle.format.specs.Reading.Reading.{got, fault}
 use Rattle.format.specs.Format.{Sides, forestReader, rulesReader}
 use Rattle.format.proofs.ForestLaws.{
@@ -27,14 +26,19 @@ use Rattle.format.proofs.ForestLaws.{
   symbol-read,
 }
 use Rattle.reader.specs.Rule.{ruleReader, sideWords, rulesWords}
-use Rattle.decoder.specs.Decode.{NodesRead}
-use Rattle.decoder.specs.Decode.NodesRead.{none, more}
+use Rattle.bits.proofs.NodeLaws.{field-next}
 use Rattle.reader.proofs.RuleLaws.{rules-step}
 
-pub nodes-append : {source : Source} {at middle end : ℕ} {xs ys : List ℕ} → NodesRead source at xs middle →
+-- The words of nodes that stand one after the other from an offset to an offset, whatever terms they make.
+data NodesRead (source : Source) : ℕ → List ℕ → ℕ → Type 0 where
+  none : {at : ℕ} → NodesRead source at [] at
+  more : {at next end : ℕ} {v : Node} {words : List ℕ} → source .node at ≡ got v next →
+      NodesRead source next words end → NodesRead source at (v .word ∷ words) end
+
+nodes-append : {source : Source} {at middle end : ℕ} {xs ys : List ℕ} → NodesRead source at xs middle →
     NodesRead source middle ys end → NodesRead source at (xs ++ ys) end
-nodes-append none r = r
-nodes-append (more e l) r = more e (nodes-append l r)
+nodes-append NodesRead.none r = r
+nodes-append (NodesRead.more e l) r = NodesRead.more e (nodes-append l r)
 
 nodes-same : {source : Source} {at m n : ℕ} {xs ys : List ℕ} → xs ≡ ys → m ≡ n → NodesRead source at ys n → NodesRead
     source at xs m
@@ -59,14 +63,14 @@ module _ (source : Source) (σ : Signature) where
       NodesRead source at xs end
   after-node at v next node r xs end rest e =
       let (ys, read, all) = before-got (v .word) r xs end e in
-      rw all (more node (rest ys read))
+      rw all (NodesRead.more node (rest ys read))
 
   nothing-read : (at : ℕ) (xs : List ℕ) (end : ℕ) → _≡_ {A = Reading (List ℕ)} (got [] at) (got xs end) →
       NodesRead source at xs end
   nothing-read at xs end e =
       let p : xs ≡ [] = cc in
       let q : end ≡ at = cc in
-      rw (p, q) none
+      rw (p, q) NodesRead.none
 
   fault-read : {A : Type 0} (at code offset : ℕ) (xs : List ℕ) (end : ℕ) → _≡_ {A = Reading (List ℕ)} (fault code
       offset) (got xs end) → A
@@ -93,7 +97,7 @@ module _ (source : Source) (σ : Signature) where
       after-node at v next node (forestReader source σ a (suc n - 1) next) xs end (rest (suc n - 1) next)
       (sym (rw one at (variable-read source σ (suc a) (suc n) at (omega arith) (omega arith) v next node h)) ∙ e)
 
-  pub forest-nodes : (a n at : ℕ) (xs : List ℕ) (end : ℕ) → forestReader source σ a n at ≡ got xs end →
+  forest-nodes : (a n at : ℕ) (xs : List ℕ) (end : ℕ) → forestReader source σ a n at ≡ got xs end →
       NodesRead source at xs end
   forest-nodes zero zero at xs end e = nothing-read at xs end (sym (nothing-owed source σ zero at) ∙ e)
   forest-nodes zero (suc n) at xs end e = fault-read at _ _ xs end (sym (none-allowed source σ (suc n) at (omega arith))
@@ -115,13 +119,13 @@ module _ (source : Source) (σ : Signature) where
       nodes-same (ap sideWords p) q (nodes-append (forest-nodes maxNodes 1 at left middle e₁) (forest-nodes maxNodes 1
       middle right end e₂))
 
-  pub rules-nodes : (n at : ℕ) (rs : List Sides) (end : ℕ) → rulesReader source σ n at ≡ got rs end →
+  rules-nodes : (n at : ℕ) (rs : List Sides) (end : ℕ) → rulesReader source σ n at ≡ got rs end →
       NodesRead source at (rulesWords rs) end
   unfolding rulesReader
   rules-nodes zero at rs end e =
       let p : rs ≡ [] = cc in
       let q : end ≡ at = cc in
-      rw (p, q) none
+      rw (p, q) NodesRead.none
   rules-nodes (suc n) at rs end e =
       let (r, next, e₁, f) = andThen-got (ruleReader source σ at) _ rs end (sym (rules-step source σ n at) ∙ e) in
       let (rest, last, e₂, g) = andThen-got (rulesReader source σ n next) _ rs end f in
@@ -129,57 +133,37 @@ module _ (source : Source) (σ : Signature) where
       let q : end ≡ last = cc in
       nodes-same (ap rulesWords p) q (nodes-append (rule-nodes at r next e₁) (rules-nodes n next rest last e₂))
 
--- ---- the first node
+-- ---- how many there are
 
-pub nodes-step : {source : Source} {at end : ℕ} {xs : List ℕ} → NodesRead source at xs end → 0 < length xs →
-    (v : Node) (next : ℕ) → source .node at ≡ got v next →
-    (ys : List ℕ) × NodesRead source next ys end × (xs ≡ v .word ∷ ys)
-nodes-step none h v next e = absurd (omega arith)
-nodes-step {source} {end = end} (more {next = middle} {v = w} {words = ys} f r) h v next e =
-    let p : next ≡ middle = cc in
-    let q : v ≡ w = cc in
-    (ys, rw p r, rw q)
+number-long : (bytes : List ℕ) (width at : ℕ) (f : ℕ → Node) (v : Node) (end : ℕ) →
+    andThen (bitField bytes width at) (λ number. give (f number)) ≡ got v end → end ≡ at + width
+number-long bytes width at f v end e =
+    let (number, last, read, all) = andThen-got (bitField bytes width at) (λ n. give (f n)) v end e in
+    let same : end ≡ last = cc in
+    same ∙ field-next bytes width at number last read
 
-pub nodes-missing : {source : Source} {at end : ℕ} {xs : List ℕ} → NodesRead source at xs end → 0 < length xs →
-    (code offset : ℕ) → source .node at ≡ fault code offset → ⊥
-nodes-missing none h code offset e = absurd (omega arith)
-nodes-missing (more f r) h code offset e = let z : _≡_ {A = ℕ} 0 1 = cc in omega arith
+-- A node takes five bits or more.
+node-long : (bytes : List ℕ) (at : ℕ) (v : Node) (next : ℕ) → bitSource bytes .node at ≡ got v next → at + 5 ≤ next
+node-long bytes at v next e =
+    let (tag, middle, read, rest) = andThen-got (bitField bytes tagWidth at) _ v next e in
+    let width = cond (eqb tag 0) symbolWidth variableWidth in
+    let wide : variableWidth ≤ width = byTest (eqb tag 0) (λ t. rw t (omega arith)) λ t. rw t (omega arith) in
+    omega (arith, wide, field-next bytes tagWidth at tag middle read, number-long bytes width middle _ v next rest)
 
--- ---- storing them
+nodes-long : (bytes : List ℕ) {at end : ℕ} {xs : List ℕ} → NodesRead (bitSource bytes) at xs end →
+    at + 5 * length xs ≤ end
+nodes-long bytes NodesRead.none = omega arith
+nodes-long bytes {at} (NodesRead.more {next = middle} {v = v} node rest) =
+    omega (arith, node-long bytes at v middle node, nodes-long bytes rest)
 
--- What a loop that stores nodes has yet to read: the rest, stored from a place on, makes the whole.
-abbrev pub RestRead : Source → ℕ → ℕ → ℕ → ℕ → ℕ → List ℕ → List ℕ → Type 0
-RestRead source start at index place end words₀ words =
-    (nodes : List ℕ) (last : ℕ) → NodesRead source start nodes last → index + length nodes ≡ end →
-    (rest : List ℕ) × NodesRead source at rest last × (place + length rest ≡ end) × (sets words place rest ≡ sets words₀
-    index nodes)
-
-sets-none : (words : List ℕ) (place : ℕ) (rest all : List ℕ) → length rest ≡ 0 → sets words place rest ≡ all → words ≡
-    all
-sets-none words place [] all z e = e
-sets-none words place (w ∷ rest) all z e = absurd (omega arith)
-
-module _ (source : Source) (start index end : ℕ) (words₀ : List ℕ) where
-  pub rest-all : RestRead source start start index index end words₀ words₀
-  rest-all nodes last r h = (nodes, r, h, refl)
-
-  module _ (at place : ℕ) (words : List ℕ) (so : RestRead source start at index place end words₀ words) where
-    pub rest-none : end ≤ place → (nodes : List ℕ) (last : ℕ) → NodesRead source start nodes last →
-        index + length nodes ≡ end → words ≡ sets words₀ index nodes
-    rest-none h nodes last r e =
-        let (rest, read, long, stored) = so nodes last r e in
-        sets-none words place rest (sets words₀ index nodes) (omega arith) stored
-
-    module _ (h : place < end) where
-      pub rest-missing : (code offset : ℕ) → source .node at ≡ fault code offset → (nodes : List ℕ) (last : ℕ) →
-          NodesRead source start nodes last → index + length nodes ≡ end → words ≡ sets words₀ index nodes
-      rest-missing code offset missing nodes last r e =
-          let (rest, read, long, stored) = so nodes last r e in
-          absurd (nodes-missing read (omega arith) code offset missing)
-
-      pub rest-more : (v : Node) (next : ℕ) → source .node at ≡ got v next →
-          RestRead source start next index (place + 1) end words₀ (set words place (v .word))
-      rest-more v next node nodes last r e =
-          let (rest, read, long, stored) = so nodes last r e in
-          let (ys, more-read, all) = nodes-step read (omega arith) v next node in
-          (ys, more-read, omega (arith, ap length all), rw (add-one place) (rw all at stored))
+-- The words of the rules of a file are few, for all its bits.
+pub nodes-fit : (bytes : List ℕ) (σ : Signature) (n at : ℕ) (rs : List Sides) (end room : ℕ) →
+    rulesReader (bitSource bytes) σ n at ≡ got rs end → at ≤ 8 * length bytes → 8 * length bytes ≤ 5 * room →
+    length (rulesWords rs) ≤ room
+nodes-fit bytes σ n at rs end room e h few =
+    omega (
+      arith,
+      nodes-long bytes (rules-nodes (bitSource bytes) σ n at rs end e),
+      within-got (8 * length bytes) (rulesReader (bitSource bytes) σ n at) rs end
+          (rules-within (8 * length bytes) (bitSource bytes) (bits-bounded bytes) σ n at h) e,
+    )

@@ -2,25 +2,22 @@
 ghost use mathlib.Core.Path.{_≡_};
 ghost use mathlib.Core.List.{List, map};
 ghost use mathlib.Core.Bool.{cond};
-ghost use Prim.Native.Nat.{ℕ, _+_, _*_, _≤_, _<_};
-ghost use lib.ListN.{length};
+ghost use Prim.Native.Nat.{_+_, _*_, _≤_, _<_};
+ghost use lib.ListN.{length, set};
 ghost use lib.Seq.{sets};
 ghost use Rattle.terms.specs.Signature.{symbolOf};
 ghost use Rattle.format.specs.Layout.{maxBytes};
-ghost use Rattle.format.specs.Reading.{bitSource};
-ghost use Rattle.format.specs.Reading.Reading.{got};
-ghost use Rattle.format.specs.Format.{Sides, rulesReader};
+ghost use Rattle.format.specs.Format.{Sides};
 ghost use Rattle.format.specs.Packing.{itemWord, symbolItems, unpacked};
 ghost use Rattle.format.specs.Operations.{decoded};
 ghost use Rattle.symbols.specs.Table.{signatureOf};
-ghost use Rattle.decoder.specs.Decode.{replyOf, NodesRead};
+ghost use Rattle.reader.specs.Rule.{rulesWords};
 ghost use Rattle.reader.specs.File.{symbolsWords};
-use bits::BitCursor;
-use bits::Field;
+ghost use Rattle.decoder.specs.Decode.{replyOf};
 use reader::file::File;
 use reader::file::TABLE_WORDS;
 use reader::file::read_file;
-use reader::term::put_word;
+use reader::rule::put_words;
 
 // An error's code, the input at fault, and the offset in it.
 pub struct Error {
@@ -33,6 +30,15 @@ pub struct Error {
 pub enum DecodeReply {
     Accepted(usize),
     Refused(Error),
+}
+
+// Stores a word, where there is room for it.
+fn put_word(words: &mut [u16], index: usize, word: u16)
+    ensures { λ r. ⌜ now (words .exit) ≡ set (now (words .entry)) index word ⌝ }
+{
+    if index < words.len() {
+        words[index] = word;
+    }
 }
 
 fn ac_word(table: &[u16], symbol: u16) -> u16
@@ -70,53 +76,13 @@ fn put_symbols(table: &[u16], words: &mut [u16], count: u16)
     }
 }
 
-// Stores the words of the nodes from the cursor on, at the indices from one to the other.
-fn put_nodes(book: &[u8], words: &mut [u16], index: usize, end: usize, cursor: BitCursor)
-    requires { ⌜ (length (now book) ≤ maxBytes) × (end ≤ length (now words)) ⌝ }
+// Stores the words of a file: the header, the symbols, and those of the rules.
+fn put_file(table: &[u16], words: &mut [u16], count: usize, rules: usize, nodes: &[u16])
+    requires { ⌜ (count ≡ length (signatureOf (now table) .symbols)) × (count < 256) × (rules < 1024) ⌝ }
+    requires { ⌜ 4 + 4 * count + length (now nodes) ≤ length (now words) ⌝ }
     ensures { λ r. ⌜
-        ((nodes : List ℕ) (last : ℕ)
-        → NodesRead (bitSource (now (book .entry))) (cursor .at) nodes last
-        → index + length nodes ≡ end
-        → now (words .exit) ≡ sets (now (words .entry)) index nodes)
-        ⌝ }
-{
-    let mut here = cursor;
-    let mut place = index;
-    while place < end {
-        match here.word(book) {
-            Field::Missing => return,
-            Field::Got(word, next) => {
-                words[place] = word;
-                here = next;
-            }
-        }
-        place += 1;
-    }
-}
-
-// Stores the words of a file, that many in all: the header, the symbols, and the rules from the cursor on.
-fn put_file(
-    book: &[u8],
-    table: &[u16],
-    words: &mut [u16],
-    count: usize,
-    rules: usize,
-    total: usize,
-    cursor: BitCursor,
-)
-    requires { ⌜
-        (length (now book) ≤ maxBytes)
-        × (count ≡ length (signatureOf (now table) .symbols))
-        × (count < 256)
-        × (rules < 1024)
-        × (total ≤ length (now words))
-        ⌝ }
-    ensures { λ r. ⌜
-        ((read : List Sides) (end : ℕ)
-        → rulesReader (bitSource (now (book .entry))) (signatureOf (now (table .entry))) rules (cursor .at)
-        ≡ got read end
-        → total ≡ length (unpacked (record { signature = signatureOf (now (table .entry)); rules = read }))
-        → now (words .exit)
+        ((read : List Sides) → now (nodes .entry) ≡ rulesWords read → rules ≡ length read →
+        now (words .exit)
         ≡ sets (now (words .entry)) 0
         (unpacked (record { signature = signatureOf (now (table .entry)); rules = read })))
         ⌝ }
@@ -126,22 +92,24 @@ fn put_file(
     put_word(words, 2, symbols::variable_weight(table) as u16);
     put_word(words, 3, rules as u16);
     put_symbols(table, words, count as u16);
-    put_nodes(book, words, 4 + 4 * count, total, cursor);
+    put_words(words, 4 + 4 * count, nodes);
 }
 
-// Decodes a packed file into the front of the words.
-pub fn decode(book: &[u8], words: &mut [u16]) -> DecodeReply
+// Decodes a packed file into the front of the words. Its nodes are kept elsewhere until its last fault is known.
+fn decode_through(book: &[u8], words: &mut [u16], nodes: &mut [u16]) -> DecodeReply
+    requires { ⌜ (length (now book) ≤ maxBytes → 8 * length (now book) ≤ 5 * length (now nodes)) ⌝ }
     ensures { λ r. ⌜ replyOf r ≡ decoded (now (book .entry)) (now (words .entry)) .reply ⌝ }
     ensures { λ r. ⌜ now (words .exit) ≡ decoded (now (book .entry)) (now (words .entry)) .output ⌝ }
 {
     let mut table = [0u16; TABLE_WORDS];
-    match read_file(book, &mut table) {
+    match read_file(book, &mut table, nodes) {
         File::Fault(code, offset) => DecodeReply::Refused(Error {
             code,
             input: 0,
             offset,
         }),
-        File::Read(symbol_count, rule_count, word_count, cursor) => {
+        File::Read(symbol_count, rule_count, node_count, _) => {
+            let word_count = 4 + 4 * symbol_count + node_count;
             if words.len() < word_count {
                 return DecodeReply::Refused(Error {
                     code: 13,
@@ -151,15 +119,40 @@ pub fn decode(book: &[u8], words: &mut [u16]) -> DecodeReply
             }
             let front = 1 + 4 * symbol_count;
             put_file(
-                book,
                 &table[..front],
                 words,
                 symbol_count,
                 rule_count,
-                word_count,
-                cursor,
+                &nodes[..node_count],
             );
             DecodeReply::Accepted(word_count)
         }
     }
+}
+
+// Room for the nodes of a file of at most 2,048 bytes: a node takes five bits or more.
+fn small_room() -> [u16; 3277]
+    ensures { λ r. ⌜ 3277 ≡ length r ⌝ }
+{
+    [0; 3277]
+}
+
+// Room for the nodes of any file.
+fn large_room() -> [u16; 52429]
+    ensures { λ r. ⌜ 52429 ≡ length r ⌝ }
+{
+    [0; 52429]
+}
+
+// Decodes a packed file into the front of the words.
+pub fn decode(book: &[u8], words: &mut [u16]) -> DecodeReply
+    ensures { λ r. ⌜ replyOf r ≡ decoded (now (book .entry)) (now (words .entry)) .reply ⌝ }
+    ensures { λ r. ⌜ now (words .exit) ≡ decoded (now (book .entry)) (now (words .entry)) .output ⌝ }
+{
+    if book.len() <= 2048 {
+        let mut nodes = small_room();
+        return decode_through(book, words, &mut nodes);
+    }
+    let mut nodes = large_room();
+    decode_through(book, words, &mut nodes)
 }

@@ -92,7 +92,7 @@ module _ (limit : ℕ) where
         (within-then (forestReader source σ a (argumentCount σ (v .word) + n) next) _
         (forest-within σ a (argumentCount σ (v .word) + n) next l) λ ws end e. e)
 
-    rules-within : (σ : Signature) (n at : ℕ) → at ≤ limit → Within (rulesReader source σ n at)
+    pub rules-within : (σ : Signature) (n at : ℕ) → at ≤ limit → Within (rulesReader source σ n at)
     unfolding rulesReader Within
     rules-within σ zero at h = h
     rules-within σ (suc n) at h =

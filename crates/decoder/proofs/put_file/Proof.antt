@@ -1,12 +1,7 @@
+use mathlib.Core.Path.{_≡_, _∙_}
 use native.Mathlib.Omega.{arith}
-use mathlib.Core.Path.{_≡_, sym}
-use Prim.Native.Nat.{_+_, _*_}
 use lib.ListN.{length}
-use Rattle.format.specs.Reading.{bitSource}
 use Rattle.symbols.specs.Table.{signatureOf}
-use Rattle.reader.specs.Rule.{rulesWords}
-use Rattle.decoder.proofs.NodesLaws.{rules-nodes}
-use Rattle.reader.proofs.FileLaws.{rules-length, unpacked-length}
 use Rattle.decoder.proofs.DecodeLaws.{stored-four, stored-file}
 use borrow.Author.Needs.{needs}
 use Rattle.decoder.proofs.put_file.Statement.{statement}
@@ -42,67 +37,30 @@ cast-put-symbols c = search needs
 put-symbols-requires : tie.Need-put-symbols-requires
 put-symbols-requires c κs = search needs
 
-mul-put-nodes : tie.Need-mul-put-nodes
-mul-put-nodes c = search needs
+mul-put-words : tie.Need-mul-put-words
+mul-put-words c = search needs
 
-add-put-nodes : tie.Need-add-put-nodes
-add-put-nodes c = search needs
+add-put-words : tie.Need-add-put-words
+add-put-words c = search needs
 
-put-nodes-requires : tie.Need-put-nodes-requires
-put-nodes-requires c κs = search needs
+put-words-requires : tie.Need-put-words-requires
+put-words-requires c κs = search needs
 
 same-length : tie.Need-same-length
 same-length c = search needs
 
 returns : tie.Need-returns
-returns c = λ read end e all.
-    let a = c .before .before .before .before .before .before .before .before .before .before .before .before .before
-    .before .before .before .before .before .before .before .before .before .before .before .before .before .before
-    .before .args in
-    let header = rw (c .before .before .before .before .before .before .before .before .before .before .before .before
-    .before .before .before .variable-weight .ensures .0) at (stored-four (a .words .now) (c .before .before .before
-    .before .before .before .before .before .before .before .before .before .before .before .before .before .before
-    .before .before .before .before .before .before .put-word .last .0) (c .before .before .before .before .before
-    .before .before .before .before .before .before .before .before .before .before .before .before .before .before
-    .put-word2 .last .0) (c .before .before .before .before .before .before .before .before .before .before .before
-    .before .before .before .put-word3 .last .0) (c .before .before .before .before .before .before .before .before
-    .before .before .put-word4 .last .0)
-    0 1 (a .count) (c .before .before .before .before .before .before .before .before .before .before .before .before
-    .before .before .before .variable-weight .result) (a .rules) (c .before .before .before .before .before .before
-    .before .before .before .before .before .before .before .before .before .before .before .before .before .before
-    .before .before .before .put-word .ensures) (c .before .before .before .before .before .before .before .before
-    .before .before .before .before .before .before .before .before .before .before .before .put-word2 .ensures) (c
-    .before .before .before .before .before .before .before .before .before .before .before .before .before .before
-    .put-word3 .ensures) (c .before .before .before .before .before .before .before .before .before .before .put-word4
-    .ensures)) in
-    let long : 4 + 4 * a .count + length (rulesWords read) ≡ a .total =
-    omega (
-      arith,
-      c .before .before .before .before .before .before .before .before .before .before .before .before
-          .before .before .before .before .before .before .before .before .before .before .before .before
-          .before .before
-          .before .before .pre .1,
-      all,
-      unpacked-length (record { signature = signatureOf (a .table .now); rules = read }),
-    ) in
-    stored-file (a .words .now) (c .before .before .before .before .before .before .before .before .before .before
-    .put-word4 .last .0) (c .before .before .before .before .before .before .put-symbols .last .1 .0) (c .before .before
-    .put-nodes .last .1 .0) (signatureOf (a .table .now)) read (a .count) (a .rules)
-    header (c .before .before .before .before .before .before .put-symbols .ensures)
-    (c .before .before .put-nodes .ensures (rulesWords read) end (rules-nodes (bitSource (c .before .before .before
-    .before .before .before .before .before .before .before .before .before .before .before .before .before .before
-    .before .before .before .before .before .before .before .before .before .before .before .args .book .now))
-    (signatureOf (c .before .before .before .before .before .before .before .before .before .before .before .before
-    .before .before .before .before .before .before .before .before .before .before .before .before .before .before
-    .before .before .args .table .now)) (a .rules) (a .cursor .at) read end e) long)
-    (c .before .before .before .before .before .before .before .before .before .before .before .before .before .before
-    .before .before .before .before .before .before .before .before .before .before .before .before .before .before .pre
-    .1) (sym (rules-length (bitSource (c .before .before .before .before .before .before .before .before .before .before
-    .before .before .before .before .before .before .before .before .before .before .before .before .before .before
-    .before .before .before .before .args .book .now)) (signatureOf (c .before .before .before .before .before .before
-    .before .before .before .before .before .before .before .before .before .before .before .before .before .before
-    .before .before .before .before .before .before .before .before .args .table .now)) (a .rules) (a .cursor .at) read
-    end e))
+returns c = λ read same rules.
+    let a = c .before .before .before .before .before .before .before .before .before .before .before .before .before .before .before .before .before .before .before .before .before .before .before .before .before .before .before .before .args in
+    let header = stored-four (a .words .now) (c .before .before .before .before .before .before .before .before .before .before .before .before .before .before .before .before .before .before .before .before .before .before .before .put-word .last .0) (c .before .before .before .before .before .before .before .before .before .before .before .before .before .before .before .before .before .before .before .put-word2 .last .0) (c .before .before .before .before .before .before .before .before .before .before .before .before .before .before .put-word3 .last .0)
+    (c .before .before .before .before .before .before .before .before .before .before .put-word4 .last .0) 0 1 (a .count) (c .before .before .before .before .before .before .before .before .before .before .before .before .before .before .before .variable-weight .result) (a .rules) (c .before .before .before .before .before .before .before .before .before .before .before .before .before .before .before .before .before .before .before .before .before .before .before .put-word .ensures)
+    (c .before .before .before .before .before .before .before .before .before .before .before .before .before .before .before .before .before .before .before .put-word2 .ensures) (c .before .before .before .before .before .before .before .before .before .before .before .before .before .before .put-word3 .ensures) (c .before .before .before .before .before .before .before .before .before .before .put-word4 .ensures) in
+    let long : length (c .before .before .before .before .before .before .put-symbols .last .1 .0) ≡ length (a .words .now) = c .before .before .before .before .before .before .put-symbols .kept .1 .0
+    ∙ c .before .before .before .before .before .before .before .before .before .before .put-word4 .kept .0 ∙ c .before .before .before .before .before .before .before .before .before .before .before .before .before .before .put-word3 .kept .0 ∙ c .before .before .before .before .before .before .before .before .before .before .before .before .before .before .before .before .before .before .before .put-word2 .kept .0 ∙ c .before .before .before .before .before .before .before .before .before .before .before .before .before .before .before .before .before .before .before .before .before .before .before .put-word .kept .0 in
+    stored-file (a .words .now) (c .before .before .before .before .before .before .before .before .before .before .put-word4 .last .0) (c .before .before .before .before .before .before .put-symbols .last .1 .0) (c .before .before .put-words .last .0)
+    (signatureOf (a .table .now)) read (a .count) (a .rules)
+    (rw (c .before .before .before .before .before .before .before .before .before .before .before .before .before .before .before .variable-weight .ensures .0) at header) (c .before .before .before .before .before .before .put-symbols .ensures)
+    (rw same at (c .before .before .put-words .ensures (omega (arith, long)))) (c .before .before .before .before .before .before .before .before .before .before .before .before .before .before .before .before .before .before .before .before .before .before .before .before .before .before .before .before .pre .0 .0) rules
 
 pub put-file-spec : {M : Type 1} → statement M
 put-file-spec =
@@ -118,8 +76,8 @@ put-file-spec =
     put-word-requires-4
     cast-put-symbols
     put-symbols-requires
-    mul-put-nodes
-    add-put-nodes
-    put-nodes-requires
+    mul-put-words
+    add-put-words
+    put-words-requires
     same-length
     returns)

@@ -1,0 +1,133 @@
+use mathlib.Core.Path.{sym, _∙_}
+use native.Mathlib.Omega.{arith}
+use lib.Seq.{length-take-le}
+use Rattle.decoder.proofs.DecodeLaws.{decode-fault, decode-short, decode-written, symbol-count, word-count}
+use Rattle.decoder.proofs.DecodeLaws.{nodes-few, nodes-front}
+use borrow.Author.Needs.{needs}
+use Rattle.decoder.proofs.decode_through.Statement.{statement}
+use Rattle.decoder.proofs.decode_through.Tie as tie
+
+slice-aggregate-read-file : tie.Need-slice-aggregate-read-file
+slice-aggregate-read-file c = search needs
+
+read-file-requires : tie.Need-read-file-requires
+read-file-requires c κs = search needs
+
+enum-known-code : tie.Need-enum-known-code
+enum-known-code c = search needs
+
+enum-known-symbol-count : tie.Need-enum-known-symbol-count
+enum-known-symbol-count c = search needs
+
+mul-word-count : tie.Need-mul-word-count
+mul-word-count c =
+    let (file, end, read, parts) = (rw (c .before .symbol-count .given .1) at (c .before .before .before .before .before .before .read-file .ensures)) in
+    omega (arith, parts .head .fewSymbols)
+
+add-word-count : tie.Need-add-word-count
+add-word-count c =
+    let (file, end, read, parts) = (rw (c .before .symbol-count .given .1) at (c .before .before .before .before .before .before .read-file .ensures)) in
+    omega (arith, parts .head .fewSymbols)
+
+add-word-count-2 : tie.Need-add-word-count-2
+add-word-count-2 c =
+    let a = c .before .before .before .before .before .before .before .before .before .before .before .before .args in
+    let (file, end, read, parts) = (rw (c .before .symbol-count .given .1) at (c .before .before .before .before .before .before .read-file .ensures)) in
+    let few = nodes-few (a .book .now) (c .before .before .before .before .before .before .read-file .last .1 .0) (a .nodes .now) (c .before .before .before .before .before .before .read-file .last .1 .1 .0) file _ _ _ _ parts (c .before .before .before .before .before .before .before .before .before .before .before .before .pre) in
+    omega (arith, parts .head .fewSymbols, few)
+
+same-length : tie.Need-same-length
+same-length c = search needs
+
+returns : tie.Need-returns
+returns c =
+    let a = c .before .before .before .before .before .before .before .before .before .before .before .before .before .args in
+    let (file, end, read, parts) = (rw (c .before .before .symbol-count .given .1) at (c .before .before .before .before .before .before .before .read-file .ensures)) in
+    decode-short (a .book .now) (a .words .now) file end read (omega (arith, word-count (a .book .now) (c .before .before .before .before .before .before .before .read-file .last .1 .0) (a .nodes .now) (c .before .before .before .before .before .before .before .read-file .last .1 .1 .0) file _ _ _ _ parts))
+
+mul-front : tie.Need-mul-front
+mul-front c = search needs
+
+add-front : tie.Need-add-front
+add-front c = search needs
+
+array-share-prefix-table : tie.Need-array-share-prefix-table
+array-share-prefix-table c =
+    let (file, end, read, parts) = (rw (c .before .before .symbol-count .given .1) at (c .before .before .before .before .before .before .before .read-file .ensures)) in
+    omega (arith, parts .head .fewSymbols, c .before .before .before .before .before .before .before .read-file .kept .1 .0)
+
+slice-aggregate-put-file : tie.Need-slice-aggregate-put-file
+slice-aggregate-put-file c =
+    let (file, end, read, parts) = (rw (c .before .before .before .symbol-count .given .1) at (c .before .before .before .before .before .before .before .before .read-file .ensures)) in
+    sym (length-take-le _ (c .before .before .before .before .before .before .before .before .read-file .last .1 .0) (omega (arith, parts .head .fewSymbols, c .before .before .before .before .before .before .before .before .read-file .kept .1 .0)))
+
+slice-reshare-prefix-put-file : tie.Need-slice-reshare-prefix-put-file
+slice-reshare-prefix-put-file c =
+    let a = c .before .before .before .before .before .before .before .before .before .before .before .before .before .before .before .args in
+    let (file, end, read, parts) = (rw (c .before .before .before .before .symbol-count .given .1) at (c .before .before .before .before .before .before .before .before .before .read-file .ensures)) in
+    let few = nodes-few (a .book .now) (c .before .before .before .before .before .before .before .before .before .read-file .last .1 .0) (a .nodes .now) (c .before .before .before .before .before .before .before .before .before .read-file .last .1 .1 .0) file _ _ _ _ parts (c .before .before .before .before .before .before .before .before .before .before .before .before .before .before .before .pre) in
+    omega (arith, few, c .before .before .before .before .before .before .before .before .before .read-file .kept .1 .1 .0)
+
+slice-aggregate-put-file-2 : tie.Need-slice-aggregate-put-file-2
+slice-aggregate-put-file-2 c =
+    let a = c .before .before .before .before .before .before .before .before .before .before .before .before .before .before .before .before .args in
+    let (file, end, read, parts) = (rw (c .before .before .before .before .before .symbol-count .given .1) at (c .before .before .before .before .before .before .before .before .before .before .read-file .ensures)) in
+    let few = nodes-few (a .book .now) (c .before .before .before .before .before .before .before .before .before .before .read-file .last .1 .0) (a .nodes .now) (c .before .before .before .before .before .before .before .before .before .before .read-file .last .1 .1 .0) file _ _ _ _ parts (c .before .before .before .before .before .before .before .before .before .before .before .before .before .before .before .before .pre) in
+    sym (length-take-le _ (c .before .before .before .before .before .before .before .before .before .before .read-file .last .1 .1 .0) (omega (arith, few, c .before .before .before .before .before .before .before .before .before .before .read-file .kept .1 .1 .0)))
+
+put-file-requires : tie.Need-put-file-requires
+put-file-requires c κs =
+    let a = c .before .before .before .before .before .before .before .before .before .before .before .before .before .before .before .before .args in
+    let (file, end, read, parts) = (rw (c .before .before .before .before .before .symbol-count .given .1) at (c .before .before .before .before .before .before .before .before .before .before .read-file .ensures)) in
+    let few = nodes-few (a .book .now) (c .before .before .before .before .before .before .before .before .before .before .read-file .last .1 .0) (a .nodes .now) (c .before .before .before .before .before .before .before .before .before .before .read-file .last .1 .1 .0) file _ _ _ _ parts (c .before .before .before .before .before .before .before .before .before .before .before .before .before .before .before .before .pre) in
+    let long = length-take-le (c .before .before .before .before .before .symbol-count .given .0 .1 .1 .0) (c .before .before .before .before .before .before .before .before .before .before .read-file .last .1 .1 .0) (omega (arith, few, c .before .before .before .before .before .before .before .before .before .before .read-file .kept .1 .1 .0)) in
+    ((symbol-count (a .book .now) (c .before .before .before .before .before .before .before .before .before .before .read-file .last .1 .0) (a .nodes .now) (c .before .before .before .before .before .before .before .before .before .before .read-file .last .1 .1 .0) file _ _ _ _ parts, parts .head .fewSymbols, parts .head .fewRules), omega (arith, long))
+
+same-length-2 : tie.Need-same-length-2
+same-length-2 c = search needs
+
+returns-2 : tie.Need-returns-2
+returns-2 c =
+    let a = c .before .before .before .before .before .before .before .before .before .before .before .before .args in
+    decode-fault (a .book .now) (a .words .now) _ _ (rw (c .before .code .given .1) at (c .before .before .before .before .before .before .read-file .ensures))
+
+same-length-3 : tie.Need-same-length-3
+same-length-3 c = search needs
+
+same-length-4 : tie.Need-same-length-4
+same-length-4 c = search needs
+
+returns-3 : tie.Need-returns-3
+returns-3 c =
+    let a = c .before .before .before .before .before .before .before .before .before .before .before .before .before .before .before .before .before .before .before .args in
+    let (file, end, read, parts) = (rw (c .before .before .before .before .before .before .before .before .symbol-count .given .1) at (c .before .before .before .before .before .before .before .before .before .before .before .before .before .read-file .ensures)) in
+    let count = word-count (a .book .now) (c .before .before .before .before .before .before .before .before .before .before .before .before .before .read-file .last .1 .0) (a .nodes .now) (c .before .before .before .before .before .before .before .before .before .before .before .before .before .read-file .last .1 .1 .0) file _ _ _ _ parts in
+    let written = c .before .before .put-file .ensures (file .rules) (nodes-front (a .book .now) (c .before .before .before .before .before .before .before .before .before .before .before .before .before .read-file .last .1 .0) (a .nodes .now) (c .before .before .before .before .before .before .before .before .before .before .before .before .before .read-file .last .1 .1 .0) file _ _ _ _ parts (c .before .before .before .before .before .before .before .before .before .before .before .before .before .before .before .before .before .before .before .pre)) (parts .ruleCount) in
+    let (reply, output) = decode-written (a .book .now) (a .words .now) file end read (omega (arith, count)) in
+    (rw count reply, (rw (parts .signature) at written) ∙ output)
+
+pub decode-through-spec : {M : Type 1} → statement M
+decode-through-spec =
+    tie.close
+    (tie.spec
+    slice-aggregate-read-file
+    read-file-requires
+    enum-known-code
+    enum-known-symbol-count
+    mul-word-count
+    add-word-count
+    add-word-count-2
+    same-length
+    returns
+    mul-front
+    add-front
+    array-share-prefix-table
+    slice-aggregate-put-file
+    slice-reshare-prefix-put-file
+    slice-aggregate-put-file-2
+    put-file-requires
+    same-length-2
+    returns-2
+    same-length-3
+    same-length-4
+    returns-3)

@@ -135,7 +135,7 @@ module _ (source : Source) where
   SymbolRead w0 earlier at s end = SymbolOk w0 earlier s × Spells source (symbolItems s) at end
 
   -- So many symbols after the earlier ones.
-  abbrev SymbolsRead : ℕ → ℕ → List Symbol → ℕ → List Symbol → ℕ → Type 0
+  abbrev pub SymbolsRead : ℕ → ℕ → List Symbol → ℕ → List Symbol → ℕ → Type 0
   SymbolsRead w0 n earlier at all end =
       (ss : List Symbol) × (all ≡ earlier ++ ss) × (length ss ≡ n) × SymbolsOk w0 earlier ss ×
       Spells source (flatMap symbolItems ss) at end
@@ -160,7 +160,7 @@ module _ (source : Source) where
         record { acBinary = rw same binary; weighs = weighs; fresh = fresh } in
         (ok, rw same (more e₁ (more e₂ (more e₃ (more e₄ none)))))
 
-    symbols-read : (w0 n : ℕ) (earlier : List Symbol) (at : ℕ) →
+    pub symbols-read : (w0 n : ℕ) (earlier : List Symbol) (at : ℕ) →
         Holds (SymbolsRead w0 n earlier at) (symbolsReader source w0 n earlier at)
     unfolding symbolsReader Holds flatMap
     symbols-read w0 zero earlier at = ([], sym (append-nil earlier), refl, noSymbol, none)

@@ -12,7 +12,7 @@ use Prim.Native.Nat.{ℕ, suc, zero, _+_, _-_, _*_, _/_, _≤_, _<_}
 use native.Mathlib.Omega.{arith}
 use lib.ListN.{length, length-append, getD, take}
 use lib.Seq.{getD-take, length-take-le}
-use Rattle.terms.specs.Signature.{Symbol, Signature}
+use Rattle.terms.specs.Signature.{Symbol, Signature, Admissible}
 use Rattle.format.specs.Errors.{badPadding}
 use Rattle.format.specs.Layout.{formNumber, maxBytes}
 use Rattle.format.specs.Reading.{Reading, andThen, give, Source, bitSource}
@@ -30,7 +30,10 @@ use Rattle.bits.specs.Cursor.{isPadding}
 use Rattle.reader.specs.Rule.{WordsRead, ruleReader, rulesWords}
 use Rattle.reader.specs.File.{bodyReader, restReader, HeadRead, RestRead, FileRead, symbolsWords}
 use Rattle.symbols.proofs.TableLaws.{length-symbols}
-use Rattle.format.proofs.ReadingLaws.{andThen-assoc, andThen-same}
+use Rattle.format.proofs.ReadingLaws.{andThen-assoc, andThen-same, holds-got}
+use Rattle.format.proofs.FormatLaws.{symbols-read}
+use Rattle.format.proofs.SymbolLaws.{admissible-of-symbols}
+use Rattle.bits.proofs.NodeLaws.{field-lt}
 use Rattle.format.proofs.FaultLaws.{within-got, symbols-within, bits-bounded}
 use Rattle.reader.proofs.SymbolLaws.{symbols-same}
 use Rattle.reader.proofs.RuleLaws.{rules-step}
@@ -135,6 +138,14 @@ body-rest bytes w0 symbols rules at =
     ∙ andThen-same (symbolsReader (bitSource bytes) w0 symbols [] at) _ _
     (λ ss next. andThen-assoc (rulesReader (bitSource bytes) (record { w0 = w0; symbols = ss }) rules next) _ _)
 
+-- Symbols that were read are admissible.
+symbols-admissible : (bytes : List ℕ) (w0 n at : ℕ) (ss : List Symbol) (end : ℕ) →
+    symbolsReader (bitSource bytes) w0 n [] at ≡ got ss end → 0 < w0 → Admissible (record { w0 = w0; symbols = ss })
+symbols-admissible bytes w0 n at ss end e positive =
+    let (all, same, count, oks, spelt) =
+    holds-got _ _ ss end (symbols-read (bitSource bytes) (field-lt bytes) w0 n [] at) e in
+    admissible-of-symbols (record { w0 = w0; symbols = ss }) (rw (sym same) at oks) positive
+
 module _ (bytes : List ℕ) (w0 symbols rules at : ℕ) where
   pub symbols-fault : (code offset : ℕ) → symbolsReader (bitSource bytes) w0 symbols [] at ≡ fault code offset →
       bodyReader bytes w0 symbols rules at ≡ fault code offset
@@ -143,9 +154,9 @@ module _ (bytes : List ℕ) (w0 symbols rules at : ℕ) where
   pub head-read : (table : List ℕ) (next : BitCursor) →
       symbolsReader (bitSource bytes) w0 symbols [] at ≡ got (symbolsAt table 0 symbols) (next .at) →
       getD table 0 0 ≡ w0 → 1 + 4 * symbols ≤ length table → at ≤ 8 * length bytes → length bytes ≤ maxBytes →
-      symbols < 256 → rules < 1024 →
+      symbols < 256 → rules < 1024 → 0 < w0 →
       HeadRead bytes (bodyReader bytes w0 symbols rules at) (head.Read symbols rules next) table
-  head-read table next read weight room start short few some =
+  head-read table next read weight room start short few some positive =
       let σ : signatureOf (take (1 + 4 * symbols) table) ≡ record { w0 = w0; symbols = symbolsAt table 0 symbols } =
       signature-front table symbols room ∙ rw weight in (
         body-rest bytes w0 symbols rules at ∙ rw (read, σ),
@@ -154,6 +165,7 @@ module _ (bytes : List ℕ) (w0 symbols rules at : ℕ) where
           short = short;
           fewSymbols = few;
           fewRules = some;
+          admissible = rw σ (symbols-admissible bytes w0 symbols at (symbolsAt table 0 symbols) (next .at) read positive);
           within = within-got (8 * length bytes) (symbolsReader (bitSource bytes) w0 symbols [] at) _ _
               (symbols-within (8 * length bytes) (bitSource bytes) (bits-bounded bytes) w0 symbols [] at start) read;
         },

@@ -10,7 +10,7 @@ use Rattle.format.specs.Reading.{Reading, Reader, _>>=_, _>>_, give, bitSource}
 use Rattle.format.specs.Reading.Reading.{got, fault}
 use Rattle.format.specs.Format.{Sides, RuleFile, symbolsReader, rulesReader}
 use Rattle.format.specs.Files.{paddingReader}
-use Rattle.terms.specs.Signature.{Symbol, Signature}
+use Rattle.terms.specs.Signature.{Symbol, Signature, Admissible}
 use Rattle.format.specs.Packing.{itemWord, symbolItems, unpacked}
 use Rattle.symbols.specs.Table.{signatureOf}
 use Rattle.reader.specs.declared.rule.Stored.{Stored}
@@ -42,12 +42,13 @@ restReader bytes σ ruleCount = do
   paddingReader bytes
   give (record { signature = σ; rules = rules })
 
--- A file's counts of symbols and of rules, and the offset of its rules.
+-- A file's counts of symbols and of rules, its signature, and the offset of its rules.
 pub record HeadParts (bytes table : List ℕ) (symbols rules offset : ℕ) : Type 0 where
   pub symbolCount : symbols ≡ length (signatureOf (take (1 + 4 * symbols) table) .symbols)
   pub short : length bytes ≤ maxBytes
   pub fewSymbols : symbols < 256
   pub fewRules : rules < 1024
+  pub admissible : Admissible (signatureOf (take (1 + 4 * symbols) table))
   pub within : offset ≤ 8 * length bytes
 
 -- What is read of the bytes, the answer to their head, and the table afterwards.

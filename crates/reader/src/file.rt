@@ -39,7 +39,7 @@ fn read_table(
     cursor: BitCursor,
 ) -> Head
     requires { ⌜ (length (now book) ≤ maxBytes) × (cursor .at ≤ 8 * length (now book)) ⌝ }
-    requires { ⌜ (4 * symbols < length (now table)) × (symbols < 256) × (rules < 1024) ⌝ }
+    requires { ⌜ (4 * symbols < length (now table)) × (symbols < 256) × (rules < 1024) × (0 < w0) ⌝ }
     ensures { λ r. ⌜
         HeadRead (now (book .entry)) (bodyReader (now (book .entry)) w0 symbols rules (cursor .at)) r
         (now (table .exit))

@@ -28,7 +28,7 @@ returns-2 : tie.Need-returns-2
 returns-2 c =
     head-read (c .before .before .before .before .before .before .before .before .before .args .book .now) (c .before .before .before .before .before .before .before .before .before .args .w0) (c .before .before .before .before .before .before .before .before .before .args .symbols) (c .before .before .before .before .before .before .before .before .before .args .rules) (c .before .before .before .before .before .before .before .before .before .args .cursor .at) (c .before .before .before .before .before .read-symbols .last .1 .0) _
     (rw (c .before .start .given .1) at (c .before .before .before .before .before .read-symbols .ensures .0)) (c .before .before .before .before .before .read-symbols .ensures .1)
-    (omega (arith, c .before .before .before .before .before .read-symbols .kept .1 .0)) (omega arith) (omega arith) (omega arith) (omega arith)
+    (omega (arith, c .before .before .before .before .before .read-symbols .kept .1 .0)) (omega arith) (omega arith) (omega arith) (omega arith) (omega arith)
 
 pub read-table-spec : {M : Type 1} → statement M
 read-table-spec =

@@ -1,33 +1,34 @@
 -- What marking gives back, by what its bytes read as.
---     table-of                               the table that reading leaves
+--     table-of                                 the table that reading leaves
 --     mark-fault, mark-short, mark-written     the ends of marking
+--     front-stored                             the marks that were kept elsewhere
 use mathlib.Core.List.{List}
 use mathlib.Core.Path.{_≡_, _∙_}
 use Prim.Native.Nat.{ℕ, _+_, _*_, _^_, _≤_, _<_}
 use native.Mathlib.Omega.{arith}
 use native.Mathlib.Nat.{zero-add}
-use lib.ListN.{length, take, length-map}
-use lib.Seq.{sets, sets-eq, length-take-le}
+use lib.ListN.{length, take, drop}
+use lib.Seq.{sets, sets-eq, take-append-seam, length-take-le}
 use borrow.Author.Tests.{le-leb, lt-leb}
 use Rattle.multisets.proofs.Relations.{byOrder}
 use Rattle.format.specs.Errors.{fileTooLong, marksTooShort}
 use Rattle.format.specs.Layout.{maxBytes}
 use Rattle.format.specs.Reading.Reading.{got, fault}
-use Rattle.format.specs.Format.{RuleFile, systemOf}
+use Rattle.terms.specs.Signature.{Signature}
+use Rattle.format.specs.Format.{Sides}
 use Rattle.format.specs.Files.{readBytes}
 use Rattle.format.specs.Replies.Reply.{accepted, refused}
-use Rattle.format.specs.Statements.IsRead.{fromBytes}
-use Rattle.format.proofs.Theorems.{readable-admissible, faults-within}
-use Rattle.reader.specs.File.{FileParts}
-use Rattle.marking.specs.Marking.{marksOf, decreasingCount, scoreOf, marked}
-use Rattle.marking.specs.Rule.{IsTable}
+use Rattle.format.proofs.Theorems.{faults-within}
+use Rattle.reader.specs.File.{HeadParts}
+use Rattle.marking.specs.Marking.{decreasingCount, scoreOf, marked}
+use Rattle.marking.specs.Rule.{IsTable, sidesMarks}
+use Rattle.marking.proofs.RuleLaws.{length-marks}
 
-pub table-of : (bytes table : List ℕ) (file : RuleFile) (end symbols rules words offset : ℕ) → 1021 ≡ length table →
-    readBytes bytes ≡ got file end → FileParts bytes table file symbols rules words offset →
-    IsTable (take (1 + 4 * symbols) table)
-table-of bytes table file end symbols rules words offset n e parts = record {
-  short = omega (arith, length-take-le (1 + 4 * symbols) table (omega (arith, parts .fewSymbols)), parts .fewSymbols);
-  admissible = rw (parts .signature) (readable-admissible file (fromBytes bytes end e) .0);
+pub table-of : (bytes table : List ℕ) (symbols rules offset : ℕ) → 1021 ≡ length table →
+    HeadParts bytes table symbols rules offset → IsTable (take (1 + 4 * symbols) table)
+table-of bytes table symbols rules offset n head = record {
+  short = omega (arith, length-take-le (1 + 4 * symbols) table (omega (arith, head .fewSymbols)), head .fewSymbols);
+  admissible = head .admissible;
 }
 
 -- A fault lies within 32,768 bytes.
@@ -46,29 +47,33 @@ module _ (bytes marks : List ℕ) where
   unfolding marked
   mark-fault code offset e = (rw e, rw e)
 
-  module _ (file : RuleFile) (end : ℕ) (e : readBytes bytes ≡ got file end) where
-    pub mark-short : length marks < length (file .rules) →
+  module _ (σ : Signature) (rules : List Sides) (end : ℕ)
+      (e : readBytes bytes ≡ got (record { signature = σ; rules = rules }) end) (count : ℕ) (k : length rules ≡ count) where
+    pub mark-short : length marks < count →
         (refused (record { code = marksTooShort; input = 1; offset = 0 }) ≡ marked bytes marks .reply)
         × (marks ≡ marked bytes marks .output)
     unfolding marked
     mark-short h =
-        (rw (e, lt-leb (length (file .rules)) (length marks) h), rw (e, lt-leb (length (file .rules)) (length marks) h))
+        let no = lt-leb (length rules) (length marks) (omega arith) in
+        (rw (e, no), rw (e, no))
 
-    pub mark-written : (rules decreasing score : ℕ) (out : List ℕ) → rules ≡ length (file .rules) →
-        rules ≤ length marks → decreasing ≡ decreasingCount (marksOf (systemOf file)) →
-        score ≡ scoreOf decreasing rules → out ≡ sets marks 0 (marksOf (systemOf file)) →
-        (accepted (record { rules = rules; decreasing = decreasing; score = score }) ≡ marked bytes marks .reply)
+    pub mark-written : (decreasing score : ℕ) (out : List ℕ) → count ≤ length marks →
+        decreasing ≡ decreasingCount (sidesMarks σ rules) → score ≡ scoreOf decreasing count →
+        out ≡ sets marks 0 (sidesMarks σ rules) →
+        (accepted (record { rules = count; decreasing = decreasing; score = score }) ≡ marked bytes marks .reply)
         × (out ≡ marked bytes marks .output)
     unfolding marked
-    mark-written rules decreasing score out k h d q w =
-        let n : length (marksOf (systemOf file)) ≡ length (file .rules) =
-        length-map (systemOf file .rules) _ ∙ length-map (file .rules) _ in
-        let fits = le-leb (length (file .rules)) (length marks) (omega arith) in (
-          rw (e, fits, q, k, n, ← d),
-          w ∙ rw (
-            e,
-            fits,
-            sets-eq (marksOf (systemOf file)) marks 0 (omega arith),
-            zero-add,
-          ),
+    mark-written decreasing score out h d q w =
+        let n : length (sidesMarks σ rules) ≡ count = length-marks σ rules ∙ k in
+        let fits = le-leb (length rules) (length marks) (omega arith) in (
+          rw (e, fits, q, n, ← d),
+          w ∙ rw (e, fits, sets-eq (sidesMarks σ rules) marks 0 (omega arith), zero-add),
         )
+
+-- The marks that stand first, once stored.
+pub front-stored : (σ : Signature) (rules : List Sides) (before after : List ℕ) (count : ℕ) → length rules ≡ count →
+    count ≤ length before → after ≡ sets before 0 (sidesMarks σ rules) → take count after ≡ sidesMarks σ rules
+front-stored σ rules before after count k room stored =
+    let l = sidesMarks σ rules in
+    let n : length l ≡ count = length-marks σ rules ∙ k in
+    rw (stored, ← n, sets-eq l before 0 (omega arith)) (take-append-seam l (drop (0 + length l) before))

@@ -1,9 +1,9 @@
 -- The sides of a rule that is read are terms, and what orienting it has to show.
 --     side-term        a side that is read from bits is the words of a well-formed term
 --     whole-terms      two terms as the order asks them
---     right-known, left-known, left-unread     what is known of a rule that is read
+--     right-oriented, left-unread, rule-oriented     a rule by its sides
 use mathlib.Core.List.{List}
-use mathlib.Core.Path.{_≡_, sym, ap, _∙_}
+use mathlib.Core.Path.{_≡_, sym}
 use Prim.Native.Nat.{ℕ}
 use native.Mathlib.Omega.{arith}
 use Rattle.terms.specs.Signature.{Signature}
@@ -11,7 +11,7 @@ use Rattle.terms.specs.Words.{termOf}
 use Rattle.format.specs.Layout.{maxNodes}
 use Rattle.format.specs.Reading.{Reading, Source, bitSource}
 use Rattle.format.specs.Reading.Reading.{got, fault}
-use Rattle.format.specs.Format.{Sides, forestReader}
+use Rattle.format.specs.Format.{forestReader}
 use Rattle.format.specs.Packing.{Item}
 use Rattle.format.specs.Statements.{IsTerm}
 use Rattle.format.proofs.ReadingLaws.{holds-got}
@@ -24,8 +24,10 @@ use Rattle.symbols.specs.Table.{signatureOf}
 use Rattle.order.specs.Compared.{Whole}
 use Rattle.reader.specs.Rule.{ruleReader}
 use Rattle.marking.specs.declared.rule.Oriented.{Oriented}
-use Rattle.marking.specs.Rule.{IsTable, Orients}
-use Rattle.marking.proofs.RuleLaws.{then-got, fault-unread, got-same}
+use Rattle.marking.specs.declared.rule.RuleReading.{RuleReading}
+use Rattle.marking.specs.declared.rule.RuleReading.the-variants.{Got, Fault}
+use Rattle.marking.specs.Rule.{IsTable, Orients, OrientsRead}
+use Rattle.marking.proofs.RuleLaws.{sidesThemselves}
 
 spells-fit : (bytes : List ℕ) {is : List Item} {at end : ℕ} → Spells (bitSource bytes) is at end → AllFit is
 spells-fit bytes none = tt
@@ -50,28 +52,27 @@ whole-terms {table} {s} {t} T p q = record {
   rightShort = q .short;
 }
 
--- ---- what is known to be read
+-- ---- the sides of a rule
 
-module _ (σ : Signature) (o : Oriented) where
-  orients-same : {r r' : Sides} {n n' : ℕ} → r ≡ r' → n ≡ n' → Orients σ r n o → Orients σ r' n' o
-  orients-same e d h = rw (← e, ← d) h
+module _ (σ : Signature) where
+  -- A right side that was read, after its left side.
+  pub right-oriented : (reading : Reading (List ℕ)) (left right : List ℕ) (n : ℕ) (o : Oriented) → got right n ≡ reading →
+      o .next .at ≡ n → Orients σ (record { left = left; right = right }) o →
+      OrientsRead σ (λ (l : List ℕ). record { left = left; right = l }) reading (Got o)
+  right-oriented reading left right n o e same x = (right, sym (rw same e), x)
 
-  pub right-known : (reading : Reading (List ℕ)) (left ws right : List ℕ) (n end : ℕ) → got ws n ≡ reading →
-      Orients σ (record { left = left; right = ws }) n o → reading ≡ got right end →
-      Orients σ (record { left = left; right = right }) end o
-  right-known reading left ws right n end e h f =
-      let (a, b) = got-same (e ∙ f) in
-      orients-same (ap (λ (l : List ℕ). record { left = left; right = l }) a) b h
-
-  module _ (source : Source) (at : ℕ) (r : Sides) (end : ℕ) (g : ruleReader source σ at ≡ got r end) where
-    pub left-known : (left : List ℕ) (middle : ℕ) → got left middle ≡ forestReader source σ maxNodes 1 at →
-        ((right : List ℕ) (last : ℕ) → forestReader source σ maxNodes 1 middle ≡ got right last →
-        Orients σ (record { left = left; right = right }) last o) → Orients σ r end o
+  module _ (source : Source) (at : ℕ) where
+    pub left-unread : (code offset : ℕ) → fault code offset ≡ forestReader source σ maxNodes 1 at →
+        ruleReader source σ at ≡ fault code offset
     unfolding ruleReader
-    left-known left middle e h =
-        let (right, last, f, k) = then-got (forestReader source σ maxNodes 1 middle) _ r end (rw (sym e) at g) in
-        let (a, b) = got-same k in orients-same a b (h right last f)
+    left-unread code offset e = rw (sym e)
 
-    pub left-unread : (code offset : ℕ) → fault code offset ≡ forestReader source σ maxNodes 1 at → ⊥
+    -- A rule whose left side was read is what its right side makes it.
+    pub rule-oriented : (left : List ℕ) (middle : ℕ) → got left middle ≡ forestReader source σ maxNodes 1 at →
+        (r : RuleReading) →
+        OrientsRead σ (λ (right : List ℕ). record { left = left; right = right })
+        (forestReader source σ maxNodes 1 middle) r →
+        OrientsRead σ sidesThemselves (ruleReader source σ at) r
     unfolding ruleReader
-    left-unread code offset e = fault-unread code offset (rw (sym e) at g)
+    rule-oriented left middle e (Got o) (right, f, x) = (record { left = left; right = right }, rw (sym e, f), x)
+    rule-oriented left middle e (Fault code offset) f = rw (sym e, f)

@@ -1,5 +1,5 @@
 -- The lines of rules, one after another.
---     WrittenSoFar, written-none, written-more, written-all     what a loop over the rules has counted and written
+--     WrittenSoFar, written-none, written-fault, written-more, written-all     what a loop has counted and written
 --     put-verdict                                               the last two lines
 --     report-refusal, report-marks                              the whole text
 use mathlib.Core.List.{List, [], _∷_, _++_, append-assoc, append-nil}
@@ -28,7 +28,11 @@ use Rattle.reader.specs.Rule.{ruleReader}
 use Rattle.marking.specs.Marking.{marksOf, decreasingCount, scoreOf}
 use Rattle.marking.specs.Report.{summaryLines, report}
 use Rattle.marking.specs.Rule.{sidesMarks, sidesLines}
-use Rattle.marking.proofs.RuleLaws.{After, after-none, after-more, after-all, count-added}
+use Rattle.reader.proofs.RuleLaws.{Done, done-none, done-fault, done-more, done-all}
+use Rattle.marking.specs.declared.rule.Oriented.{Oriented}
+use Rattle.marking.specs.declared.rule.RuleReading.the-variants.{Got}
+use Rattle.marking.specs.Rule.{OrientsRead}
+use Rattle.marking.proofs.RuleLaws.{sidesThemselves, fault-unread, got-same, count-added}
 
 module _ (source : Source) (σ : Signature) where
   -- The line of one rule, by the node words of its sides.
@@ -46,49 +50,46 @@ module _ (source : Source) (σ : Signature) where
       ap (λ (l : List ℕ). sidesLine n s ++ l) (lines-snoc (suc n) done r ∙ rw e)
       ∙ sym (append-assoc (sidesLine n s) (sidesLines σ (suc n) done) (sidesLine (suc (length done) + n) r))
 
-  -- Of every reading of all rules: some are done, with so many decreasing, and their lines written.
+  -- Some rules are done, with so many decreasing, and their lines written.
   abbrev pub WrittenSoFar : ℕ → ℕ → List ℕ → ℕ → ℕ → ℕ → ℕ → ℕ → List ℕ → Type 0
   WrittenSoFar count start out₀ end₀ i at decreasing end out =
-      (rules : List Sides) (last : ℕ) → rulesReader source σ count start ≡ got rules last →
-      (done : List Sides) × After source σ rules last count i at done × (length done ≡ i)
+      (done : List Sides) × Done source σ count start i at done × (length done ≡ i)
       × (decreasing ≡ decreasingCount (sidesMarks σ done)) × Put out₀ end₀ (sidesLines σ 0 done) end out
 
   pub written-none : (count start : ℕ) (out₀ : List ℕ) (end₀ : ℕ) → WrittenSoFar count start out₀ end₀ 0 start 0 end₀
       out₀
-  written-none count start out₀ end₀ rules last e =
-      ([], after-none source σ rules last count start e, refl, refl, (sym (add-zero end₀), refl))
+  written-none count start out₀ end₀ = ([], done-none source σ count start, refl, refl, (sym (add-zero end₀), refl))
 
-  pub written-more : (count start : ℕ) (out₀ : List ℕ) (end₀ i at decreasing end : ℕ) (out : List ℕ) →
-      WrittenSoFar count start out₀ end₀ i at decreasing end out → i < count → (m left right next n : ℕ) →
-      ((r : Sides) (last : ℕ) → ruleReader source σ at ≡ got r last →
-      (m ≡ mark σ (termOf σ (r .left)) (termOf σ (r .right))) × (left ≡ weight σ (termOf σ (r .left)))
-      × (right ≡ weight σ (termOf σ (r .right))) × (next ≡ last)) → n ≡ decreasingCount (m ∷ []) →
-      (after : ℕ) (out' : List ℕ) →
-      Put out end (line (decimal i ∷ decimal m ∷ signedDecimal (subℕ left right) ∷ [])) after out' →
-      WrittenSoFar count start out₀ end₀ (i + 1) next (decreasing + n) after out'
-  written-more count start out₀ end₀ i at decreasing end out so h m left right next n step one after out' p rules last e
-      =
-      let (done, a, l, d, w) = so rules last e in
-      let (r, stop, f, b) = after-more source σ rules last count i at done a h in
-      let (x, y, z, v) = step r stop f in
-      let k : length done + 0 ≡ i = add-zero (length done) ∙ l in
-      let (c, q) = count-added source σ i decreasing m n done r l d x one in (
-        done ++ (r ∷ []),
-        rw v b,
-        c,
-        q,
-        rw (lines-snoc 0 done r, k, ← x, ← y, ← z)
-            (put-append out₀ end₀ (sidesLines σ 0 done) _ end out after out' w p),
-      )
+  module _ (count start : ℕ) (out₀ : List ℕ) (end₀ i at decreasing end : ℕ) (out : List ℕ)
+      (so : WrittenSoFar count start out₀ end₀ i at decreasing end out) where
+    pub written-fault : {A : Type 0} → i < count → (code offset : ℕ) → ruleReader source σ at ≡ fault code offset →
+        (rules : List Sides) (last : ℕ) → rulesReader source σ count start ≡ got rules last → A
+    written-fault h code offset e rules last f =
+        absurd (fault-unread code offset (sym (done-fault source σ count start i at (so .0) (so .1) h code offset e) ∙ f))
 
-  pub written-all : (count start : ℕ) (out₀ : List ℕ) (end₀ i at decreasing end : ℕ) (out : List ℕ) →
-      WrittenSoFar count start out₀ end₀ i at decreasing end out → count ≤ i → (rules : List Sides) (last : ℕ) →
-      rulesReader source σ count start ≡ got rules last →
-      (decreasing ≡ decreasingCount (sidesMarks σ rules)) × Put out₀ end₀ (sidesLines σ 0 rules) end out
-  written-all count start out₀ end₀ i at decreasing end out so h rules last e =
-      let (done, a, l, d, w) = so rules last e in
-      let s = after-all source σ rules last count i at done a h in
-      rw s (d, w)
+    pub written-more : i < count → (n m : ℕ) (o : Oriented) → m ≡ o .mark →
+        OrientsRead σ sidesThemselves (ruleReader source σ at) (Got o) → n ≡ decreasingCount (o .mark ∷ []) →
+        (after : ℕ) (out' : List ℕ) →
+        Put out end (line (decimal i ∷ decimal m ∷ signedDecimal (subℕ (o .left) (o .right)) ∷ [])) after out' →
+        WrittenSoFar count start out₀ end₀ (i + 1) (o .next .at) (decreasing + n) after out'
+    written-more h n m o same (r, e, x) one after out' p =
+        let (done, d, l, c, w) = so in
+        let k : length done + 0 ≡ i = add-zero (length done) ∙ l in
+        let (f, q) = count-added source σ i decreasing (o .mark) n done r l c (x .mark) one in (
+          done ++ (r ∷ []),
+          done-more source σ count start i at done d h r (o .next .at) e,
+          f,
+          q,
+          rw (lines-snoc 0 done r, k, ← x .mark, ← same, ← x .left, ← x .right)
+              (put-append out₀ end₀ (sidesLines σ 0 done) _ end out after out' w p),
+        )
+
+    pub written-all : count ≤ i → (rules : List Sides) (last : ℕ) → rulesReader source σ count start ≡ got rules last →
+        (decreasing ≡ decreasingCount (sidesMarks σ rules)) × Put out₀ end₀ (sidesLines σ 0 rules) end out
+    written-all h rules last e =
+        let (done, d, l, c, w) = so in
+        let s : rules ≡ done = got-same (sym e ∙ done-all source σ count start i at done d h) .0 in
+        rw s (c, w)
 
 -- ---- the last two lines
 

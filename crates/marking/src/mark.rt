@@ -1,28 +1,48 @@
 // Marking the rules of a packed file.
 ghost use mathlib.Core.Path.{_≡_};
-ghost use mathlib.Core.List.{List, [], _∷_};
-ghost use Prim.Native.Nat.{ℕ, _*_, _≤_, _<_};
+ghost use mathlib.Core.List.{[], _∷_};
+ghost use Prim.Native.Nat.{_*_, _≤_, _<_};
 ghost use lib.ListN.{length};
 ghost use lib.Seq.{sets};
 ghost use Rattle.format.specs.Layout.{maxBytes};
 ghost use Rattle.format.specs.Reading.{bitSource};
-ghost use Rattle.format.specs.Reading.Reading.{got};
-ghost use Rattle.format.specs.Format.{Sides, rulesReader};
+ghost use Rattle.format.specs.Format.{rulesReader};
+ghost use Rattle.format.specs.Files.{readBytes};
+ghost use Rattle.format.specs.Replies.Reply.{refused as refusedOf};
 ghost use Rattle.symbols.specs.Table.{signatureOf};
+ghost use Rattle.symbols.specs.Arities.{Arities};
+ghost use Rattle.reader.specs.File.{restReader};
 ghost use Rattle.marking.specs.Marking.{decreasingCount, scoreOf, marked};
-ghost use Rattle.marking.specs.Rule.{IsTable, sidesMarks};
+ghost use Rattle.marking.specs.Rule.{IsTable, MarksRead, MarkedWithin};
 ghost use Rattle.marking.specs.Reply.{replyOf};
+use crate::rule::RuleReading;
 use crate::rule::orient;
 use bits::BitCursor;
 use decoder::Error;
-use reader::file::File;
+use reader::file::Head;
 use reader::file::TABLE_WORDS;
-use reader::file::read_file;
+use reader::file::read_head;
 
 // The counts of rules and of those that decrease, and the score; or why nothing was marked.
 pub enum MarkReply {
     Accepted(usize, usize, usize),
     Refused(Error),
+}
+
+// How many rules decrease and the cursor past them, or an error's code and offset.
+pub enum RulesMarked {
+    Marked(usize, BitCursor),
+    Fault(u8, usize),
+}
+
+fn refused(code: u8, input: u8, offset: usize) -> MarkReply
+    ensures { λ r. ⌜ replyOf r ≡ refusedOf (record { code = code; input = input; offset = offset }) ⌝ }
+{
+    MarkReply::Refused(Error {
+        code,
+        input,
+        offset,
+    })
 }
 
 // 1 for a mark of the order, 0 for another.
@@ -51,35 +71,86 @@ pub fn score(decreasing: usize, rules: usize) -> usize
     100 * decreasing / rules
 }
 
-// Marks that many rules from the cursor on, and counts those that decrease.
+// Reads that many rules, marks them and counts those that decrease.
 fn mark_rules(
     book: &[u8],
     table: &[u16],
+    arities: &[u32; 272],
     marks: &mut [u8],
     count: usize,
     cursor: BitCursor,
-) -> usize
-    requires { ⌜ (length (now book) ≤ maxBytes) × IsTable (now table) × (count ≤ length (now marks)) × (count < 1024) ⌝ }
+) -> RulesMarked
+    requires { ⌜ (length (now book) ≤ maxBytes) × (cursor .at ≤ 8 * length (now book)) ⌝ }
+    requires { ⌜ IsTable (now table) × Arities (signatureOf (now table)) (now arities) ⌝ }
+    requires { ⌜ (count ≤ length (now marks)) × (count < 1024) ⌝ }
     ensures { λ r. ⌜
-        ((rules : List Sides) (end : ℕ)
-        → rulesReader (bitSource (now (book .entry))) (signatureOf (now (table .entry))) count (cursor .at)
-        ≡ got rules end
-        → (r ≡ decreasingCount (sidesMarks (signatureOf (now (table .entry))) rules))
-        × (now (marks .exit) ≡ sets (now (marks .entry)) 0 (sidesMarks (signatureOf (now (table .entry))) rules)))
+        MarksRead (signatureOf (now (table .entry)))
+        (rulesReader (bitSource (now (book .entry))) (signatureOf (now (table .entry))) count (cursor .at))
+        (now (marks .entry)) r (now (marks .exit))
         ⌝ }
-    ensures { λ r. ⌜ r ≤ count ⌝ }
+    ensures { λ r. ⌜ MarkedWithin count (8 * length (now (book .entry))) r ⌝ }
 {
     let mut here = cursor;
     let mut decreasing = 0;
     let mut i = 0;
     while i < count {
-        let rule = orient(book, table, here);
-        marks[i] = rule.mark;
-        decreasing += decreases(rule.mark);
-        here = rule.next;
+        match orient(book, table, arities, here) {
+            RuleReading::Fault(code, offset) => return RulesMarked::Fault(code, offset),
+            RuleReading::Got(rule) => {
+                marks[i] = rule.mark;
+                decreasing += decreases(rule.mark);
+                here = rule.next;
+            }
+        }
         i += 1;
     }
-    decreasing
+    RulesMarked::Marked(decreasing, here)
+}
+
+// Stores the marks at the front.
+fn put_marks(marks: &mut [u8], found: &[u8])
+    requires { ⌜ length (now found) ≤ length (now marks) ⌝ }
+    ensures { λ _. ⌜ now (marks .exit) ≡ sets (now (marks .entry)) 0 (now (found .entry)) ⌝ }
+{
+    let mut i = 0;
+    while i < found.len() {
+        marks[i] = found[i];
+        i += 1;
+    }
+}
+
+// Marks the rules under a symbol table. The marks are kept elsewhere until the last fault is known.
+fn mark_under(
+    book: &[u8],
+    table: &[u16],
+    marks: &mut [u8],
+    count: usize,
+    cursor: BitCursor,
+) -> MarkReply
+    requires { ⌜ (length (now book) ≤ maxBytes) × (cursor .at ≤ 8 * length (now book)) ⌝ }
+    requires { ⌜ IsTable (now table) × (count < 1024) ⌝ }
+    ensures { λ r. ⌜
+        (readBytes (now (book .entry))
+        ≡ restReader (now (book .entry)) (signatureOf (now (table .entry))) count (cursor .at)
+        → (replyOf r ≡ marked (now (book .entry)) (now (marks .entry)) .reply)
+        × (now (marks .exit) ≡ marked (now (book .entry)) (now (marks .entry)) .output))
+        ⌝ }
+{
+    let arities = symbols::arities(table);
+    let mut found = [0u8; 1023];
+    match mark_rules(book, table, &arities, &mut found, count, cursor) {
+        RulesMarked::Fault(code, offset) => refused(code, 0, offset),
+        RulesMarked::Marked(decreasing, end) => {
+            if !end.is_padding(book) {
+                return refused(11, 0, end.at);
+            }
+            if marks.len() < count {
+                return refused(12, 1, 0);
+            }
+            put_marks(marks, &found[..count]);
+            MarkReply::Accepted(count, decreasing, score(decreasing, count))
+        }
+    }
 }
 
 // Marks the rules of a packed file, a byte for each at the front of the marks.
@@ -88,23 +159,11 @@ pub fn mark(book: &[u8], marks: &mut [u8]) -> MarkReply
     ensures { λ _. ⌜ now (marks .exit) ≡ marked (now (book .entry)) (now (marks .entry)) .output ⌝ }
 {
     let mut table = [0u16; TABLE_WORDS];
-    match read_file(book, &mut table) {
-        File::Fault(code, offset) => MarkReply::Refused(Error {
-            code,
-            input: 0,
-            offset,
-        }),
-        File::Read(symbol_count, rule_count, _, cursor) => {
-            if marks.len() < rule_count {
-                return MarkReply::Refused(Error {
-                    code: 12,
-                    input: 1,
-                    offset: 0,
-                });
-            }
-            let front = 1 + 4 * symbol_count;
-            let decreasing = mark_rules(book, &table[..front], marks, rule_count, cursor);
-            MarkReply::Accepted(rule_count, decreasing, score(decreasing, rule_count))
+    match read_head(book, &mut table) {
+        Head::Fault(code, offset) => refused(code, 0, offset),
+        Head::Read(symbols, rules, cursor) => {
+            let front = 1 + 4 * symbols;
+            mark_under(book, &table[..front], marks, rules, cursor)
         }
     }
 }

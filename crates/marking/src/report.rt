@@ -8,6 +8,7 @@ ghost use Rattle.format.specs.Reading.{bitSource};
 ghost use Rattle.format.specs.Reading.Reading.{got};
 ghost use Rattle.format.specs.Format.{Sides, rulesReader};
 ghost use Rattle.symbols.specs.Table.{signatureOf};
+ghost use Rattle.symbols.specs.Arities.{Arities};
 ghost use Rattle.text.specs.Put.{Put};
 ghost use Rattle.marking.specs.Marking.{decreasingCount, scoreOf};
 ghost use Rattle.marking.specs.Report.{summaryLines, report as reportOf};
@@ -17,6 +18,7 @@ use crate::lines::put_refusal;
 use crate::lines::put_rule;
 use crate::mark::decreases;
 use crate::mark::score;
+use crate::rule::RuleReading;
 use crate::rule::orient;
 use bits::BitCursor;
 use reader::file::File;
@@ -39,12 +41,15 @@ fn long(byte: u8) -> u64
 fn put_rules(
     book: &[u8],
     table: &[u16],
+    arities: &[u32; 272],
     out: &mut [u8],
     at: usize,
     count: usize,
     cursor: BitCursor,
 ) -> Lines
-    requires { ⌜ (length (now book) ≤ maxBytes) × IsTable (now table) × (at < 2 ^ 20) × (count < 1024) ⌝ }
+    requires { ⌜ (length (now book) ≤ maxBytes) × (cursor .at ≤ 8 * length (now book)) ⌝ }
+    requires { ⌜ IsTable (now table) × Arities (signatureOf (now table)) (now arities) ⌝ }
+    requires { ⌜ (at < 2 ^ 20) × (count < 1024) ⌝ }
     ensures { λ r. ⌜
         ((rules : List Sides) (end : ℕ)
         → rulesReader (bitSource (now (book .entry))) (signatureOf (now (table .entry))) count (cursor .at)
@@ -59,10 +64,14 @@ fn put_rules(
     let mut decreasing = 0;
     let mut i = 0;
     while i < count {
-        let rule = orient(book, table, here);
-        end = put_rule(out, end, i as u64, long(rule.mark), rule.left, rule.right);
-        decreasing += decreases(rule.mark);
-        here = rule.next;
+        match orient(book, table, arities, here) {
+            RuleReading::Fault(_, _) => return Lines { end, decreasing },
+            RuleReading::Got(rule) => {
+                end = put_rule(out, end, i as u64, long(rule.mark), rule.left, rule.right);
+                decreasing += decreases(rule.mark);
+                here = rule.next;
+            }
+        }
         i += 1;
     }
     Lines { end, decreasing }
@@ -92,12 +101,22 @@ pub fn report(book: &[u8], out: &mut [u8]) -> usize
     ensures { λ r. ⌜ r ≤ 65536 ⌝ }
 {
     let mut table = [0u16; TABLE_WORDS];
-    match read_file(book, &mut table) {
+    let mut nothing = [0u16; 1];
+    match read_file(book, &mut table, &mut nothing) {
         File::Fault(code, offset) => put_refusal(out, long(code), offset as u64),
         File::Read(symbol_count, rule_count, _, cursor) => {
             let start = put_count(out, 0, b"rules", rule_count as u64);
             let front = 1 + 4 * symbol_count;
-            let lines = put_rules(book, &table[..front], out, start, rule_count, cursor);
+            let arities = symbols::arities(&table[..front]);
+            let lines = put_rules(
+                book,
+                &table[..front],
+                &arities,
+                out,
+                start,
+                rule_count,
+                cursor,
+            );
             put_summary(out, lines.end, lines.decreasing, rule_count)
         }
     }

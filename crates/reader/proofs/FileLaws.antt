@@ -3,7 +3,7 @@
 --     rules-length                                 as many rules as were asked for
 --     unpacked-parts, unpacked-length              the words of a file
 --     symbols-fault, head-read                     what follows a header
---     rules-fault, padding-fault, rest-read        what follows the symbols
+--     rest-unread, rest-unpadded, rest-padded, rest-read     what follows the symbols
 --     rest-fault, file-read                        the whole
 use mathlib.Core.Path.{_≡_, refl, sym, ap, _∙_}
 use mathlib.Core.List.{List, [], _∷_, _++_, map, flatMap}
@@ -173,22 +173,27 @@ module _ (bytes : List ℕ) (w0 symbols rules at : ℕ) where
 
 -- ---- after the symbols
 
-module _ (bytes : List ℕ) (σ : Signature) (count at : ℕ) (before after : List ℕ) where
-  pub rules-fault : (code offset : ℕ) → rulesReader (bitSource bytes) σ count at ≡ fault code offset →
-      RestRead bytes σ count at (Fault code offset) before after
+module _ (bytes : List ℕ) (σ : Signature) (count at : ℕ) where
+  pub rest-unread : (code offset : ℕ) → rulesReader (bitSource bytes) σ count at ≡ fault code offset →
+      restReader bytes σ count at ≡ fault code offset
   unfolding restReader
-  rules-fault code offset e = rw e
+  rest-unread code offset e = rw e
 
-  module _ (nodes : ℕ) (next : BitCursor) (read : WordsRead rulesWords (rulesReader (bitSource bytes) σ count at) 0
-      before (Past nodes next) after) where
-    pub padding-fault : isPadding bytes (next .at) ≡ false →
-        RestRead bytes σ count at (Fault badPadding (next .at)) before after
+  module _ (rules : List Sides) (next : ℕ) (e : rulesReader (bitSource bytes) σ count at ≡ got rules next) where
+    pub rest-unpadded : isPadding bytes next ≡ false → restReader bytes σ count at ≡ fault badPadding next
     unfolding restReader paddingReader
-    padding-fault e = rw (read .1, e)
+    rest-unpadded p = rw (e, p)
 
-    pub rest-read : isPadding bytes (next .at) ≡ true → RestRead bytes σ count at (Past nodes next) before after
+    pub rest-padded : isPadding bytes next ≡ true →
+        restReader bytes σ count at ≡ got (record { signature = σ; rules = rules }) next
     unfolding restReader paddingReader
-    rest-read e = (read .0, read .1, rw (read .1, e), omega (arith, read .2), read .3)
+    rest-padded p = rw (e, p)
+
+  pub rest-read : (nodes : ℕ) (next : BitCursor) (before after : List ℕ) →
+      WordsRead rulesWords (rulesReader (bitSource bytes) σ count at) 0 before (Past nodes next) after →
+      isPadding bytes (next .at) ≡ true → RestRead bytes σ count at (Past nodes next) before after
+  rest-read nodes next before after (rules, e, long, stored) p =
+      (rules, e, rest-padded rules (next .at) e p, omega (arith, long), stored)
 
 -- ---- the whole
 

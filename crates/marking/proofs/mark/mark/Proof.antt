@@ -1,117 +1,79 @@
-use mathlib.Core.Path.{_≡_, sym, _∙_}
+use mathlib.Core.Path.{sym, _∙_}
 use native.Mathlib.Omega.{arith}
-use lib.ListN.{length}
 use lib.Seq.{length-take-le}
-use Rattle.marking.proofs.MarkLaws.{table-of, mark-fault, mark-short, mark-written}
+use Rattle.marking.proofs.MarkLaws.{table-of, mark-fault}
 use borrow.Author.Needs.{needs}
 use Rattle.marking.proofs.mark.mark.Statement.{statement}
 use Rattle.marking.proofs.mark.mark.Tie as tie
 
-slice-aggregate-read-file : tie.Need-slice-aggregate-read-file
-slice-aggregate-read-file c = search needs
+slice-aggregate-read-head : tie.Need-slice-aggregate-read-head
+slice-aggregate-read-head c = search needs
 
-read-file-requires : tie.Need-read-file-requires
-read-file-requires c κs = search needs
+read-head-requires : tie.Need-read-head-requires
+read-head-requires c κs = search needs
 
 enum-known-code : tie.Need-enum-known-code
 enum-known-code c = search needs
 
-enum-known-symbol-count : tie.Need-enum-known-symbol-count
-enum-known-symbol-count c = search needs
+refused-requires : tie.Need-refused-requires
+refused-requires c κs = search needs
 
-returns : tie.Need-returns
-returns c =
-    let (file, end, read, parts) = (rw (c .before .before .symbol-count .given .1) at
-    (c .before .before .before .before .before .read-file .ensures)) in
-    mark-short (c .before .before .before .before .before .before .before .before .before .args .book .now)
-    (c .before .before .before .before .before .before .before .before .before .args .marks .now) file end read
-    (omega (arith, parts .ruleCount))
+enum-known-symbols : tie.Need-enum-known-symbols
+enum-known-symbols c = search needs
 
 mul-front : tie.Need-mul-front
 mul-front c =
-    let (file, end, read, parts) = (rw (c .before .before .symbol-count .given .1) at
-    (c .before .before .before .before .before .read-file .ensures)) in
-    omega (arith, parts .fewSymbols)
+    let head = rw (c .before .symbols .given .1) at (c .before .before .before .before .read-head .ensures) in
+    omega (arith, head .1 .fewSymbols)
 
 add-front : tie.Need-add-front
 add-front c =
-    let (file, end, read, parts) = (rw (c .before .before .symbol-count .given .1) at
-    (c .before .before .before .before .before .read-file .ensures)) in
-    omega (arith, parts .fewSymbols)
+    let head = rw (c .before .symbols .given .1) at (c .before .before .before .before .read-head .ensures) in
+    omega (arith, head .1 .fewSymbols)
 
 array-share-prefix-table : tie.Need-array-share-prefix-table
 array-share-prefix-table c =
-    let (file, end, read, parts) = (rw (c .before .before .symbol-count .given .1) at
-    (c .before .before .before .before .before .read-file .ensures)) in
-    let n : length (c .before .before .before .before .before .read-file .last .1 .0) ≡ 1021 =
-    c .before .before .before .before .before .read-file .kept .1 .0 in
-    omega (arith, parts .fewSymbols)
+    let head = rw (c .before .symbols .given .1) at (c .before .before .before .before .read-head .ensures) in
+    omega (arith, head .1 .fewSymbols, c .before .before .before .before .read-head .kept .1 .0)
 
-slice-aggregate-mark-rules : tie.Need-slice-aggregate-mark-rules
-slice-aggregate-mark-rules c =
-    let (file, end, read, parts) = (rw (c .before .before .before .symbol-count .given .1) at
-    (c .before .before .before .before .before .before .read-file .ensures)) in
-    let n : length (c .before .before .before .before .before .before .read-file .last .1 .0) ≡ 1021 =
-    c .before .before .before .before .before .before .read-file .kept .1 .0 in
-    sym (length-take-le _ (c .before .before .before .before .before .before .read-file .last .1 .0)
-    (omega (arith, parts .fewSymbols)))
+slice-aggregate-mark-under : tie.Need-slice-aggregate-mark-under
+slice-aggregate-mark-under c =
+    let head = rw (c .before .before .symbols .given .1) at (c .before .before .before .before .before .read-head .ensures) in
+    sym (length-take-le _ (c .before .before .before .before .before .read-head .last .1 .0) (omega (arith, head .1 .fewSymbols, c .before .before .before .before .before .read-head .kept .1 .0)))
 
-mark-rules-requires : tie.Need-mark-rules-requires
-mark-rules-requires c κs =
-    let (file, end, read, parts) = (rw (c .before .before .before .before .symbol-count .given .1) at
-    (c .before .before .before .before .before .before .before .read-file .ensures)) in
-    let n : length (c .before .before .before .before .before .before .before .read-file .last .1 .0) ≡ 1021 =
-    c .before .before .before .before .before .before .before .read-file .kept .1 .0 in (
-      parts .short,
-      table-of
-          (c .before .before .before .before .before .before .before .before .before .before .before .args .book .now) _
-          file end _ _ _ _ (sym n) read parts,
-      omega arith,
-      parts .fewRules,
-    )
+mark-under-requires : tie.Need-mark-under-requires
+mark-under-requires c κs =
+    let head = rw (c .before .before .before .symbols .given .1) at (c .before .before .before .before .before .before .read-head .ensures) in
+    ((head .1 .short, head .1 .within), (table-of (c .before .before .before .before .before .before .before .before .before .before .args .book .now) _ _ _ _ (sym (c .before .before .before .before .before .before .read-head .kept .1 .0)) (head .1), head .1 .fewRules))
 
-score-requires : tie.Need-score-requires
-score-requires c κs =
-    let (file, end, read, parts) =
-    (rw (c .before .before .before .before .before .before .before .symbol-count .given .1) at
-    (c .before .before .before .before .before .before .before .before .before .before .read-file .ensures)) in
-    omega (arith, parts .fewRules, c .before .before .mark-rules .ensures .1)
-
-returns-2 : tie.Need-returns-2
-returns-2 c =
-    mark-fault (c .before .before .before .before .before .before .before .before .args .book .now)
-    (c .before .before .before .before .before .before .before .before .args .marks .now) _ _
-    (rw (c .before .code .given .1) at (c .before .before .before .before .read-file .ensures))
+returns : tie.Need-returns
+returns c =
+    let a = c .before .before .before .before .before .before .before .before .before .args in
+    let (reply, output) = mark-fault (a .book .now) (a .marks .now) _ _ (rw (c .before .before .code .given .1) at (c .before .before .before .before .before .read-head .ensures)) in
+    (c .refused .ensures ∙ reply, output)
 
 same-length : tie.Need-same-length
 same-length c = search needs
 
-returns-3 : tie.Need-returns-3
-returns-3 c =
-    let (file, end, read, parts) =
-    (rw (c .before .before .before .before .before .before .before .before .symbol-count .given .1) at
-    (c .before .before .before .before .before .before .before .before .before .before .before .read-file .ensures)) in
-    let (d, w) = c .before .before .before .mark-rules .ensures .0 (file .rules) (parts .end)
-    (rw (parts .signature) (parts .rulesRead)) in
-    mark-written
-    (c .before .before .before .before .before .before .before .before .before .before .before .before .before .before .before .args .book .now) (c .before .before .before .before .before .before .before .before .before .before .before .before .before .before .before .args .marks .now) file end read _ _ _ _ (parts .ruleCount) (c .before .before .before .before .before .before .if1 .left)
-    (d ∙ rw (parts .signature)) (c .score .ensures .0) (w ∙ rw (parts .signature))
+returns-2 : tie.Need-returns-2
+returns-2 c =
+    let head = rw (c .before .before .before .before .before .before .symbols .given .1) at (c .before .before .before .before .before .before .before .before .before .read-head .ensures) in
+    c .before .before .mark-under .ensures (head .0)
 
 pub mark-spec : {M : Type 1} → statement M
 mark-spec =
     tie.close
     (tie.spec
-    slice-aggregate-read-file
-    read-file-requires
+    slice-aggregate-read-head
+    read-head-requires
     enum-known-code
-    enum-known-symbol-count
-    returns
+    refused-requires
+    enum-known-symbols
     mul-front
     add-front
     array-share-prefix-table
-    slice-aggregate-mark-rules
-    mark-rules-requires
-    score-requires
-    returns-2
+    slice-aggregate-mark-under
+    mark-under-requires
+    returns
     same-length
-    returns-3)
+    returns-2)

@@ -1,21 +1,21 @@
-use mathlib.Core.Path.{_≡_, refl, _∙_}
-use Prim.Native.Nat.{_-_, _≤_}
+use mathlib.Core.Path.{_≡_, refl}
+use Prim.Native.Nat.{_-_, _*_, _≤_}
 use native.Mathlib.Omega.{arith}
 use lib.ListN.{length, length-set}
 use Rattle.format.specs.Reading.{bitSource}
 use Rattle.symbols.specs.Table.{signatureOf}
-use Rattle.marking.proofs.RuleLaws.{MarkedSoFar, marked-none, marked-more, marked-all}
+use Rattle.marking.proofs.RuleLaws.{MarkedSoFar, marked-none, marked-fault, marked-more, marked-all}
 use borrow.Author.Needs.{needs}
 use Rattle.marking.proofs.mark.mark_rules.Statement.{statement}
 use Rattle.marking.proofs.mark.mark_rules.Tie as tie
 
 abbrev Inv-loop : tie.InvT-loop
-Inv-loop book table marks₀ count here₀ decreasing₀ i₀ marks here decreasing i =
-    (i ≤ count) × (decreasing ≤ i) × (length marks ≡ length marks₀)
+Inv-loop book table arities marks₀ count here₀ decreasing₀ i₀ marks here decreasing i =
+    (i ≤ count) × (decreasing ≤ i) × (length marks ≡ length marks₀) × (here .at ≤ 8 * length book)
     × MarkedSoFar (bitSource book) (signatureOf table) count (here₀ .at) marks₀ i (here .at) decreasing marks
 
 abbrev μ-loop : tie.MeasureT-loop
-μ-loop book table marks₀ count here₀ decreasing₀ i₀ marks here decreasing i = count - i
+μ-loop book table arities marks₀ count here₀ decreasing₀ i₀ marks here decreasing i = count - i
 
 loop-holds : tie.Need-loop-holds Inv-loop μ-loop
 loop-holds c =
@@ -23,11 +23,30 @@ loop-holds c =
       omega arith,
       omega arith,
       refl,
+      c .before .before .before .pre .0 .1,
       marked-none (bitSource (a .book .now)) (signatureOf (a .table .now)) (a .count) (a .cursor .at) (a .marks .now),
     )
 
 orient-requires : tie.Need-orient-requires Inv-loop μ-loop
-orient-requires c κs = search needs
+orient-requires c κs = ((c .before .before .before .before .before .pre .0 .0, c .before .loop .inv .3), c .before .before .before .before .before .pre .1 .0)
+
+enum-known-code : tie.Need-enum-known-code Inv-loop μ-loop
+enum-known-code c = search needs
+
+same-length : tie.Need-same-length Inv-loop μ-loop
+same-length c = c .before .before .before .before .before .loop .inv .2
+
+returns : tie.Need-returns Inv-loop μ-loop
+returns c =
+    let a = c .before .before .before .before .before .before .before .before .before .args in
+    let l = c .before .before .before .before .before .loop in (
+      marked-fault (bitSource (a .book .now)) (signatureOf (a .table .now)) (a .count) (a .cursor .at) (a .marks .now) (l .i) (l .here .at) (l .decreasing) (l .marks) (l .inv .4) (c .before .before .before .before .loop-test .taken) _ _ (l .marks)
+          (rw (c .before .code .given .1) at (c .before .before .before .orient .ensures .0)),
+      tt,
+    )
+
+enum-known-rule : tie.Need-enum-known-rule Inv-loop μ-loop
+enum-known-rule c = search needs
 
 slice-write-marks : tie.Need-slice-write-marks Inv-loop μ-loop
 slice-write-marks c = search needs
@@ -46,31 +65,25 @@ loop-less c = search needs
 
 loop-again : tie.Need-loop-again Inv-loop μ-loop
 loop-again c =
-    let a = c .before .before .before .before .before .before .before .before .args in
-    let l = c .before .before .before .before .loop in (
+    let a = c .before .before .before .before .before .before .before .before .before .before .before .args in
+    let l = c .before .before .before .before .before .before .before .loop in
+    let within = rw (c .before .before .before .rule .given .1) at (c .before .before .before .before .before .orient .ensures .1) in (
       omega arith,
       omega (arith, c .before .decreases .ensures .1),
-      length-set (l .marks) (l .i)
-          (c .before .before .orient .result .mark) ∙ l .inv .2,
-      marked-more (bitSource (a .book .now)) (signatureOf (a .table .now)) (a .count) (a .cursor .at) (a .marks .now)
-          (l .i)
-          (l .here .at) (l .decreasing) (l .marks) (l .inv .3) (c .before .before .before .loop-test .taken) _ _ _
-          (λ r end e. let o = c .before .before .orient .ensures .0 r end e in (o .mark, o .next))
-          (c .before .decreases .ensures .0),
+      simp length-set (l .inv .2),
+      within .2,
+      marked-more (bitSource (a .book .now)) (signatureOf (a .table .now)) (a .count) (a .cursor .at) (a .marks .now) (l .i) (l .here .at) (l .decreasing) (l .marks) (l .inv .4) (c .before .before .before .before .before .before .loop-test .taken) _ (c .before .before .before .rule .given .0 .0)
+          (rw (c .before .before .before .rule .given .1) at (c .before .before .before .before .before .orient .ensures .0)) (c .before .decreases .ensures .0),
     )
 
-same-length : tie.Need-same-length Inv-loop μ-loop
-same-length c = c .before .loop .inv .2
+same-length-2 : tie.Need-same-length-2 Inv-loop μ-loop
+same-length-2 c = c .before .loop .inv .2
 
-returns : tie.Need-returns Inv-loop μ-loop
-returns c =
+returns-2 : tie.Need-returns-2 Inv-loop μ-loop
+returns-2 c =
     let a = c .before .before .before .before .before .args in
-    let l = c .before .loop in (
-      marked-all (bitSource (a .book .now)) (signatureOf (a .table .now)) (a .count) (a .cursor .at) (a .marks .now)
-          (l .i)
-          (l .here .at) (l .decreasing) (l .marks) (l .inv .3) (c .loop-test .left),
-      omega arith,
-    )
+    let l = c .before .loop in
+    (marked-all (bitSource (a .book .now)) (signatureOf (a .table .now)) (a .count) (a .cursor .at) (a .marks .now) (l .i) (l .here .at) (l .decreasing) (l .marks) (l .inv .4) (c .loop-test .left) (l .here) refl, (omega arith, l .inv .3))
 
 pub mark-rules-spec : {M : Type 1} → statement M
 mark-rules-spec =
@@ -80,11 +93,15 @@ mark-rules-spec =
     μ-loop
     loop-holds
     orient-requires
+    enum-known-code
+    same-length
+    returns
+    enum-known-rule
     slice-write-marks
     decreases-requires
     add-decreasing
     add-i
     loop-less
     loop-again
-    same-length
-    returns)
+    same-length-2
+    returns-2)

@@ -4,18 +4,18 @@ use native.Mathlib.Omega.{arith}
 use lib.ListN.{length}
 use Rattle.format.specs.Reading.{bitSource}
 use Rattle.symbols.specs.Table.{signatureOf}
-use Rattle.marking.proofs.ReportLaws.{WrittenSoFar, written-none, written-more, written-all}
+use Rattle.marking.proofs.ReportLaws.{WrittenSoFar, written-none, written-fault, written-more, written-all}
 use borrow.Author.Needs.{needs}
 use Rattle.marking.proofs.report.put_rules.Statement.{statement}
 use Rattle.marking.proofs.report.put_rules.Tie as tie
 
 abbrev Inv-loop : tie.InvT-loop
-Inv-loop book table out₀ at count here₀ end₀ decreasing₀ i₀ out here end decreasing i =
-    (i ≤ count) × (decreasing ≤ i) × (end ≤ at + 41 * i) × (length out ≡ length out₀)
+Inv-loop book table arities out₀ at count here₀ end₀ decreasing₀ i₀ out here end decreasing i =
+    (i ≤ count) × (decreasing ≤ i) × (end ≤ at + 41 * i) × (length out ≡ length out₀) × (here .at ≤ 8 * length book)
     × WrittenSoFar (bitSource book) (signatureOf table) count (here₀ .at) out₀ at i (here .at) decreasing end out
 
 abbrev μ-loop : tie.MeasureT-loop
-μ-loop book table out₀ at count here₀ end₀ decreasing₀ i₀ out here end decreasing i = count - i
+μ-loop book table arities out₀ at count here₀ end₀ decreasing₀ i₀ out here end decreasing i = count - i
 
 loop-holds : tie.Need-loop-holds Inv-loop μ-loop
 loop-holds c =
@@ -24,18 +24,38 @@ loop-holds c =
       omega arith,
       omega arith,
       refl,
-      written-none (bitSource (a .book .now)) (signatureOf (a .table .now)) (a .count) (a .cursor .at) (a .out .now)
-          (a .at),
+      c .before .before .before .pre .0 .1,
+      written-none (bitSource (a .book .now)) (signatureOf (a .table .now)) (a .count) (a .cursor .at) (a .out .now) (a .at),
     )
 
 orient-requires : tie.Need-orient-requires Inv-loop μ-loop
-orient-requires c κs = search needs
+orient-requires c κs = ((c .before .before .before .before .before .pre .0 .0, c .before .loop .inv .4), c .before .before .before .before .before .pre .1 .0)
+
+enum-told : tie.Need-enum-told Inv-loop μ-loop
+enum-told c = search needs
+
+same-length : tie.Need-same-length Inv-loop μ-loop
+same-length c = c .before .before .before .before .loop .inv .3
+
+returns : tie.Need-returns Inv-loop μ-loop
+returns c =
+    let a = c .before .before .before .before .before .before .before .before .args in
+    let l = c .before .before .before .before .loop in (
+      λ rules last f. written-fault (bitSource (a .book .now)) (signatureOf (a .table .now)) (a .count) (a .cursor .at) (a .out .now) (a .at) (l .i) (l .here .at) (l .decreasing) (l .end) (l .out) (l .inv .5) (c .before .before .before .loop-test .taken) _ _
+          (rw (c .enum-told .given .1) at (c .before .before .orient .ensures .0)) rules last f,
+      (omega arith, omega arith),
+    )
+
+enum-known-rule : tie.Need-enum-known-rule Inv-loop μ-loop
+enum-known-rule c = search needs
 
 long-requires : tie.Need-long-requires Inv-loop μ-loop
 long-requires c κs = search needs
 
 put-rule-requires : tie.Need-put-rule-requires Inv-loop μ-loop
-put-rule-requires c κs = search needs
+put-rule-requires c κs =
+    let within = rw (c .before .before .before .rule .given .1) at (c .before .before .before .before .before .orient .ensures .1) in
+    omega (arith, within .0, within .1, c .long .ensures .1)
 
 decreases-requires : tie.Need-decreases-requires Inv-loop μ-loop
 decreases-requires c κs = search needs
@@ -51,38 +71,27 @@ loop-less c = search needs
 
 loop-again : tie.Need-loop-again Inv-loop μ-loop
 loop-again c =
-    let a =
-    c .before .before .before .before .before .before .before .before .before .before .before .before .before .args
-    in
-    let l = c .before .before .before .before .before .before .before .before .before .loop in
-    let p = c .before .before .before .before .put-rule .ensures in (
+    let a = c .before .before .before .before .before .before .before .before .before .before .before .before .before .before .before .before .args in
+    let l = c .before .before .before .before .before .before .before .before .before .before .before .before .loop in
+    let p = c .before .before .before .before .put-rule .ensures in
+    let within = rw (c .before .before .before .before .before .before .before .before .rule .given .1) at (c .before .before .before .before .before .before .before .before .before .before .orient .ensures .1) in (
       omega arith,
       omega (arith, c .before .decreases .ensures .1),
       omega (arith, p .1 .1),
       c .before .before .before .before .put-rule .kept .0 ∙ l .inv .3,
-      written-more (bitSource (a .book .now)) (signatureOf (a .table .now)) (a .count) (a .cursor .at) (a .out .now)
-          (a .at)
-          (l .i) (l .here .at) (l .decreasing) (l .end) (l .out) (l .inv .4)
-          (c .before .before .before .before .before .before .before .before .loop-test .taken)
-          (c .before .before .before .before .before .long .result) _ _ _ _
-          (λ r last e. let o = c .before .before .before .before .before .before .before .orient .ensures .0 r last e in
-          (c .before .before .before .before .before .long .ensures .0 ∙ o .mark, o .left, o .right, o .next))
-          (c .before .decreases .ensures .0 ∙ rw (c .before .before .before .before .before .long .ensures .0)) _ _
-          (p .0, p .1 .0),
+      within .2,
+      written-more (bitSource (a .book .now)) (signatureOf (a .table .now)) (a .count) (a .cursor .at) (a .out .now) (a .at) (l .i) (l .here .at) (l .decreasing) (l .end) (l .out) (l .inv .5) (c .before .before .before .before .before .before .before .before .before .before .before .loop-test .taken) _ (c .before .before .before .before .before .long .result) (c .before .before .before .before .before .before .before .before .rule .given .0 .0) (c .before .before .before .before .before .long .ensures .0)
+          (rw (c .before .before .before .before .before .before .before .before .rule .given .1) at (c .before .before .before .before .before .before .before .before .before .before .orient .ensures .0)) (c .before .decreases .ensures .0) _ _ (p .0, p .1 .0),
     )
 
-same-length : tie.Need-same-length Inv-loop μ-loop
-same-length c = c .before .loop .inv .3
+same-length-2 : tie.Need-same-length-2 Inv-loop μ-loop
+same-length-2 c = c .before .loop .inv .3
 
-returns : tie.Need-returns Inv-loop μ-loop
-returns c =
+returns-2 : tie.Need-returns-2 Inv-loop μ-loop
+returns-2 c =
     let a = c .before .before .before .before .before .args in
-    let l = c .before .loop in (
-      written-all (bitSource (a .book .now)) (signatureOf (a .table .now)) (a .count) (a .cursor .at) (a .out .now)
-          (a .at)
-          (l .i) (l .here .at) (l .decreasing) (l .end) (l .out) (l .inv .4) (c .loop-test .left),
-      (omega arith, omega arith),
-    )
+    let l = c .before .loop in
+    (written-all (bitSource (a .book .now)) (signatureOf (a .table .now)) (a .count) (a .cursor .at) (a .out .now) (a .at) (l .i) (l .here .at) (l .decreasing) (l .end) (l .out) (l .inv .5) (c .loop-test .left), (omega arith, omega arith))
 
 pub put-rules-spec : {M : Type 1} → statement M
 put-rules-spec =
@@ -92,6 +101,10 @@ put-rules-spec =
     μ-loop
     loop-holds
     orient-requires
+    enum-told
+    same-length
+    returns
+    enum-known-rule
     long-requires
     put-rule-requires
     decreases-requires
@@ -99,5 +112,5 @@ put-rules-spec =
     add-i
     loop-less
     loop-again
-    same-length
-    returns)
+    same-length-2
+    returns-2)

@@ -1,15 +1,17 @@
-use mathlib.Core.Path.{_≡_, sym, _∙_}
+use mathlib.Core.Path.{sym, _∙_}
 use native.Mathlib.Omega.{arith}
-use lib.ListN.{length}
 use lib.Seq.{length-take-le}
-use borrow.Author.Needs.{needs}
 use Rattle.marking.proofs.MarkLaws.{table-of, fault-small}
 use Rattle.marking.proofs.ReportLaws.{report-refusal, report-marks}
+use borrow.Author.Needs.{needs}
 use Rattle.marking.proofs.report.report.Statement.{statement}
 use Rattle.marking.proofs.report.report.Tie as tie
 
 slice-aggregate-read-file : tie.Need-slice-aggregate-read-file
 slice-aggregate-read-file c = search needs
+
+slice-aggregate-read-file-2 : tie.Need-slice-aggregate-read-file-2
+slice-aggregate-read-file-2 c = search needs
 
 read-file-requires : tie.Need-read-file-requires
 read-file-requires c κs = search needs
@@ -23,10 +25,7 @@ long-requires c κs = search needs
 put-refusal-requires : tie.Need-put-refusal-requires
 put-refusal-requires c κs = (
   omega (arith, c .long .ensures .1),
-  fault-small
-      (c .before .before .before .before .before .before .before .before .before .before .args .book .now) _ _
-      (rw (c .before .before .before .code .given .1) at
-      (c .before .before .before .before .before .before .read-file .ensures)),
+  fault-small (c .before .before .before .before .before .before .before .before .before .before .before .before .args .book .now) _ _ (rw (c .before .before .before .code .given .1) at (c .before .before .before .before .before .before .before .read-file .ensures)),
 )
 
 enum-known-symbol-count : tie.Need-enum-known-symbol-count
@@ -37,72 +36,58 @@ slice-aggregate-put-count c = search needs
 
 put-count-requires : tie.Need-put-count-requires
 put-count-requires c κs =
-    let (file, end, read, parts) = (rw (c .before .before .before .symbol-count .given .1) at
-    (c .before .before .before .before .before .before .read-file .ensures)) in
-    (omega arith, omega (arith, parts .fewRules))
+    let (file, end, read, parts) = (rw (c .before .before .before .symbol-count .given .1) at (c .before .before .before .before .before .before .before .read-file .ensures)) in
+    (omega arith, omega (arith, parts .head .fewRules))
 
 mul-front : tie.Need-mul-front
 mul-front c =
-    let (file, end, read, parts) = (rw (c .before .before .before .before .before .before .symbol-count .given .1) at
-    (c .before .before .before .before .before .before .before .before .before .read-file .ensures)) in
-    omega (arith, parts .fewSymbols)
+    let (file, end, read, parts) = (rw (c .before .before .before .before .before .before .symbol-count .given .1) at (c .before .before .before .before .before .before .before .before .before .before .read-file .ensures)) in
+    omega (arith, parts .head .fewSymbols)
 
 add-front : tie.Need-add-front
 add-front c =
-    let (file, end, read, parts) = (rw (c .before .before .before .before .before .before .symbol-count .given .1) at
-    (c .before .before .before .before .before .before .before .before .before .read-file .ensures)) in
-    omega (arith, parts .fewSymbols)
+    let (file, end, read, parts) = (rw (c .before .before .before .before .before .before .symbol-count .given .1) at (c .before .before .before .before .before .before .before .before .before .before .read-file .ensures)) in
+    omega (arith, parts .head .fewSymbols)
 
 array-share-prefix-table : tie.Need-array-share-prefix-table
 array-share-prefix-table c =
-    let (file, end, read, parts) = (rw (c .before .before .before .before .before .before .symbol-count .given .1) at
-    (c .before .before .before .before .before .before .before .before .before .read-file .ensures)) in
-    let n : length (c .before .before .before .before .before .before .before .before .before .read-file .last .1 .0)
-    ≡ 1021 = c .before .before .before .before .before .before .before .before .before .read-file .kept .1 .0 in
-    omega (arith, parts .fewSymbols)
+    let (file, end, read, parts) = (rw (c .before .before .before .before .before .before .symbol-count .given .1) at (c .before .before .before .before .before .before .before .before .before .before .read-file .ensures)) in
+    omega (arith, parts .head .fewSymbols, c .before .before .before .before .before .before .before .before .before .before .read-file .kept .1 .0)
+
+slice-aggregate-arities : tie.Need-slice-aggregate-arities
+slice-aggregate-arities c =
+    let (file, end, read, parts) = (rw (c .before .before .before .before .before .before .before .symbol-count .given .1) at (c .before .before .before .before .before .before .before .before .before .before .before .read-file .ensures)) in
+    sym (length-take-le _ (c .before .before .before .before .before .before .before .before .before .before .before .read-file .last .1 .0) (omega (arith, parts .head .fewSymbols, c .before .before .before .before .before .before .before .before .before .before .before .read-file .kept .1 .0)))
+
+arities-requires : tie.Need-arities-requires
+arities-requires c κs =
+    let (file, end, read, parts) = (rw (c .before .before .before .before .before .before .before .symbol-count .given .1) at (c .before .before .before .before .before .before .before .before .before .before .before .read-file .ensures)) in
+    let T = table-of (c .before .before .before .before .before .before .before .before .before .before .before .before .before .before .before .before .args .book .now) _ _ _ _ (sym (c .before .before .before .before .before .before .before .before .before .before .before .read-file .kept .1 .0)) (parts .head) in
+    omega (arith, T .short)
+
+array-share-prefix-table-2 : tie.Need-array-share-prefix-table-2
+array-share-prefix-table-2 c =
+    let (file, end, read, parts) = (rw (c .before .before .before .before .before .before .before .before .symbol-count .given .1) at (c .before .before .before .before .before .before .before .before .before .before .before .before .read-file .ensures)) in
+    omega (arith, parts .head .fewSymbols, c .before .before .before .before .before .before .before .before .before .before .before .before .read-file .kept .1 .0)
 
 slice-aggregate-put-rules : tie.Need-slice-aggregate-put-rules
 slice-aggregate-put-rules c =
-    let (file, end, read, parts) =
-    (rw (c .before .before .before .before .before .before .before .symbol-count .given .1) at
-    (c .before .before .before .before .before .before .before .before .before .before .read-file .ensures)) in
-    let n : length
-    (c .before .before .before .before .before .before .before .before .before .before .read-file .last .1 .0) ≡
-    1021 = c .before .before .before .before .before .before .before .before .before .before .read-file .kept .1 .0 in
-    sym (length-take-le _
-    (c .before .before .before .before .before .before .before .before .before .before .read-file .last .1 .0)
-    (omega (arith, parts .fewSymbols)))
+    let (file, end, read, parts) = (rw (c .before .before .before .before .before .before .before .before .before .symbol-count .given .1) at (c .before .before .before .before .before .before .before .before .before .before .before .before .before .read-file .ensures)) in
+    sym (length-take-le _ (c .before .before .before .before .before .before .before .before .before .before .before .before .before .read-file .last .1 .0) (omega (arith, parts .head .fewSymbols, c .before .before .before .before .before .before .before .before .before .before .before .before .before .read-file .kept .1 .0)))
 
 put-rules-requires : tie.Need-put-rules-requires
 put-rules-requires c κs =
-    let (file, end, read, parts) =
-    (rw (c .before .before .before .before .before .before .before .before .symbol-count .given .1) at
-    (c .before .before .before .before .before .before .before .before .before .before .before .read-file .ensures)) in
-    let n : length
-    (c .before .before .before .before .before .before .before .before .before .before .before .read-file .last .1 .0) ≡
-    1021 =
-    c .before .before .before .before .before .before .before .before .before .before .before .read-file .kept .1 .0
-    in (
-      parts .short,
-      table-of
-          (c .before .before .before .before .before .before .before .before .before .before .before .before .before .before .before .args .book .now) _ file end _ _ _ _ (sym n) read parts,
-      omega (arith, c .before .before .before .before .put-count .ensures .1 .1),
-      parts .fewRules,
+    let (file, end, read, parts) = (rw (c .before .before .before .before .before .before .before .before .before .before .before .symbol-count .given .1) at (c .before .before .before .before .before .before .before .before .before .before .before .before .before .before .before .read-file .ensures)) in
+    let T = table-of (c .before .before .before .before .before .before .before .before .before .before .before .before .before .before .before .before .before .before .before .before .args .book .now) _ _ _ _ (sym (c .before .before .before .before .before .before .before .before .before .before .before .before .before .before .before .read-file .kept .1 .0)) (parts .head) in (
+      (parts .head .short, parts .head .within),
+      ((T, c .before .before .before .arities .ensures), (omega (arith, c .before .before .before .before .before .before .before .put-count .ensures .1 .1), parts .head .fewRules)),
     )
 
 put-summary-requires : tie.Need-put-summary-requires
 put-summary-requires c κs =
-    let (file, end, read, parts) =
-    (rw
-    (c .before .before .before .before .before .before .before .before .before .before .before .before .symbol-count .given .1) at (c .before .before .before .before .before .before .before .before .before .before .before .before .before .before .before .read-file .ensures)) in (
-      omega (
-        arith,
-        parts .fewRules,
-        c .before .before .before .before .before .before .before .before .put-count .ensures .1 .1,
-        c .before .before .before .put-rules .ensures .1 .1,
-      ),
-      omega
-          (arith, parts .fewRules, c .before .before .before .put-rules .ensures .1 .0),
+    let (file, end, read, parts) = (rw (c .before .before .before .before .before .before .before .before .before .before .before .before .before .before .before .symbol-count .given .1) at (c .before .before .before .before .before .before .before .before .before .before .before .before .before .before .before .before .before .before .before .read-file .ensures)) in (
+      omega (arith, parts .head .fewRules, c .before .before .before .before .before .before .before .before .before .before .before .put-count .ensures .1 .1, c .before .before .before .put-rules .ensures .1 .1),
+      omega (arith, parts .head .fewRules, c .before .before .before .put-rules .ensures .1 .0),
     )
 
 same-length : tie.Need-same-length
@@ -110,11 +95,10 @@ same-length c = search needs
 
 returns : tie.Need-returns
 returns c =
+    let a = c .before .before .before .before .before .before .before .before .before .before .before .before .before .before .before .args in
     let p = c .before .before .put-refusal .ensures in (
-      report-refusal
-          (c .before .before .before .before .before .before .before .before .before .before .before .before .before .args .book .now) _ _ _ (c .before .before .before .before .before .before .before .before .before .before .before .before .before .args .out .now) _ (rw (c .before .before .before .before .before .before .code .given .1) at (c .before .before .before .before .before .before .before .before .before .read-file .ensures))
-          (p .0 ∙ rw (c .before .before .before .long .ensures .0))
-          (p .1 .0 ∙ rw (c .before .before .before .long .ensures .0)) (omega (arith, p .1 .1)),
+      report-refusal (a .book .now) _ _ _ (a .out .now) _ (rw (c .before .before .before .before .before .before .code .given .1) at (c .before .before .before .before .before .before .before .before .before .before .read-file .ensures))
+          (p .0 ∙ rw (c .before .before .before .long .ensures .0)) (p .1 .0 ∙ rw (c .before .before .before .long .ensures .0)) (omega (arith, p .1 .1)),
       omega (arith, p .1 .1),
     )
 
@@ -123,31 +107,15 @@ same-length-2 c = search needs
 
 returns-2 : tie.Need-returns-2
 returns-2 c =
-    let (file, end, read, parts) =
-    (rw
-    (c .before .before .before .before .before .before .before .before .before .before .before .before .before .before .before .symbol-count .given .1) at (c .before .before .before .before .before .before .before .before .before .before .before .before .before .before .before .before .before .before .read-file .ensures)) in
-    let (d, w) = c .before .before .before .before .before .before .put-rules .ensures .0 (file .rules) (parts .end)
-    (rw (parts .signature) (parts .rulesRead)) in
-    let k =
-    c .before .before .before .before .before .before .before .before .before .before .before .put-count .ensures in
+    let a = c .before .before .before .before .before .before .before .before .before .before .before .before .before .before .before .before .before .before .before .before .before .before .before .before .before .before .before .args in
+    let (file, end, read, parts) = (rw (c .before .before .before .before .before .before .before .before .before .before .before .before .before .before .before .before .before .before .symbol-count .given .1) at (c .before .before .before .before .before .before .before .before .before .before .before .before .before .before .before .before .before .before .before .before .before .before .read-file .ensures)) in
+    let (d, w) = c .before .before .before .before .before .before .put-rules .ensures .0 (file .rules) (parts .end) (rw (parts .signature) (parts .rulesRead)) in
+    let k = c .before .before .before .before .before .before .before .before .before .before .before .before .before .before .put-count .ensures in
     let t = c .before .before .put-summary .ensures in (
-      report-marks
-          (c .before .before .before .before .before .before .before .before .before .before .before .before .before .before .before .before .before .before .before .before .before .before .args .book .now) file end read _ _ _ (c .before .before .before .before .before .before .before .before .before .before .before .before .before .before .before .before .before .before .before .before .before .before .args .out .now) _ _ _ _ _ (parts .ruleCount)
+      report-marks (a .book .now) file end read _ _ _ (a .out .now) _ _ _ _ _ (parts .ruleCount)
           (d ∙ rw (parts .signature)) (k .0, k .1 .0) (rw (parts .signature) at w) (t .0)
-          (omega (
-            arith,
-            parts .fewRules,
-            k .1 .1,
-            c .before .before .before .before .before .before .put-rules .ensures .1 .1,
-            t .1,
-          )),
-      omega (
-        arith,
-        parts .fewRules,
-        k .1 .1,
-        c .before .before .before .before .before .before .put-rules .ensures .1 .1,
-        t .1,
-      ),
+          (omega (arith, parts .head .fewRules, k .1 .1, c .before .before .before .before .before .before .put-rules .ensures .1 .1, t .1, c .before .before .before .before .before .before .before .before .before .before .before .before .before .before .before .before .before .before .before .before .before .before .before .before .before .before .before .pre)),
+      omega (arith, parts .head .fewRules, k .1 .1, c .before .before .before .before .before .before .put-rules .ensures .1 .1, t .1),
     )
 
 pub report-spec : {M : Type 1} → statement M
@@ -155,6 +123,7 @@ report-spec =
     tie.close
     (tie.spec
     slice-aggregate-read-file
+    slice-aggregate-read-file-2
     read-file-requires
     enum-known-code
     long-requires
@@ -165,6 +134,9 @@ report-spec =
     mul-front
     add-front
     array-share-prefix-table
+    slice-aggregate-arities
+    arities-requires
+    array-share-prefix-table-2
     slice-aggregate-put-rules
     put-rules-requires
     put-summary-requires

@@ -27,9 +27,8 @@ returns c =
         mark = c .mark .ensures;
         left = left-weight S A B;
         right = right-weight S A B;
-        next = refl;
       },
-      (omega arith, omega arith),
+      (omega arith, omega arith, refl),
     )
 
 pub orient-sides-spec : {M : Type 1} → statement M

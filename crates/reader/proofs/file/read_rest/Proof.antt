@@ -1,6 +1,6 @@
 use mathlib.Core.Path.{sym, _∙_}
 use Rattle.symbols.specs.Table.{signatureOf}
-use Rattle.reader.proofs.FileLaws.{rules-fault, padding-fault, rest-read}
+use Rattle.reader.proofs.FileLaws.{rest-unread, rest-unpadded, rest-read}
 use borrow.Author.Needs.{needs}
 use Rattle.reader.proofs.file.read_rest.Statement.{statement}
 use Rattle.reader.proofs.file.read_rest.Tie as tie
@@ -26,7 +26,7 @@ same-length c = search needs
 returns : tie.Need-returns
 returns c =
     let a = c .before .before .before .before .before .before .before .before .before .before .before .before .args in
-    rules-fault (a .book .now) (signatureOf (a .table .now)) (a .count) (a .cursor .at) (a .words .now) (c .before .before .before .before .before .put-rules .last .1 .1 .0) _ _ (rw (c .before .code .given .1) at (c .before .before .before .before .before .put-rules .ensures .0 (signatureOf (a .table .now)) (c .before .before .before .before .before .before .before .before .arities .ensures)))
+    rest-unread (a .book .now) (signatureOf (a .table .now)) (a .count) (a .cursor .at) _ _ (rw (c .before .code .given .1) at (c .before .before .before .before .before .put-rules .ensures .0 (signatureOf (a .table .now)) (c .before .before .before .before .before .before .before .before .arities .ensures)))
 
 same-length-2 : tie.Need-same-length-2
 same-length-2 c = search needs
@@ -34,7 +34,7 @@ same-length-2 c = search needs
 returns-2 : tie.Need-returns-2
 returns-2 c =
     let a = c .before .before .before .before .before .before .before .before .before .before .before .before .before .before .args in
-    rest-read (a .book .now) (signatureOf (a .table .now)) (a .count) (a .cursor .at) (a .words .now) (c .before .before .before .before .before .before .before .put-rules .last .1 .1 .0) _ _ (rw (c .before .before .before .end .given .1) at (c .before .before .before .before .before .before .before .put-rules .ensures .0 (signatureOf (a .table .now)) (c .before .before .before .before .before .before .before .before .before .before .arities .ensures)))
+    rest-read (a .book .now) (signatureOf (a .table .now)) (a .count) (a .cursor .at) _ _ (a .words .now) (c .before .before .before .before .before .before .before .put-rules .last .1 .1 .0) (rw (c .before .before .before .end .given .1) at (c .before .before .before .before .before .before .before .put-rules .ensures .0 (signatureOf (a .table .now)) (c .before .before .before .before .before .before .before .before .before .before .arities .ensures)))
     (sym (c .before .is-padding .ensures) ∙ c .if1 .taken)
 
 same-length-3 : tie.Need-same-length-3
@@ -43,8 +43,8 @@ same-length-3 c = search needs
 returns-3 : tie.Need-returns-3
 returns-3 c =
     let a = c .before .before .before .before .before .before .before .before .before .before .before .before .before .before .args in
-    padding-fault (a .book .now) (signatureOf (a .table .now)) (a .count) (a .cursor .at) (a .words .now) (c .before .before .before .before .before .before .before .put-rules .last .1 .1 .0) _ _ (rw (c .before .before .before .end .given .1) at (c .before .before .before .before .before .before .before .put-rules .ensures .0 (signatureOf (a .table .now)) (c .before .before .before .before .before .before .before .before .before .before .arities .ensures)))
-    (sym (c .before .is-padding .ensures) ∙ c .if1 .left)
+    let read = rw (c .before .before .before .end .given .1) at (c .before .before .before .before .before .before .before .put-rules .ensures .0 (signatureOf (a .table .now)) (c .before .before .before .before .before .before .before .before .before .before .arities .ensures)) in
+    rest-unpadded (a .book .now) (signatureOf (a .table .now)) (a .count) (a .cursor .at) (read .0) _ (read .1) (sym (c .before .is-padding .ensures) ∙ c .if1 .left)
 
 pub read-rest-spec : {M : Type 1} → statement M
 read-rest-spec =

@@ -1,0 +1,117 @@
+use mathlib.Core.Path.{sym, ap, _∙_}
+use native.Mathlib.Omega.{arith}
+use lib.Seq.{sets, length-take-le}
+use borrow.Author.Tests.{not-true, not-false}
+use Rattle.format.specs.Reading.{bitSource}
+use Rattle.symbols.specs.Table.{signatureOf}
+use Rattle.reader.proofs.FileLaws.{rules-length, rest-unread, rest-unpadded, rest-padded}
+use Rattle.marking.proofs.MarkLaws.{mark-fault, mark-short, mark-written, front-stored}
+use borrow.Author.Needs.{needs}
+use Rattle.marking.proofs.mark.mark_under.Statement.{statement}
+use Rattle.marking.proofs.mark.mark_under.Tie as tie
+
+arities-requires : tie.Need-arities-requires
+arities-requires c κs = search needs
+
+slice-aggregate-mark-rules : tie.Need-slice-aggregate-mark-rules
+slice-aggregate-mark-rules c = search needs
+
+mark-rules-requires : tie.Need-mark-rules-requires
+mark-rules-requires c κs = (c .before .before .before .before .before .before .pre .0, ((c .before .before .before .before .before .before .pre .1 .0, c .before .before .arities .ensures), (omega arith, c .before .before .before .before .before .before .pre .1 .1)))
+
+enum-known-code : tie.Need-enum-known-code
+enum-known-code c = search needs
+
+refused-requires : tie.Need-refused-requires
+refused-requires c κs = search needs
+
+enum-known-decreasing : tie.Need-enum-known-decreasing
+enum-known-decreasing c = search needs
+
+is-padding-requires : tie.Need-is-padding-requires
+is-padding-requires c κs = search needs
+
+refused-requires-2 : tie.Need-refused-requires-2
+refused-requires-2 c κs = search needs
+
+returns : tie.Need-returns
+returns c = λ whole.
+    let a = c .before .before .before .before .before .before .before .before .before .before .before .before .before .before .args in
+    let read = rw (c .before .before .before .before .decreasing .given .1) at (c .before .before .before .before .before .before .before .mark-rules .ensures .0) in
+    let (reply, output) = mark-fault (a .book .now) (a .marks .now) _ _
+    (whole ∙ rest-unpadded (a .book .now) (signatureOf (a .table .now)) (a .count) (a .cursor .at) (read .0) _ (read .1) (sym (c .before .before .is-padding .ensures) ∙ not-true _ (c .before .if1 .taken))) in
+    (c .refused2 .ensures ∙ reply, output)
+
+refused-requires-3 : tie.Need-refused-requires-3
+refused-requires-3 c κs = search needs
+
+returns-2 : tie.Need-returns-2
+returns-2 c = λ whole.
+    let a = c .before .before .before .before .before .before .before .before .before .before .before .before .before .before .before .args in
+    let read = rw (c .before .before .before .before .before .decreasing .given .1) at (c .before .before .before .before .before .before .before .before .mark-rules .ensures .0) in
+    let pad = sym (c .before .before .before .is-padding .ensures) ∙ not-false _ (c .before .before .if1 .left) in
+    let long = rules-length (bitSource (a .book .now)) (signatureOf (a .table .now)) (a .count) (a .cursor .at) (read .0) _ (read .1) in
+    let (reply, output) = mark-short (a .book .now) (a .marks .now) (signatureOf (a .table .now)) (read .0) _
+    (whole ∙ rest-padded (a .book .now) (signatureOf (a .table .now)) (a .count) (a .cursor .at) (read .0) _ (read .1) pad) (a .count) long (c .before .if2 .taken) in
+    (c .refused3 .ensures ∙ reply, output)
+
+array-share-prefix-found : tie.Need-array-share-prefix-found
+array-share-prefix-found c = search needs
+
+slice-aggregate-put-marks : tie.Need-slice-aggregate-put-marks
+slice-aggregate-put-marks c = sym (length-take-le _ (c .before .before .before .before .before .before .before .before .before .mark-rules .last .1 .1 .1 .0) (omega (arith, c .before .before .before .before .before .before .before .before .before .mark-rules .kept .1 .1 .1 .0)))
+
+put-marks-requires : tie.Need-put-marks-requires
+put-marks-requires c κs =
+    let long = length-take-le (c .before .before .before .before .before .before .before .before .before .before .before .before .before .before .before .before .args .count) (c .before .before .before .before .before .before .before .before .before .mark-rules .last .1 .1 .1 .0) (omega (arith, c .before .before .before .before .before .before .before .before .before .mark-rules .kept .1 .1 .1 .0)) in
+    omega (arith, long)
+
+score-requires : tie.Need-score-requires
+score-requires c κs =
+    let within = rw (c .before .before .before .before .before .before .before .before .before .decreasing .given .1) at (c .before .before .before .before .before .before .before .before .before .before .before .before .mark-rules .ensures .1) in
+    omega (arith, within .0)
+
+returns-3 : tie.Need-returns-3
+returns-3 c = λ whole.
+    let a = c .before .before .before .before .before .before .before .before .before .before .before .before .args in
+    let (reply, output) = mark-fault (a .book .now) (a .marks .now) _ _
+    (whole ∙ rest-unread (a .book .now) (signatureOf (a .table .now)) (a .count) (a .cursor .at) _ _ (rw (c .before .before .code .given .1) at (c .before .before .before .before .before .mark-rules .ensures .0))) in
+    (c .refused .ensures ∙ reply, output)
+
+same-length : tie.Need-same-length
+same-length c = search needs
+
+returns-4 : tie.Need-returns-4
+returns-4 c = λ whole.
+    let a = c .before .before .before .before .before .before .before .before .before .before .before .before .before .before .before .before .before .before .before .before .args in
+    let read = rw (c .before .before .before .before .before .before .before .before .before .before .decreasing .given .1) at (c .before .before .before .before .before .before .before .before .before .before .before .before .before .mark-rules .ensures .0) in
+    let pad = sym (c .before .before .before .before .before .before .before .before .is-padding .ensures) ∙ not-false _ (c .before .before .before .before .before .before .before .if1 .left) in
+    let long = rules-length (bitSource (a .book .now)) (signatureOf (a .table .now)) (a .count) (a .cursor .at) (read .0) _ (read .1) in
+    let front = front-stored (signatureOf (a .table .now)) (read .0) _ (c .before .before .before .before .before .before .before .before .before .before .before .before .before .mark-rules .last .1 .1 .1 .0) (a .count) long
+    (omega arith) (read .3) in
+    mark-written (a .book .now) (a .marks .now) (signatureOf (a .table .now)) (read .0) _
+    (whole ∙ rest-padded (a .book .now) (signatureOf (a .table .now)) (a .count) (a .cursor .at) (read .0) _ (read .1) pad) (a .count) long _ _ _ (c .before .before .before .before .before .before .if2 .left) (read .2) (c .score .ensures .0)
+    (c .before .before .before .put-marks .ensures ∙ ap (sets (a .marks .now) 0) front)
+
+pub mark-under-spec : {M : Type 1} → statement M
+mark-under-spec =
+    tie.close
+    (tie.spec
+    arities-requires
+    slice-aggregate-mark-rules
+    mark-rules-requires
+    enum-known-code
+    refused-requires
+    enum-known-decreasing
+    is-padding-requires
+    refused-requires-2
+    returns
+    refused-requires-3
+    returns-2
+    array-share-prefix-found
+    slice-aggregate-put-marks
+    put-marks-requires
+    score-requires
+    returns-3
+    same-length
+    returns-4)

@@ -1,129 +1,116 @@
 -- Laws of reading terms from words.
---     walk-none, walk-refused, walk-one       no term, no node allowed, one term by its node
---     walk-first, walk-left                   some terms by their first node; none is allowed that was not
+--     terms-none, terms-refused               no term, no node allowed
+--     terms-missing, terms-wide, terms-unknown   a word that is missing, too wide, no symbol
+--     terms-node                              a node, then the terms owed after it
+--     terms-end                               the words read are no more than the nodes allowed
 --     forest-front                            the nodes read are words in a row
---     first-term, first-refused, whole-term, first-fits   a term's nodes are the first words
---     symbol-count                            how many symbols a table has
-use mathlib.Core.List.{List, _∷_, _++_}
+--     whole-fault, whole-read, whole-longer   a term that all the words make up
+use mathlib.Core.List.{List, _∷_}
 use mathlib.Core.Path.{_≡_, refl, sym, ap, _∙_}
 use mathlib.Core.Bool.{cond, _||_}
-use Prim.Native.Nat.{ℕ, suc, zero, _+_, _-_, _/_, _≤_, _<_}
-use native.Mathlib.Nat.{sub-zero}
+use Prim.Native.Nat.{ℕ, suc, zero, _+_, _-_, _*_, _/_, _%_, _≤_, _<_}
 use native.Mathlib.Numerals.{add-one}
 use native.Mathlib.Omega.{arith}
-use lib.ListN.{length, getD, take, drop, length-append}
+use lib.ListN.{length, getD, take, drop}
 use lib.Seq.{drop-cons}
 use lib.Dec.{leb, ltb}
-use borrow.Author.Tests.{leb-true, leb-false, ltb-true, ltb-false}
-use Rattle.multisets.proofs.Relations.{byTest}
+use borrow.Author.Tests.{lt-ltb, le-ltb, ltb-true, eq-eqb, ne-eqb}
+use Rattle.multisets.proofs.Relations.{byTest, byOrder}
 use Rattle.terms.specs.Signature.{Signature, symbolOf}
 use Rattle.terms.specs.Words.{firstVariable}
-use Rattle.format.specs.Errors.{tooManyNodes}
+use Rattle.format.specs.Errors.{fieldMissing, noSuchSymbol, tooManyNodes, wordTooWide, wordsLeftOver}
 use Rattle.format.specs.Layout.{maxNodes}
-use Rattle.format.specs.Reading.{Reading, Reader, andThen, give, Node, Source, wordSource, wordBelow}
+use Rattle.format.specs.Reading.{Reading, Node, wordSource, wordBelow}
 use Rattle.format.specs.Reading.Reading.{got, fault}
 use Rattle.format.specs.Format.{forestReader}
-use Rattle.format.specs.Files.{readFirstTerm, readTerm, endReader}
-use Rattle.format.proofs.ForestLaws.{
-  nothing-owed,
-  none-allowed,
-  one-fault,
-  one-unknown,
-  one-variable,
-  one-symbol,
-  row-more,
-}
-use Rattle.format.proofs.ForestLaws.{before, following}
-use Rattle.symbols.specs.Table.{symbolsAt, signatureOf}
+use Rattle.format.specs.Files.{readTerm, endReader}
+use Rattle.format.proofs.ForestLaws.{nothing-owed, none-allowed, node-fault, unknown-symbol, variable-read, symbol-read}
+use Rattle.format.proofs.ForestLaws.{before, forest-short}
+use Rattle.symbols.specs.Arities.{Arities}
+use Rattle.symbols.proofs.ArityLaws.{variable-cell, symbol-cell, no-cell}
 use Rattle.words.specs.declared.cursor.WordCursor.{WordCursor}
-use Rattle.words.specs.declared.term.NodeReading.{NodeReading}
-use Rattle.words.specs.declared.term.NodeReading.the-variants as node
-use Rattle.words.specs.declared.term.Walk.{Walk}
-use Rattle.words.specs.declared.term.Walk.the-variants as walk
-use Rattle.words.specs.Term.{nodeOf, walkOf, walked}
+use Rattle.words.specs.declared.cursor.Passed.{Passed}
+use Rattle.words.specs.declared.cursor.Passed.the-variants as passing
+use Rattle.words.specs.Cursor.{passedOf}
+use Rattle.words.specs.Term.{passedBy}
 
--- What follows a node, and what follows some terms.
-abbrev pub onNode : NodeReading → (ℕ → WordCursor → Walk) → Walk
-onNode (node.Got n next) k = k n next
-onNode (node.Fault code offset) k = walk.Fault code offset
+-- ---- what a number stands for
 
-abbrev pub onWalk : Walk → (ℕ → WordCursor → Walk) → Walk
-onWalk (walk.Done left next) k = k left next
-onWalk (walk.Fault code offset) k = walk.Fault code offset
+passed-at : (at : ℕ) → passedBy (16 * at) ≡ passing.At (record { at = at })
+passed-at at =
+    let m : 16 * at % 16 ≡ 0 = omega arith in
+    let d : 16 * at / 16 ≡ at = omega arith in
+    rw (m, d)
 
-walk-before : (w a : ℕ) (r : Reading (List ℕ)) → walkOf (suc a) (before w r) ≡ walkOf a r
-walk-before w a (got ws at) =
-    let e : suc a - suc (length ws) ≡ a - length ws = omega arith in
-    rw e
-walk-before w a (fault code offset) = refl
+passed-fault : (code at : ℕ) → 0 < code → code < 16 → passedBy (16 * at + code) ≡ passing.Fault code at
+passed-fault code at h k =
+    let m : (16 * at + code) % 16 ≡ code = omega arith in
+    let d : (16 * at + code) / 16 ≡ at = omega arith in
+    rw (m, d, ne-eqb code 0 (λ e. omega arith))
 
-walk-after : (a : ℕ) (r : Reading (List ℕ)) (next : ℕ → Reader (List ℕ)) →
-    walkOf a (following r (λ xs. next (a - length xs))) ≡ onWalk (walkOf a r)
-    (λ left c. walkOf left (next left (c .at)))
-walk-after a (got xs at) next = go (next (a - length xs) at)
-  where
-    go : (r : Reading (List ℕ)) →
-        walkOf a (andThen r (λ ys. give (xs ++ ys))) ≡ walkOf (a - length xs) r
-    go (got ys to) =
-        let e : a - length (xs ++ ys) ≡ a - length xs - length ys = simp length-append (omega arith) in
-        rw e
-    go (fault code offset) = refl
-walk-after a (fault code offset) next = refl
+-- ---- reading terms node by node
 
-module _ (source : Source) (σ : Signature) where
-  pub walk-none : (a n at : ℕ) → n ≡ 0 → walkOf a (forestReader source σ a n at) ≡ walk.Done a (record { at = at })
-  walk-none a n at e = rw (e, nothing-owed source σ a at) (ap (λ (k : ℕ). walk.Done k (record { at = at }))
-      (sub-zero a))
+passed-before : (w : ℕ) (r : Reading (List ℕ)) → passedOf (before w r) ≡ passedOf r
+passed-before w (got ws at) = refl
+passed-before w (fault code offset) = refl
 
-  pub walk-refused : (a n at : ℕ) → a ≡ 0 → 0 < n → walked source σ a n at ≡ walk.Fault tooManyNodes at
-  walk-refused a n at e h = rw (e, none-allowed source σ n at h)
+module _ (words : List ℕ) (σ : Signature) where
+  abbrev read : ℕ → ℕ → ℕ → Passed
+  read a n at = passedOf (forestReader (wordSource words) σ a n at)
 
-  walk-known : (a at : ℕ) → 0 < a → (v : Node) (next : ℕ) → source .node at ≡ got v next →
-      walkOf a (forestReader source σ a 1 at) ≡
-      onNode (nodeOf σ (got v next)) (λ n next. walkOf (a - 1) (forestReader source σ (a - 1) n (next .at)))
-  walk-known a at h v next e =
-      let k : a ≡ suc (a - 1) = omega arith in
-      byTest (leb firstVariable (v .word))
-      (λ t. rw (t, one-variable source σ a at h v next e (leb-true firstVariable (v .word) t))
-      (sym (walk-none (a - 1) 0 next refl)))
-      λ t. byTest (ltb (v .word) (length (σ .symbols)))
-      (λ u. rw (t, u)
-      (ap (walkOf a) (one-symbol source σ a at h v next e (leb-false firstVariable (v .word) t) (ltb-true _ _ u))
-      ∙ ap (λ (n : ℕ). walkOf n (before (v .word) (forestReader source σ (a - 1) (symbolOf σ (v .word) .arity) next))) k
-      ∙ walk-before (v .word) (a - 1) (forestReader source σ (a - 1) (symbolOf σ (v .word) .arity) next)))
-      λ u. rw (t, u, one-unknown source σ a at h v next e (leb-false firstVariable (v .word) t) (ltb-false _ _ u))
+  pub terms-none : (a n at : ℕ) → n ≡ 0 → passedBy (16 * at) ≡ read a n at
+  terms-none a n at e = passed-at at ∙ rw (e, nothing-owed (wordSource words) σ a at)
 
-  pub walk-one : (a at : ℕ) → 0 < a → walkOf a (forestReader source σ a 1 at) ≡
-      onNode (nodeOf σ (source .node at)) (λ n next. walkOf (a - 1) (forestReader source σ (a - 1) n (next .at)))
-  walk-one a at h = go (source .node at) refl
-    where
-      go : (r : Reading Node) → source .node at ≡ r → walkOf a (forestReader source σ a 1 at) ≡
-          onNode (nodeOf σ r) (λ n next. walkOf (a - 1) (forestReader source σ (a - 1) n (next .at)))
-      go (got v next) e = walk-known a at h v next e
-      go (fault code offset) e = rw (one-fault source σ a at h code offset e)
+  pub terms-refused : (a n at : ℕ) → a ≡ 0 → 0 < n → passedBy (16 * at + tooManyNodes) ≡ read a n at
+  terms-refused a n at e h =
+      passed-fault tooManyNodes at (omega arith) (omega arith) ∙ rw (e, none-allowed (wordSource words) σ n at h)
 
-  walk-more : (a n at : ℕ) → 0 < n → walked source σ a n at ≡
-      onWalk (walked source σ a 1 at) (λ left c. walked source σ left (n - 1) (c .at))
-  walk-more a n at h =
-      ap (walkOf a) (row-more source σ a n at h)
-      ∙ walk-after a (forestReader source σ a 1 at) (λ left. forestReader source σ left (n - 1))
+  module _ (a n at : ℕ) (ha : 0 < a) (hn : 0 < n) where
+    at-fault : (code : ℕ) → 0 < code → code < 16 → wordSource words .node at ≡ fault code at →
+        passedBy (16 * at + code) ≡ read a n at
+    at-fault code h k e = passed-fault code at h k ∙ rw (node-fault (wordSource words) σ a n at ha hn code at e)
 
-  pub walk-first : (a n at : ℕ) → 0 < a → 0 < n → walked source σ a n at ≡
-      onNode (nodeOf σ (source .node at))
-      (λ k next. onWalk (walked source σ (a - 1) k (next .at)) (λ left c. walked source σ left (n - 1) (c .at)))
-  walk-first a n at h k = walk-more a n at k ∙ rw (walk-one a at h) (go (nodeOf σ (source .node at)))
-    where
-      go : (r : NodeReading) →
-          onWalk (onNode r (λ k next. walked source σ (a - 1) k (next .at)))
-          (λ left c. walked source σ left (n - 1) (c .at))
-          ≡ onNode r
-          (λ k next. onWalk (walked source σ (a - 1) k (next .at)) (λ left c. walked source σ left (n - 1) (c .at)))
-      go (node.Got k next) = refl
-      go (node.Fault code offset) = refl
+    pub terms-missing : length words ≤ at → passedBy (16 * at + fieldMissing) ≡ read a n at
+    unfolding wordBelow
+    terms-missing h = at-fault fieldMissing (omega arith) (omega arith) (rw (le-ltb at (length words) h))
 
-pub walk-left : (a : ℕ) (r : Reading (List ℕ)) (left : ℕ) (c : WordCursor) → walkOf a r ≡ walk.Done left c → left ≤ a
-walk-left a (got xs next) left c e = let l : a - length xs ≡ left = cc in omega arith
-walk-left a (fault code offset) left c e = let z : _≡_ {A = ℕ} 0 1 = cc in absurd (omega arith)
+    module _ (i : at < length words) (w : ℕ) (e : w ≡ getD words at 0) where
+      pub terms-wide : 272 ≤ w → passedBy (16 * at + wordTooWide) ≡ read a n at
+      unfolding wordBelow
+      terms-wide h =
+          at-fault wordTooWide (omega arith) (omega arith)
+          (rw (lt-ltb at (length words) i, ← e, le-ltb w 272 h))
+
+      module _ (small : w < 272) (cells : List ℕ) (table : Arities σ cells) where
+        abbrev here : Node
+        here = record { word = w; offset = at }
+
+        node-here : wordSource words .node at ≡ got here (at + 1)
+        unfolding wordBelow
+        node-here = rw (lt-ltb at (length words) i, ← e, lt-ltb w 272 small)
+
+        pub terms-unknown : getD cells w 0 ≡ 0 → passedBy (16 * at + noSuchSymbol) ≡ read a n at
+        terms-unknown none =
+            passed-fault noSuchSymbol at (omega arith) (omega arith)
+            ∙ byOrder w firstVariable
+            (λ v. byOrder w (length (σ .symbols))
+            (λ k. absurd (omega (arith, table w small, symbol-cell σ w v k)))
+            λ k. rw (unknown-symbol (wordSource words) σ a n at ha hn here (at + 1) node-here v k))
+            λ v. absurd (omega (arith, table w small, variable-cell σ w v))
+
+        pub terms-node : (cell : ℕ) → cell ≡ getD cells w 0 → 0 < cell →
+            read (a - 1) (cell - 1 + (n - 1)) (at + 1) ≡ read a n at
+        terms-node cell found some =
+            let rest : ℕ → Reading (List ℕ) = λ k. forestReader (wordSource words) σ (a - 1) k (at + 1) in
+            byOrder w firstVariable
+            (λ v. byOrder w (length (σ .symbols))
+            (λ k. let q : cell - 1 ≡ symbolOf σ w .arity = omega (arith, table w small, symbol-cell σ w v k) in
+            rw (symbol-read (wordSource words) σ a n at ha hn here (at + 1) node-here v k, q)
+            (sym (passed-before w (rest (symbolOf σ w .arity + (n - 1))))))
+            λ k. absurd (omega (arith, table w small, no-cell σ w v k)))
+            λ v. let q : cell - 1 + (n - 1) ≡ n - 1 = omega (arith, table w small, variable-cell σ w v) in
+            rw (variable-read (wordSource words) σ a n at ha hn here (at + 1) node-here v, q)
+            (sym (passed-before w (rest (n - 1))))
 
 -- ---- the nodes are words in a row
 
@@ -142,14 +129,6 @@ front-before words at h (got xs next) (f, g, l) = (
       arith,
 )
 front-before words at h (fault code offset) f = tt
-
-front-walk : (words : List ℕ) (a : ℕ) (r : Reading (List ℕ)) → Front words 0 r → (left : ℕ) (end : WordCursor) →
-    walkOf a r ≡ walk.Done left end → got (take (end .at) words) (end .at) ≡ r
-front-walk words a (got xs next) (f, g, l) left end e =
-    let c : record { at = next } ≡ end = cc in
-    let n : next ≡ length xs = omega arith in
-    rw (← c, n) (ap (λ (ys : List ℕ). got ys (length xs)) (sym f))
-front-walk words a (fault code offset) f left end e = let z : _≡_ {A = ℕ} 0 1 = cc in absurd (omega arith)
 
 module _ (words : List ℕ) (σ : Signature) where
   pub forest-front : (a n at : ℕ) → Front words at (forestReader (wordSource words) σ a n at)
@@ -171,45 +150,48 @@ module _ (words : List ℕ) (σ : Signature) where
       λ b. rw (i, b) tt)
       λ i. rw i tt
 
-  -- A term read from the front is the words up to the next offset.
-  pub first-term : (left : ℕ) (end : WordCursor) →
-      walkOf maxNodes (forestReader (wordSource words) σ maxNodes 1 0) ≡ walk.Done left end →
-      got (take (end .at) words) (end .at) ≡ readFirstTerm σ words
-  unfolding readFirstTerm
-  first-term left end e =
-      front-walk words maxNodes (forestReader (wordSource words) σ maxNodes 1 0) (forest-front maxNodes 1 0) left end e
-
-  -- What is read of a term, if nothing may follow.
-  pub whole-term : (r : Reading (List ℕ)) → r ≡ readFirstTerm σ words →
-      andThen r (λ nodes at. andThen (endReader words at) (λ u. give nodes)) ≡ readTerm σ words
-  unfolding readFirstTerm readTerm
-  whole-term r e = rw e
-
-  -- The nodes of the first term are so many words.
-  pub first-fits : (nodes : List ℕ) (at : ℕ) → readFirstTerm σ words ≡ got nodes at →
-      (nodes ≡ take at words) × (at ≡ length nodes) × (at ≤ length words)
-  unfolding readFirstTerm
-  first-fits nodes at e =
-      let h : Front words 0 (got nodes at) = rw e at (forest-front maxNodes 1 0) in
-      let n : length nodes ≡ at = omega arith in
-      (h .0 ∙ ap (λ (k : ℕ). take k words) n, omega arith, omega arith)
-
-  pub first-refused : (code offset : ℕ) →
-      walkOf maxNodes (forestReader (wordSource words) σ maxNodes 1 0) ≡ walk.Fault code offset →
-      fault code offset ≡ readFirstTerm σ words
-  unfolding readFirstTerm
-  first-refused code offset = go (forestReader (wordSource words) σ maxNodes 1 0)
+  pub terms-end : (a n at : ℕ) (end : WordCursor) →
+      passedOf (forestReader (wordSource words) σ a n at) ≡ passing.At end → end .at ≤ at + a
+  terms-end a n at end = go (forestReader (wordSource words) σ a n at) refl (forest-front a n at)
     where
-      go : (r : Reading (List ℕ)) → walkOf maxNodes r ≡ walk.Fault code offset → fault code offset ≡ r
-      go (got xs at) e = let z : _≡_ {A = ℕ} 0 1 = cc in absurd (omega arith)
-      go (fault k o) e = cc
+      go : (r : Reading (List ℕ)) → forestReader (wordSource words) σ a n at ≡ r → Front words at r →
+          passedOf r ≡ passing.At end → end .at ≤ at + a
+      go (got xs next) e (f, g, l) p =
+          let q : record { at = next } ≡ end = cc in
+          rw (← q) (omega (arith, forest-short (wordSource words) σ a n at xs next e))
+      go (fault code offset) e f p = let z : _≡_ {A = ℕ} 0 1 = cc in absurd (omega arith)
 
--- ---- how many symbols a table has
+  -- ---- a term that all the words make up
 
-pub length-symbols : (table : List ℕ) (f n : ℕ) → length (symbolsAt table f n) ≡ n
-length-symbols table f zero = refl
-length-symbols table f (suc n) = ap suc (length-symbols table (suc f) n)
+  abbrev first : Reading (List ℕ)
+  first = forestReader (wordSource words) σ maxNodes 1 0
 
-pub symbol-count : (table : List ℕ) → length (signatureOf table .symbols) ≡ (length table + 2) / 4
-unfolding signatureOf
-symbol-count table = length-symbols table 0 ((length table + 2) / 4)
+  pub whole-fault : (code offset : ℕ) → passedOf first ≡ passing.Fault code offset →
+      fault code offset ≡ readTerm σ words
+  unfolding readTerm
+  whole-fault code offset p = go first refl p
+    where
+      go : (r : Reading (List ℕ)) → first ≡ r → passedOf r ≡ passing.Fault code offset →
+          fault code offset ≡ readTerm σ words
+      go (got xs next) e p = let z : _≡_ {A = ℕ} 0 1 = cc in absurd (omega arith)
+      go (fault k o) e p = rw e (cc)
+
+  module _ (end : WordCursor) (p : passedOf first ≡ passing.At end) where
+    first-read : first ≡ got (take (end .at) words) (end .at)
+    first-read = go first refl (forest-front maxNodes 1 0) p
+      where
+        go : (r : Reading (List ℕ)) → first ≡ r → Front words 0 r → passedOf r ≡ passing.At end →
+            r ≡ got (take (end .at) words) (end .at)
+        go (got xs next) e (f, g, l) p =
+            let q : record { at = next } ≡ end = cc in
+            let n : next ≡ length xs = omega arith in
+            rw (← q, n) (ap (λ (ys : List ℕ). got ys (length xs)) f)
+        go (fault code offset) e f p = let z : _≡_ {A = ℕ} 0 1 = cc in absurd (omega arith)
+
+    pub whole-read : end .at ≡ length words → got (take (end .at) words) (end .at) ≡ readTerm σ words
+    unfolding readTerm endReader
+    whole-read e = rw (first-read, eq-eqb (end .at) (length words) e)
+
+    pub whole-longer : ¬ (end .at ≡ length words) → fault wordsLeftOver (end .at) ≡ readTerm σ words
+    unfolding readTerm endReader
+    whole-longer e = rw (first-read, ne-eqb (end .at) (length words) e)

@@ -1,34 +1,18 @@
 // Reading a term from words.
 ghost use mathlib.Core.Path.{_≡_};
-ghost use Prim.Native.Nat.{_<_};
+ghost use Prim.Native.Nat.{_+_, _*_, _^_, _≤_, _<_};
+ghost use Rattle.terms.specs.Signature.{Signature};
+ghost use Rattle.format.specs.Layout.{maxNodes};
 ghost use Rattle.format.specs.Reading.{wordSource};
 ghost use Rattle.format.specs.Format.{forestReader};
-ghost use Rattle.format.specs.Files.{readFirstTerm, readTerm};
-ghost use Rattle.symbols.specs.Table.{signatureOf};
-ghost use Rattle.words.specs.Term.{nodeOf, walkOf, walked, Onward, termReading};
+ghost use Rattle.format.specs.Files.{readTerm};
+ghost use Rattle.symbols.specs.Arities.{Arities};
+ghost use Rattle.words.specs.Cursor.{passedOf};
+ghost use Rattle.words.specs.Term.{passedBy, termReading};
+use crate::cursor::Passed;
 use crate::cursor::WordCursor;
-use crate::cursor::WordReading;
 
-pub const MAX_NODES: usize = 128;
-
-// How many arguments a node calls for and the cursor past it, or an error's code and offset.
-pub enum NodeReading {
-    Got(usize, WordCursor),
-    Fault(u8, usize),
-}
-
-// The nodes still allowed and the cursor past the terms read, or an error's code and offset.
-pub enum Walk {
-    Done(usize, WordCursor),
-    Fault(u8, usize),
-}
-
-// The nodes still allowed, the cursor past what was read and how many terms are owed there, or an error's code and
-// offset.
-pub enum Progress {
-    To(usize, WordCursor, usize),
-    Fault(u8, usize),
-}
+const MAX_NODES: usize = 128;
 
 // How many words a term takes, or an error's code and offset.
 pub enum TermReading {
@@ -36,114 +20,76 @@ pub enum TermReading {
     Fault(u8, usize),
 }
 
-// A node of a term.
-fn node(table: &[u16], words: &[u16], c: WordCursor) -> NodeReading
-    ensures { λ r. ⌜
-        r ≡ nodeOf (signatureOf (now (table .entry))) (wordSource (now (words .entry)) .node (c .at))
-        ⌝ }
+// The cell as a count.
+fn count(cell: u32) -> usize
+    ensures { λ r. ⌜ (r ≡ cell) × (r < 2 ^ 32) ⌝ }
 {
-    match c.below(words, 272) {
-        WordReading::Fault(code, offset) => NodeReading::Fault(code, offset),
-        WordReading::Got(word) => {
-            let next = word.next;
-            if 256 <= word.value {
-                NodeReading::Got(0, next)
-            } else if 4 * symbols::wide(word.value) + 1 < table.len() {
-                NodeReading::Got(symbols::arity(table, word.value), next)
-            } else {
-                NodeReading::Fault(9, c.at)
-            }
-        }
-    }
+    cell as usize
 }
 
-// Reads on where terms are owed. Of the last one only the node is read, and its arguments are owed in its stead; any
-// other is read whole.
-fn advance(table: &[u16], words: &[u16], c: WordCursor, allowed: usize, owed: usize) -> Progress
-    requires { ⌜ 0 < owed ⌝ }
+// Reads as many terms as are owed. Gives 16 times the offset past them, or 16 times an error's offset plus its code.
+fn terms(words: &&[u16], arities: &[u32; 272], c: WordCursor, allowed: usize, owed: usize) -> usize
+    requires { ⌜ (c .at + allowed ≤ 2 ^ 32) × (owed + 2 ^ 32 * allowed ≤ 2 ^ 60) ⌝ }
     ensures { λ r. ⌜
-        Onward (walked (wordSource (now (words .entry))) (signatureOf (now (table .entry)))) allowed owed (c .at) r
+        ((σ : Signature) → Arities σ (now (arities .entry)) →
+        passedBy r ≡ passedOf (forestReader (wordSource (now (now (words .entry)))) σ allowed owed (c .at)))
         ⌝ }
 {
+    let at = c.at;
+    if owed == 0 {
+        return 16 * at;
+    }
     if allowed == 0 {
-        return Progress::Fault(10, c.at);
+        return 16 * at + 10;
     }
-    match node(table, words, c) {
-        NodeReading::Fault(code, offset) => Progress::Fault(code, offset),
-        NodeReading::Got(arity, next) => {
-            if owed == 1 {
-                return Progress::To(allowed - 1, next, arity);
-            }
-            if arity == 0 {
-                return Progress::To(allowed - 1, next, owed - 1);
-            }
-            match row(table, words, next, allowed - 1, arity) {
-                Walk::Fault(code, offset) => Progress::Fault(code, offset),
-                Walk::Done(left, after) => Progress::To(left, after, owed - 1),
-            }
-        }
+    if words.len() <= at {
+        return 16 * at + 2;
     }
-}
-
-// Reads as many terms as are owed.
-fn row(table: &[u16], words: &[u16], c: WordCursor, allowed: usize, owed: usize) -> Walk
-    ensures { λ r. ⌜
-        r ≡ walked (wordSource (now (words .entry))) (signatureOf (now (table .entry))) allowed owed (c .at)
-        ⌝ }
-{
-    let mut left = allowed;
-    let mut here = c;
-    let mut still = owed;
-    while 0 < still {
-        match advance(table, words, here, left, still) {
-            Progress::Fault(code, offset) => return Walk::Fault(code, offset),
-            Progress::To(fewer, next, more) => {
-                left = fewer;
-                here = next;
-                still = more;
-            }
-        }
+    let word = symbols::wide(words[at]);
+    if 272 <= word {
+        return 16 * at + 14;
     }
-    Walk::Done(left, here)
+    let cell = count(arities[word]);
+    if cell == 0 {
+        return 16 * at + 9;
+    }
+    let next = WordCursor { at: at + 1 };
+    terms(words, arities, next, allowed - 1, (cell - 1) + (owed - 1))
 }
 
 // Reads one term.
-pub fn term(table: &[u16], words: &[u16], c: WordCursor, allowed: usize) -> Walk
+pub fn term(arities: &[u32; 272], words: &[u16], c: WordCursor) -> Passed
+    requires { ⌜ c .at ≤ 2 ^ 20 ⌝ }
     ensures { λ r. ⌜
-        r
-        ≡ walkOf allowed
-        (forestReader (wordSource (now (words .entry))) (signatureOf (now (table .entry))) allowed 1 (c .at))
+        ((σ : Signature) → Arities σ (now (arities .entry)) →
+        r ≡ passedOf (forestReader (wordSource (now (words .entry))) σ maxNodes 1 (c .at)))
         ⌝ }
 {
-    row(table, words, c, allowed, 1)
-}
-
-// Reads the term that stands first among the words.
-pub fn first_term(table: &[u16], words: &[u16]) -> TermReading
-    ensures { λ r. ⌜
-        termReading (now (words .entry)) r ≡ readFirstTerm (signatureOf (now (table .entry))) (now (words .entry))
-        ⌝ }
-{
-    let start = WordCursor { at: 0 };
-    match term(table, words, start, MAX_NODES) {
-        Walk::Fault(code, offset) => TermReading::Fault(code, offset),
-        Walk::Done(_, end) => TermReading::Got(end.at),
+    let number = terms(&words, arities, c, MAX_NODES, 1);
+    let offset = number / 16;
+    let code = number % 16;
+    if code == 0 {
+        Passed::At(WordCursor { at: offset })
+    } else {
+        Passed::Fault(code as u8, offset)
     }
 }
 
 // Reads the term that all the words make up.
-pub fn whole_term(table: &[u16], words: &[u16]) -> TermReading
+pub fn whole_term(arities: &[u32; 272], words: &[u16]) -> TermReading
     ensures { λ r. ⌜
-        termReading (now (words .entry)) r ≡ readTerm (signatureOf (now (table .entry))) (now (words .entry))
+        ((σ : Signature) → Arities σ (now (arities .entry)) →
+        termReading (now (words .entry)) r ≡ readTerm σ (now (words .entry)))
         ⌝ }
 {
-    match first_term(table, words) {
-        TermReading::Fault(code, offset) => TermReading::Fault(code, offset),
-        TermReading::Got(count) => {
-            if count == words.len() {
-                TermReading::Got(count)
+    let start = WordCursor { at: 0 };
+    match term(arities, words, start) {
+        Passed::Fault(code, offset) => TermReading::Fault(code, offset),
+        Passed::At(end) => {
+            if end.at == words.len() {
+                TermReading::Got(end.at)
             } else {
-                TermReading::Fault(15, count)
+                TermReading::Fault(15, end.at)
             }
         }
     }

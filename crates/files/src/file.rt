@@ -85,7 +85,8 @@ fn read_body(words: &[u16], w0: u16, symbols: usize, rules: usize) -> FileReadin
         Passed::Fault(code, offset) => return FileReading::Fault(code, offset),
     };
     let nodes = first.at;
-    let end = match read_rules(&words[3..nodes], words, first, rules) {
+    let arities = symbols::arities(&words[3..nodes]);
+    let end = match read_rules(&arities, words, first, rules) {
         Passed::At(next) => next,
         Passed::Fault(code, offset) => return FileReading::Fault(code, offset),
     };

@@ -1,9 +1,6 @@
 use native.Mathlib.Omega.{arith}
-use mathlib.Core.Path.{sym, ap, _∙_}
-use lib.ListN.{drop}
-use Rattle.symbols.specs.Table.{symbolsAt}
-use Rattle.words.specs.Cursor.{passed, passedOf}
-use Rattle.files.proofs.FileLaws.{part-signature, body-symbols, nodes-begin, body-rules, body-left, body-done}
+use Rattle.files.proofs.FileLaws.{body-symbols, nodes-begin, part-few, part-known, body-rules, body-left}
+use Rattle.files.proofs.FileLaws.{body-done}
 use borrow.Author.Needs.{needs}
 use Rattle.files.proofs.file.read_body.Statement.{statement}
 use Rattle.files.proofs.file.read_body.Tie as tie
@@ -20,43 +17,60 @@ enum-known-code c = search needs
 returns : tie.Need-returns
 returns c =
     let a = c .before .before .before .before .before .args in
-    let l = a .words .now in
-    body-symbols l (a .symbols) (a .w0) (a .rules) _ _
-    (sym (ap (passed (symbolsAt (drop 3 l) 0 (a .symbols))) (c .before .code .given .1)) ∙ c .before .before .before
-    .read-symbols .ensures)
+    let s = c .before .before .before .read-symbols in
+    body-symbols (a .words .now) (a .symbols) (a .w0) (a .rules) (s .result) (s .ensures) _ _
+    (c .before .code .given .1)
 
-sub-read-rules : tie.Need-sub-read-rules
-sub-read-rules c =
+sub-arities : tie.Need-sub-arities
+sub-arities c =
     let a = c .before .before .before .before .before .args in
-    let l = a .words .now in
+    let s = c .before .before .before .read-symbols in
     omega (
       arith,
-      nodes-begin l (a .symbols) (a .w0) (a .rules) (c .before .before .before .before .before .pre) _ _
-          (sym (ap (passed (symbolsAt (drop 3 l) 0 (a .symbols))) (c .before .next .given .1)) ∙ c .before .before
-          .before .read-symbols .ensures),
+      nodes-begin (a .words .now) (a .symbols) (a .w0) (a .rules) (s .result) (s .ensures)
+          (c .before .before .before .before .before .pre) _ (c .before .next .given .1),
     )
 
-part-read-rules-start : tie.Need-part-read-rules-start
-part-read-rules-start c =
+part-arities-start : tie.Need-part-arities-start
+part-arities-start c =
     let a = c .before .before .before .before .before .args in
-    let l = a .words .now in
+    let s = c .before .before .before .read-symbols in
     omega (
       arith,
-      nodes-begin l (a .symbols) (a .w0) (a .rules) (c .before .before .before .before .before .pre) _ _
-          (sym (ap (passed (symbolsAt (drop 3 l) 0 (a .symbols))) (c .before .next .given .1)) ∙ c .before .before
-          .before .read-symbols .ensures),
+      nodes-begin (a .words .now) (a .symbols) (a .w0) (a .rules) (s .result) (s .ensures)
+          (c .before .before .before .before .before .pre) _ (c .before .next .given .1),
     )
 
-part-read-rules-end : tie.Need-part-read-rules-end
-part-read-rules-end c =
+part-arities-end : tie.Need-part-arities-end
+part-arities-end c =
     let a = c .before .before .before .before .before .args in
-    let l = a .words .now in
-    nodes-begin l (a .symbols) (a .w0) (a .rules) (c .before .before .before .before .before .pre) _ _
-    (sym (ap (passed (symbolsAt (drop 3 l) 0 (a .symbols))) (c .before .next .given .1)) ∙ c .before .before .before
-    .read-symbols .ensures) .1
+    let s = c .before .before .before .read-symbols in
+    nodes-begin (a .words .now) (a .symbols) (a .w0) (a .rules) (s .result) (s .ensures)
+    (c .before .before .before .before .before .pre) _ (c .before .next .given .1) .1
+
+arities-requires : tie.Need-arities-requires
+arities-requires c κs =
+    let a = c .before .before .before .before .before .before .args in
+    let s = c .before .before .before .before .read-symbols in
+    part-few (a .words .now) (a .symbols) (a .w0) (a .rules) (s .result) (s .ensures)
+    (c .before .before .before .before .before .before .pre) _ (c .before .before .next .given .1)
 
 read-rules-requires : tie.Need-read-rules-requires
-read-rules-requires c κs = search needs
+read-rules-requires c κs =
+    let a = c .before .before .before .before .before .before .before .before .args in
+    let s = c .before .before .before .before .before .before .read-symbols in
+    let b = nodes-begin (a .words .now) (a .symbols) (a .w0) (a .rules) (s .result) (s .ensures)
+    (c .before .before .before .before .before .before .before .before .pre) _
+    (c .before .before .before .before .next .given .1) in (
+      (
+        omega (arith, b .0, c .before .before .before .before .before .before .before .before .pre .fewSymbols),
+        omega (arith, c .before .before .before .before .before .before .before .before .pre .fewRules),
+      ),
+      part-known (a .words .now) (a .symbols) (a .w0) (a .rules) (s .result) (s .ensures)
+          (c .before .before .before .before .before .before .before .before .pre) _
+          (c .before .before .before .before .next .given .1)
+          (c .before .arities .result) (c .before .arities .ensures),
+    )
 
 enum-known-next-2 : tie.Need-enum-known-next-2
 enum-known-next-2 c = search needs
@@ -66,50 +80,42 @@ enum-known-code-2 c = search needs
 
 returns-2 : tie.Need-returns-2
 returns-2 c =
-    let a = c .before .before .before .before .before .before .before .before .before .before .args in
-    let l = a .words .now in
-    let ss = symbolsAt (drop 3 l) 0 (a .symbols) in
-    let n = c .before .before .before .before .before .before .next .given .0 .0 .at in
-    let e = sym (ap (passed ss) (c .before .before .before .before .before .before .next .given .1)) ∙ c .before
-    .before .before .before .before .before .before .before .read-symbols .ensures in
-    let b = nodes-begin l (a .symbols) (a .w0) (a .rules) (c .before .before .before .before .before .before .before
-    .before .before .before .pre) ss n e in
-    body-rules l (a .symbols) (a .w0) (a .rules) (c .before .before .before .before .before .before .before .before
-    .before .before .pre) ss n e _ _
-    (ap passedOf (sym (part-signature l (a .w0) (a .symbols) n (a .rules) n (b .0) (b .1))) ∙ sym
-    (c .before .before .before .read-rules .ensures) ∙ c .before .code2 .given .1)
+    let a = c .before .before .before .before .before .before .before .before .before .before .before .before .args in
+    let s = c .before .before .before .before .before .before .before .before .before .before .read-symbols in
+    let t = c .before .before .before .before .before .arities in
+    let r = c .before .before .before .read-rules in
+    body-rules (a .words .now) (a .symbols) (a .w0) (a .rules) (s .result) (s .ensures)
+    (c .before .before .before .before .before .before .before .before .before .before .before .before .pre) _
+    (c .before .before .before .before .before .before .before .before .next .given .1)
+    (t .result) (t .ensures) (r .result) (r .ensures) _ _ (c .before .code2 .given .1)
 
 returns-3 : tie.Need-returns-3
 returns-3 c =
-    let a = c .before .before .before .before .before .before .before .before .before .before .before .before .args in
-    let l = a .words .now in
-    let ss = symbolsAt (drop 3 l) 0 (a .symbols) in
-    let n = c .before .before .before .before .before .before .before .before .next .given .0 .0 .at in
-    let e = sym (ap (passed ss) (c .before .before .before .before .before .before .before .before .next .given .1))
-    ∙ c .before .before .before .before .before .before .before .before .before .before .read-symbols .ensures in
-    let b = nodes-begin l (a .symbols) (a .w0) (a .rules) (c .before .before .before .before .before .before .before
-    .before .before .before .before .before .pre) ss n e in
-    body-left l (a .symbols) (a .w0) (a .rules) (c .before .before .before .before .before .before .before .before
-    .before .before .before .before .pre) ss n e _
-    (ap passedOf (sym (part-signature l (a .w0) (a .symbols) n (a .rules) n (b .0) (b .1))) ∙ sym
-    (c .before .before .before .before .before .read-rules .ensures) ∙ c .before .before .before .next2 .given
-    .1) (c .if1 .taken)
+    let a = c .before .before .before .before .before .before .before .before .before .before .before
+    .before .before .before .args in
+    let s = c .before .before .before .before .before .before .before .before .before .before .before
+    .before .read-symbols in
+    let t = c .before .before .before .before .before .before .before .arities in
+    let r = c .before .before .before .before .before .read-rules in
+    body-left (a .words .now) (a .symbols) (a .w0) (a .rules) (s .result) (s .ensures)
+    (c .before .before .before .before .before .before .before .before .before .before .before .before
+    .before .before .pre) _
+    (c .before .before .before .before .before .before .before .before .before .before .next .given .1)
+    (t .result) (t .ensures) (r .result) (r .ensures) _ (c .before .before .before .next2 .given .1) (c .if1 .taken)
 
 returns-4 : tie.Need-returns-4
 returns-4 c =
-    let a = c .before .before .before .before .before .before .before .before .before .before .before .before .args in
-    let l = a .words .now in
-    let ss = symbolsAt (drop 3 l) 0 (a .symbols) in
-    let n = c .before .before .before .before .before .before .before .before .next .given .0 .0 .at in
-    let e = sym (ap (passed ss) (c .before .before .before .before .before .before .before .before .next .given .1))
-    ∙ c .before .before .before .before .before .before .before .before .before .before .read-symbols .ensures in
-    let b = nodes-begin l (a .symbols) (a .w0) (a .rules) (c .before .before .before .before .before .before .before
-    .before .before .before .before .before .pre) ss n e in
-    body-done l (a .symbols) (a .w0) (a .rules) (c .before .before .before .before .before .before .before .before
-    .before .before .before .before .pre) ss n e _
-    (ap passedOf (sym (part-signature l (a .w0) (a .symbols) n (a .rules) n (b .0) (b .1))) ∙ sym
-    (c .before .before .before .before .before .read-rules .ensures) ∙ c .before .before .before .next2 .given
-    .1) (c .if1 .left)
+    let a = c .before .before .before .before .before .before .before .before .before .before .before
+    .before .before .before .args in
+    let s = c .before .before .before .before .before .before .before .before .before .before .before
+    .before .read-symbols in
+    let t = c .before .before .before .before .before .before .before .arities in
+    let r = c .before .before .before .before .before .read-rules in
+    body-done (a .words .now) (a .symbols) (a .w0) (a .rules) (s .result) (s .ensures)
+    (c .before .before .before .before .before .before .before .before .before .before .before .before
+    .before .before .pre) _
+    (c .before .before .before .before .before .before .before .before .before .before .next .given .1)
+    (t .result) (t .ensures) (r .result) (r .ensures) _ (c .before .before .before .next2 .given .1) (c .if1 .left)
 
 pub read-body-spec : {M : Type 1} → statement M
 read-body-spec =
@@ -119,9 +125,10 @@ read-body-spec =
     enum-known-next
     enum-known-code
     returns
-    sub-read-rules
-    part-read-rules-start
-    part-read-rules-end
+    sub-arities
+    part-arities-start
+    part-arities-end
+    arities-requires
     read-rules-requires
     enum-known-next-2
     enum-known-code-2

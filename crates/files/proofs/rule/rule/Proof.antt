@@ -1,6 +1,8 @@
+use native.Mathlib.Omega.{arith}
 use mathlib.Core.Path.{sym, _∙_}
+use Rattle.format.specs.Layout.{maxNodes}
 use Rattle.format.specs.Reading.{wordSource}
-use Rattle.symbols.specs.Table.{signatureOf}
+use Rattle.words.proofs.TermLaws.{terms-end}
 use Rattle.files.proofs.RuleLaws.{rule-one}
 use borrow.Author.Needs.{needs}
 use Rattle.files.proofs.rule.rule.Statement.{statement}
@@ -16,50 +18,29 @@ enum-known-code : tie.Need-enum-known-code
 enum-known-code c = search needs
 
 returns : tie.Need-returns
-returns c =
-    let a = c .before .before .before .before .before .before .args in
-    sym (rule-one (wordSource (a .words .now)) (signatureOf (a .table .now)) (a .c .at) ∙ rw
-    (sym (c .before .before .before .term .ensures) ∙ c .before .code .given .1))
+returns c σ table =
+    sym (rule-one (wordSource (c .before .before .before .before .before .args .words .now)) σ
+    (c .before .before .before .before .before .args .c .at)
+    ∙ rw (sym (c .before .before .before .term .ensures σ table) ∙ c .before .code .given .1))
 
 term-requires-2 : tie.Need-term-requires-2
-term-requires-2 c κs = search needs
-
-enum-known-next-2 : tie.Need-enum-known-next-2
-enum-known-next-2 c = search needs
-
-enum-known-code-2 : tie.Need-enum-known-code-2
-enum-known-code-2 c = search needs
+term-requires-2 c κs =
+    let (σ, table) = c .before .before .before .before .before .pre .1 in
+    omega (
+      arith,
+      terms-end (c .before .before .before .before .before .args .words .now) σ maxNodes 1
+          (c .before .before .before .before .before .args .c .at) _
+          (sym (c .before .before .before .term .ensures σ table) ∙ c .before .next .given .1),
+    )
 
 returns-2 : tie.Need-returns-2
-returns-2 c =
-    let a = c .before .before .before .before .before .before .before .before .before .before .args in
-    sym (rule-one (wordSource (a .words .now)) (signatureOf (a .table .now)) (a .c .at)
-    ∙ rw (
-      sym (c .before .before .before .before .before .before .before .term .ensures) ∙ c .before .before .before
-          .before .before .next .given .1,
-      sym (c .before .before .before .term2 .ensures) ∙ c .before .next2 .given .1,
-    ))
-
-returns-3 : tie.Need-returns-3
-returns-3 c =
-    let a = c .before .before .before .before .before .before .before .before .before .before .args in
-    sym (rule-one (wordSource (a .words .now)) (signatureOf (a .table .now)) (a .c .at)
-    ∙ rw (
-      sym (c .before .before .before .before .before .before .before .term .ensures) ∙ c .before .before .before
-          .before .before .next .given .1,
-      sym (c .before .before .before .term2 .ensures) ∙ c .before .code2 .given .1,
-    ))
+returns-2 c σ table =
+    c .term2 .ensures σ table
+    ∙ sym (rule-one (wordSource (c .before .before .before .before .before .before .args .words .now)) σ
+    (c .before .before .before .before .before .before .args .c .at)
+    ∙ rw (sym (c .before .before .before .before .term .ensures σ table) ∙ c .before .before .next .given .1))
 
 pub rule-spec : {M : Type 1} → statement M
 rule-spec =
     tie.close
-    (tie.spec
-    term-requires
-    enum-known-next
-    enum-known-code
-    returns
-    term-requires-2
-    enum-known-next-2
-    enum-known-code-2
-    returns-2
-    returns-3)
+    (tie.spec term-requires enum-known-next enum-known-code returns term-requires-2 returns-2)

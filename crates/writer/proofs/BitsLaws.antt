@@ -2,7 +2,7 @@
 --     one-shl                                          a power of 2
 --     spelt-same, spelt-add, spelt-lt, spelt-zeros     the number that bits spell
 --     length-bits, bits-binary, spelt-bits             the bits of a number
---     bits-add                                         the bits of two fields side by side
+--     bits-same, bits-last, bits-add                   the last bits of a number, the bits of two fields side by side
 --     bytes-more, bytes-same, length-bytes             bytes one by one
 use mathlib.Core.List.{List, [], _∷_, _++_}
 use mathlib.Core.Path.{_≡_, refl, sym, ap, _∙_}
@@ -20,7 +20,7 @@ use native.Mathlib.Nat.{
   mod-one,
   mul-add-div-right,
 }
-use native.Mathlib.Nat.{add-comm, mod-eq-of-lt, mul-add-mod-self-right}
+use native.Mathlib.Nat.{add-comm, mod-eq-of-lt, mod-mod, mul-add-mod-self-right}
 use native.Mathlib.Omega.{arith}
 use lib.ListN.{length, getD, List·getD-append}
 use lib.Pow.{pow-add, pow-lt, mod-pow-add, mod-mod-pow, field, high, shr-shr}
@@ -94,6 +94,9 @@ bits-same (suc n) u v h =
     sym (field u 1 n) ∙ ap (λ (x : ℕ). x / 2 ^ n) k ∙ field v 1 n in
     let rest : u % 2 ^ n ≡ v % 2 ^ n = sym (mod-mod-pow u 1 n) ∙ ap (λ (x : ℕ). x % 2 ^ n) k ∙ mod-mod-pow v 1 n in
     rw (top, bits-same n u v rest)
+
+pub bits-last : (n v : ℕ) → bitsOf n (v % 2 ^ n) ≡ bitsOf n v
+bits-last n v = bits-same n (v % 2 ^ n) v (mod-mod v (2 ^ n))
 
 -- The bits of a number of two fields.
 pub bits-add : (m n u v : ℕ) → v < 2 ^ n → bitsOf (m + n) (u * 2 ^ n + v) ≡ bitsOf m u ++ bitsOf n v

@@ -6,7 +6,7 @@
 use mathlib.Core.List.{List, [], _∷_, _++_}
 use mathlib.Core.Path.{_≡_, refl, sym, ap, _∙_}
 use Prim.Native.Nat.{ℕ, suc, zero, _+_, _-_, _*_, _/_, _%_, _^_, _≤_, _<_}
-use native.Mathlib.Nat.{add-zero, zero-add, add-suc, suc-add, mod-lt, lt-of-lt-of-le}
+use native.Mathlib.Nat.{add-zero, zero-add, add-suc, suc-add, mod-lt, mod-eq-of-lt, lt-of-lt-of-le}
 use native.Mathlib.Decide.{decLt}
 use native.Mathlib.Numerals.{add-one}
 use native.Mathlib.Omega.{arith}
@@ -62,16 +62,15 @@ shifted-facts w n k l p =
     ]
 
 -- The bits pushed are no more than the count.
-pub pushed-lt : (w : BitWriter) (width v : ℕ) → w .pending < 2 ^ w .count →
+pub pushed-lt : (w : BitWriter) (width v : ℕ) → v < 2 ^ width → w .pending < 2 ^ w .count →
     pushed w width v .pending < 2 ^ (w .count + width)
-pushed-lt w width v p = rw (pow-add 2 (w .count) width) (digits-lt p (mod-lt v (pow-pos width)))
+pushed-lt w width v h p = rw (pow-add 2 (w .count) width) (digits-lt p h)
 
-pub push-fits : (n width v : ℕ) → n < 2 ^ 32 → width ≤ 16 → n * 2 ^ width + v % 2 ^ width < 2 ^ 64
-push-fits n width v h k =
+pub push-fits : (n width v : ℕ) → v < 2 ^ width → n < 2 ^ 32 → width ≤ 16 → n * 2 ^ width + v < 2 ^ 64
+push-fits n width v l h k =
     let e : 32 + width ≤ 48 = omega arith in
     let m : 2 ^ (32 + width) ≤ 2 ^ 48 = pow-mono e in
-    let p : n * 2 ^ width + v % 2 ^ width < 2 ^ (32 + width) =
-    rw (pow-add 2 32 width) (digits-lt h (mod-lt v (pow-pos width))) in
+    let p : n * 2 ^ width + v < 2 ^ (32 + width) = rw (pow-add 2 32 width) (digits-lt h l) in
     omega arith
 
 -- The first byte of a number of at least eight bits.
@@ -140,26 +139,26 @@ module _ (old bits : List ℕ) (w : BitWriter) (bytes : List ℕ) (h : Writes ol
   pub pending-lt : w .pending < 2 ^ w .count
   pending-lt = rw (h .waiting) (spelt-lt (bitOf bits) (h .binary) (8 * w .stored) (w .count))
 
-  spelt-pushed : (width v : ℕ) →
-      w .pending * 2 ^ width + v % 2 ^ width ≡ spelt (bitOf (bits ++ bitsOf width v)) (8 * w .stored) (w .count + width)
-  spelt-pushed width v =
+  spelt-pushed : (width v : ℕ) → v < 2 ^ width →
+      w .pending * 2 ^ width + v ≡ spelt (bitOf (bits ++ bitsOf width v)) (8 * w .stored) (w .count + width)
+  spelt-pushed width v k =
       let b = bitOf (bits ++ bitsOf width v) in
       let old : spelt b (8 * w .stored) (w .count) ≡ w .pending =
       spelt-same b (bitOf bits) (8 * w .stored) (8 * w .stored) (w .count)
       (λ i l. List·getD-append bits (bitsOf width v) 0 (8 * w .stored + i) (omega (arith, h .total))) ∙ sym
       (h .waiting) in
-      let new : spelt b (8 * w .stored + w .count) width ≡ v % 2 ^ width =
+      let new : spelt b (8 * w .stored + w .count) width ≡ v =
       ap (λ (k : ℕ). spelt b k width) (sym (h .total))
       ∙ spelt-same b (bitOf (bitsOf width v)) (length bits) 0 width
       (λ i l. getD-append-add bits (bitsOf width v) i 0 ∙ ap (bitOf (bitsOf width v)) (sym (zero-add i)))
-      ∙ spelt-bits width v in
+      ∙ spelt-bits width v ∙ mod-eq-of-lt k in
       sym (spelt-add b (8 * w .stored) (w .count) width ∙ rw (old, new))
 
-  pub writes-push : (width v : ℕ) → Writes old (bits ++ bitsOf width v) (pushed w width v) bytes
-  writes-push width v = record {
+  pub writes-push : (width v : ℕ) → v < 2 ^ width → Writes old (bits ++ bitsOf width v) (pushed w width v) bytes
+  writes-push width v k = record {
     binary = append-binary bits (bitsOf width v) (h .binary) (bits-binary width v);
     total = simp (length-append, length-bits) (omega (arith, h .total));
-    waiting = spelt-pushed width v;
+    waiting = spelt-pushed width v k;
     front = h .front ∙ ap (sets old 0) (sym (bytes-same bits (bitsOf width v) 0 (w .stored)
         (omega (arith, h .total))));
   }

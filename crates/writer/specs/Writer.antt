@@ -11,10 +11,10 @@ use Rattle.format.specs.Reading.{spelt}
 use Rattle.format.specs.Packing.{bytesFrom}
 use Rattle.writer.specs.declared.BitWriter.{BitWriter}
 
--- The last bits of a value behind those that wait.
+-- A value of so many bits behind those that wait.
 abbrev pub pushed : BitWriter → ℕ → ℕ → BitWriter
 pushed w width value =
-    record { stored = w .stored; pending = w .pending * 2 ^ width + value % 2 ^ width; count = w .count + width }
+    record { stored = w .stored; pending = w .pending * 2 ^ width + value; count = w .count + width }
 
 -- The first eight bits that wait are stored, where there are as many.
 abbrev pub shifted : BitWriter → BitWriter

@@ -1,7 +1,7 @@
 // Writing fields into bytes, most significant bit first.
 ghost use mathlib.Core.Path.{_≡_};
 ghost use mathlib.Core.List.{List, _++_};
-ghost use Prim.Native.Nat.{ℕ, _+_, _*_, _^_, _<_, _≤_};
+ghost use Prim.Native.Nat.{ℕ, _+_, _*_, _%_, _^_, _<_, _≤_};
 ghost use lib.ListN.{length, set};
 ghost use lib.Seq.{sets};
 ghost use Rattle.format.specs.Packing.{bitsOf, bytesOf};
@@ -20,6 +20,14 @@ fn two_to(k: usize) -> u64
     ensures { λ r. ⌜ (r ≡ 2 ^ k) × (0 < r) ⌝ }
 {
     1u64 << k
+}
+
+// The last width bits of a value.
+pub fn last_bits(value: u16, width: usize) -> u16
+    requires { ⌜ width ≤ 16 ⌝ }
+    ensures { λ r. ⌜ (r ≡ value % 2 ^ width) × (r < 2 ^ width) ⌝ }
+{
+    (value as u64 % two_to(width)) as u16
 }
 
 // Sets byte i, where there is one.
@@ -43,14 +51,14 @@ fn put_four(bytes: &mut [u8], i: usize, value: u32)
 }
 
 impl BitWriter {
-    // The last width bits of a value after those that wait.
+    // A value of so many bits after those that wait.
     fn push(self, width: usize, value: u16) -> BitWriter
-        requires { ⌜ (self .count < 32) × (self .pending < 2 ^ 32) × (width ≤ 16) ⌝ }
+        requires { ⌜ (self .count < 32) × (self .pending < 2 ^ 32) × (width ≤ 16) × (value < 2 ^ width) ⌝ }
         ensures { λ r. ⌜ r ≡ pushed self width value ⌝ }
     {
         BitWriter {
             stored: self.stored,
-            pending: self.pending * two_to(width) + value as u64 % two_to(width),
+            pending: self.pending * two_to(width) + value as u64,
             count: self.count + width,
         }
     }
@@ -94,9 +102,9 @@ impl BitWriter {
         }
     }
 
-    // Writes the last width bits of a value, for which there is room.
+    // Writes a value of so many bits, for which there is room.
     pub fn put(self, bytes: &mut [u8], width: usize, value: u16) -> BitWriter
-        requires { ⌜ (self .count < 32) × (self .pending < 2 ^ self .count) × (width ≤ 16) ⌝ }
+        requires { ⌜ (self .count < 32) × (self .pending < 2 ^ self .count) × (width ≤ 16) × (value < 2 ^ width) ⌝ }
         requires { ⌜ 8 * self .stored + self .count + width ≤ 8 * length (now bytes) ⌝ }
         ensures { λ r. ⌜ r .count < 32 ⌝ }
         ensures { λ r. ⌜

@@ -6,13 +6,18 @@ use Rattle.writer.proofs.BitWriter.put.Tie as tie
 
 push-requires : tie.Need-push-requires
 push-requires c κs =
-    let s = c .before .args .self in
-    (omega arith, below-word (s .pending) (s .count) (c .before .pre .0 .0) (c .before .pre .0 .1), omega arith)
+    let s = c .before .args .self in (
+      omega arith,
+      below-word (s .pending) (s .count) (c .before .pre .0 .0) (c .before .pre .0 .1),
+      omega arith,
+      c .before .pre .0 .3,
+    )
 
 store-four-requires : tie.Need-store-four-requires
 store-four-requires c κs =
     let a = c .before .before .before .args in
-    let p = pushed-lt (a .self) (a .width) (a .value) (c .before .before .before .pre .0 .1) in
+    let p = pushed-lt (a .self) (a .width) (a .value) (c .before .before .before .pre .0 .3)
+    (c .before .before .before .pre .0 .1) in
     rw (c .before .push .ensures) (omega arith, (omega arith, p))
 
 same-length : tie.Need-same-length
@@ -23,8 +28,9 @@ returns c =
     let a = c .before .before .before .before .before .before .args in (
       c .before .before .store-four .ensures .0,
       λ old bits h. c .before .before .store-four .ensures .1 old _
-          (rw (c .before .before .before .before .push .ensures) (writes-push old bits (a .self) _ h (a .width) (a
-          .value))),
+          (rw (c .before .before .before .before .push .ensures)
+          (writes-push old bits (a .self) _ h (a .width) (a .value)
+          (c .before .before .before .before .before .before .pre .0 .3))),
     )
 
 pub put-spec : {M : Type 1} → statement M

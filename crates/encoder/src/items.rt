@@ -4,12 +4,13 @@ ghost use mathlib.Core.List.{List, _++_};
 ghost use Prim.Native.Nat.{ℕ, _+_, _*_, _^_, _<_, _≤_};
 ghost use lib.ListN.{length};
 ghost use lib.Seq.{sets};
-ghost use Rattle.format.specs.Packing.{itemBits, bytesOf};
+ghost use Rattle.format.specs.Packing.{bitsOf, itemBits, bytesOf};
 ghost use Rattle.format.specs.Packing.Item.{node};
 ghost use Rattle.writer.specs.Writer.{Writes};
 ghost use Rattle.files.specs.Items.{fieldWidth};
 ghost use Rattle.encoder.specs.Items.{bitsTo};
 use writer::BitWriter;
+use writer::last_bits;
 
 // The bits of the header, and of a symbol.
 const HEADER_BITS: usize = 38;
@@ -44,6 +45,15 @@ fn node_width(word: u16) -> usize
     if word < 256 { 9 } else { 5 }
 }
 
+// The bits of a node as a number.
+fn node_value(word: u16) -> u16
+    ensures { λ r. ⌜
+        (bitsOf (length (itemBits (node word))) r ≡ itemBits (node word)) × (r < 2 ^ length (itemBits (node word)))
+        ⌝ }
+{
+    if word < 256 { word } else { 16 + word % 16 }
+}
+
 // How many bits the items of all words take, where there are so many symbols.
 pub fn packed_bits(words: &[u16], symbols: usize) -> usize
     requires { ⌜ (4 + 4 * symbols ≤ length (now words)) × (length (now words) < 2 ^ 32) ⌝ }
@@ -76,7 +86,8 @@ fn write_fields(words: &[u16], nodes: usize, bytes: &mut [u8]) -> BitWriter
     };
     let mut i = 0;
     while i < nodes {
-        writer = writer.put(bytes, field_width(i), words[i]);
+        let width = field_width(i);
+        writer = writer.put(bytes, width, last_bits(words[i], width));
         i += 1;
     }
     writer
@@ -92,11 +103,7 @@ fn write_node(writer: BitWriter, word: u16, bytes: &mut [u8]) -> BitWriter
         Writes old (bits ++ itemBits (node word)) r (now (bytes .exit)))
         ⌝ }
 {
-    if word < 256 {
-        writer.put(bytes, 9, word)
-    } else {
-        writer.put(bytes, 5, 16 + word % 16)
-    }
+    writer.put(bytes, node_width(word), node_value(word))
 }
 
 // Writes the bits of all items, with zeros up to a whole byte, to the front of the bytes.

@@ -1,11 +1,12 @@
 use borrow.Author.Needs.{needs}
 use native.Mathlib.Omega.{arith}
-use Prim.Native.Nat.{_+_, _-_, _≤_, _<_}
-use mathlib.Core.Path.{_≡_, refl, _∙_}
-use lib.ListN.{length}
-use Rattle.format.specs.Packing.{itemBits}
+use Prim.Native.Nat.{ℕ, _+_, _-_, _≤_, _<_}
+use mathlib.Core.Path.{_≡_, refl, ap, _∙_}
+use lib.ListN.{length, getD}
+use Rattle.format.specs.Packing.{bitsOf, itemBits}
 use Rattle.files.specs.Items.{fieldWidth}
 use Rattle.writer.specs.Writer.{Writes}
+use Rattle.writer.proofs.BitsLaws.{bits-last}
 use Rattle.writer.proofs.WriterLaws.{writes-none, pending-lt}
 use Rattle.encoder.specs.Items.{bitsTo}
 use Rattle.encoder.proofs.ItemBits.{flat-nil, field-bits, field-more, bits-more, bits-mono}
@@ -25,34 +26,42 @@ loop-holds c = (
   omega arith,
   refl,
   omega arith,
-  rw (flat-nil itemBits) (writes-none (c .before .before .args .bytes
-      .now)),
+  rw (flat-nil itemBits)
+      (writes-none (c .before .before .args .bytes .now)),
 )
 
 field-width-requires : tie.Need-field-width-requires Inv-loop μ-loop
 field-width-requires c κs = search needs
 
-mul-put : tie.Need-mul-put Inv-loop μ-loop
-mul-put c = search needs
+mul-last-bits : tie.Need-mul-last-bits Inv-loop μ-loop
+mul-last-bits c = search needs
 
-shared-slice-read-put : tie.Need-shared-slice-read-put Inv-loop μ-loop
-shared-slice-read-put c = search needs
+shared-slice-read-last-bits : tie.Need-shared-slice-read-last-bits Inv-loop μ-loop
+shared-slice-read-last-bits c = search needs
+
+last-bits-requires : tie.Need-last-bits-requires Inv-loop μ-loop
+last-bits-requires c κs = search needs
 
 put-requires : tie.Need-put-requires Inv-loop μ-loop
 put-requires c κs =
-    let l = c .before .before .before .before .before .before .before .args .words .now in
-    let n = c .before .before .before .before .before .before .before .args .nodes in
-    let i = c .before .before .before .before .loop .i in
-    let h = c .before .before .before .before .loop .inv .3 in (
-      (c .before .before .before .before .loop .inv .2, pending-lt _ _ _ _ h, c .before .field-width .ensures .1),
+    let l = c .before .before .before .before .before .before .before .before .args .words .now in
+    let n = c .before .before .before .before .before .before .before .before .args .nodes in
+    let i = c .before .before .before .before .before .loop .i in
+    let h = c .before .before .before .before .before .loop .inv .3 in (
+      (
+        c .before .before .before .before .before .loop .inv .2,
+        pending-lt _ _ _ _ h,
+        c .before .before .before .field-width .ensures .1,
+        c .last-bits .ensures .1,
+      ),
       omega (
         arith,
         h .total,
-        field-more l n i (i + 1) (fieldWidth i) refl (c .before .before .before .loop-test .taken) refl,
+        field-more l n i (i + 1) (fieldWidth i) refl (c .before .before .before .before .loop-test .taken) refl,
         bits-mono l n (i + 1) n (omega arith),
-        c .before .field-width .ensures .0,
-        c .before .before .before .before .before .before .before .pre .1,
-        c .before .before .before .before .loop .inv .1,
+        c .before .before .before .field-width .ensures .0,
+        c .before .before .before .before .before .before .before .before .pre .1,
+        c .before .before .before .before .before .loop .inv .1,
       ),
     )
 
@@ -64,20 +73,26 @@ loop-less c = search needs
 
 loop-again : tie.Need-loop-again Inv-loop μ-loop
 loop-again c =
-    let l = c .before .before .before .before .before .before .before .before .before .before .args .words .now in
-    let n = c .before .before .before .before .before .before .before .before .before .before .args .nodes in
-    let i = c .before .before .before .before .before .before .before .loop .i in (
+    let l = c .before .before .before .before .before .before .before .before .before .before
+    .before .args .words .now in
+    let n = c .before .before .before .before .before .before .before .before .before .before .before .args .nodes in
+    let i = c .before .before .before .before .before .before .before .before .loop .i in
+    let w = c .before .before .before .before .before .before .field-width in
+    let e = ap (bitsOf (w .result)) (c .before .before .before .last-bits .ensures .0) ∙ bits-last (w .result)
+    (getD l i 0)
+    ∙ ap (λ (k : ℕ). bitsOf k (getD l i 0)) (w .ensures .0) in (
       omega arith,
-      c .before .before .put .kept .1 .0 ∙ c .before .before .before .before .before .before .before .loop .inv .1,
+      c .before .before .put .kept .1 .0 ∙
+          c .before .before .before .before .before .before .before .before .loop .inv .1,
       c .before .before .put .ensures .0,
       rw (
         bits-more l n i,
-        field-bits l n i (c .before .before .before .before .before .before .loop-test .taken),
-        ←
-            c .before .before .before .before .field-width .ensures .0,
+        field-bits l n i
+            (c .before .before .before .before .before .before .before .loop-test .taken),
+        ← e,
       )
-          (c .before .before .put .ensures .1 _ _ (c .before .before .before .before .before .before .before .loop
-          .inv .3)),
+          (c .before .before .put .ensures .1 _ _
+          (c .before .before .before .before .before .before .before .before .loop .inv .3)),
     )
 
 same-length : tie.Need-same-length Inv-loop μ-loop
@@ -96,8 +111,9 @@ write-fields-spec =
     μ-loop
     loop-holds
     field-width-requires
-    mul-put
-    shared-slice-read-put
+    mul-last-bits
+    shared-slice-read-last-bits
+    last-bits-requires
     put-requires
     add-i
     loop-less

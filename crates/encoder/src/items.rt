@@ -12,10 +12,12 @@ ghost use Rattle.encoder.specs.Items.{bitsTo};
 use writer::BitWriter;
 use writer::last_bits;
 
-// The bits of the header, and of a symbol.
+// The bits of the header, of a symbol, and of a node that is one.
 const HEADER_BITS: usize = 38;
 
 const SYMBOL_BITS: usize = 28;
+
+const SYMBOL_NODE_BITS: usize = 9;
 
 // The width of the field at word i, in the header or in a symbol.
 fn field_width(i: usize) -> usize
@@ -38,11 +40,18 @@ fn field_width(i: usize) -> usize
     }
 }
 
+// The tag of a node: 1 for a variable, which takes four bits fewer than a symbol.
+fn tag(word: u16) -> u32
+    ensures { λ r. ⌜ (length (itemBits (node word)) + 4 * r ≡ 9) × (r ≤ 1) ⌝ }
+{
+    if word < 256 { 0 } else { 1 }
+}
+
 // How many bits a node takes.
 fn node_width(word: u16) -> usize
     ensures { λ r. ⌜ (r ≡ length (itemBits (node word))) × (r ≤ 16) ⌝ }
 {
-    if word < 256 { 9 } else { 5 }
+    SYMBOL_NODE_BITS - 4 * tag(word) as usize
 }
 
 // The bits of a node as a number.
@@ -61,13 +70,15 @@ pub fn packed_bits(words: &[u16], symbols: usize) -> usize
         r ≡ length (bitsTo (now (words .entry)) (4 + 4 * symbols) (length (now (words .entry))))
         ⌝ }
 {
-    let mut bits = HEADER_BITS + SYMBOL_BITS * symbols;
-    let mut i = 4 + 4 * symbols;
+    let nodes = 4 + 4 * symbols;
+    let mut variables = 0u32;
+    let mut i = nodes;
     while i < words.len() {
-        bits += node_width(words[i]);
+        variables += tag(words[i]);
         i += 1;
     }
-    bits
+    HEADER_BITS + SYMBOL_BITS * symbols + SYMBOL_NODE_BITS * (words.len() - nodes)
+        - 4 * variables as usize
 }
 
 // Writes the bits of the fields, which are before word `nodes`, to the front of the bytes.

@@ -2,7 +2,7 @@
 --     header-got                                        a header whose fields are without fault
 --     nodes-begin, part-few, part-known                 the words that hold the symbols
 --     body-symbols, body-rules, body-left, body-done    what follows a header, by how far it can be read
-use mathlib.Core.List.{List, [], _∷_}
+use mathlib.Core.List.{List, []}
 use mathlib.Core.Path.{_≡_, refl, sym, ap, _∙_}
 use Prim.Native.Nat.{ℕ, suc, zero, _+_, _-_, _*_, _/_, _≤_, _<_}
 use native.Mathlib.Omega.{arith}

@@ -16,9 +16,7 @@ use native.Mathlib.Nat.{
   mul-one,
   mul-assoc,
   add-mul,
-  mod-lt,
   mod-one,
-  mul-add-div-right,
 }
 use native.Mathlib.Nat.{add-comm, mod-eq-of-lt, mod-mod, mul-add-mod-self-right}
 use native.Mathlib.Omega.{arith}

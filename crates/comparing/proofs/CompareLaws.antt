@@ -4,11 +4,10 @@
 --     numbered-relation, terms-read     the relation of a number is that of the terms
 use mathlib.Core.List.{List}
 use mathlib.Core.Path.{_≡_, sym, ap, _∙_}
-use Prim.Native.Nat.{ℕ, _+_, _*_, _≤_}
+use Prim.Native.Nat.{ℕ, _≤_}
 use native.Mathlib.Omega.{arith}
 use lib.IntN.{ℤ}
-use lib.ListN.{length, take}
-use lib.Seq.{length-take-le}
+use lib.ListN.{length}
 use Rattle.multisets.proofs.Relations.{byTest}
 use Rattle.terms.specs.Signature.{Signature, Admissible}
 use Rattle.terms.specs.Term.{Term}
@@ -21,10 +20,8 @@ use Rattle.format.specs.Files.{readBytes, readTerm}
 use Rattle.format.specs.Replies.{Reply}
 use Rattle.format.specs.Replies.Reply.{accepted, refused}
 use Rattle.format.specs.Statements.{IsTerm}
-use Rattle.format.specs.Statements.IsRead.{fromBytes}
-use Rattle.format.proofs.Theorems.{readable-admissible, read-term-well-formed}
+use Rattle.format.proofs.Theorems.{read-term-well-formed}
 use Rattle.symbols.specs.Table.{signatureOf}
-use Rattle.reader.specs.File.{FileParts}
 use Rattle.order.specs.Compared as order
 use Rattle.comparing.specs.declared.Relation.{Relation}
 use Rattle.comparing.specs.Comparing.{Comparison, relation, comparison, comparedRight, comparedTerms, compared}
@@ -81,14 +78,6 @@ module _ (bytes left right : List ℕ) where
   book-read file end e r h = h ∙ rw e
 
 -- The table that reading leaves.
-pub table-of : (bytes table : List ℕ) (file : RuleFile) (end symbols rules words offset : ℕ) → 1021 ≡ length table →
-    readBytes bytes ≡ got file end → FileParts bytes table file symbols rules words offset →
-    (length (take (1 + 4 * symbols) table) ≤ 1021) × Admissible (signatureOf (take (1 + 4 * symbols) table))
-table-of bytes table file end symbols rules words offset n e p = (
-  omega (arith, length-take-le (1 + 4 * symbols) table (omega (arith, p .fewSymbols)), p .fewSymbols),
-  rw (p .signature) (readable-admissible file (fromBytes bytes end e) .0),
-)
-
 pub numbered-relation : (σ : Signature) (s t : Term) → relationOf (relationNumbered (order.relation σ s t)) ≡ relation σ
     s t
 unfolding order.relation relation

@@ -6,6 +6,7 @@ ghost use Rattle.terms.specs.Signature.{Admissible};
 ghost use Rattle.terms.specs.Words.{termOf};
 ghost use Rattle.format.specs.Statements.{IsTerm};
 ghost use Rattle.symbols.specs.Table.{signatureOf};
+ghost use Rattle.symbols.specs.Arities.{Arities};
 ghost use Rattle.comparing.specs.Comparing.{comparison, comparedRight, comparedTerms, compared};
 ghost use Rattle.comparing.specs.Reply.{relationNumbered, replyOf, comparisonOf};
 use decoder::Error;
@@ -73,22 +74,22 @@ fn compare_read(table: &[u16], left: &[u16], right: &[u16]) -> Comparison
 }
 
 // Compares a left term that was read with the right one.
-fn compare_right(table: &[u16], left: &[u16], right: &[u16]) -> CompareReply
+fn compare_right(table: &[u16], arities: &[u32; 272], left: &[u16], right: &[u16]) -> CompareReply
     requires { ⌜ (length (now table) ≤ 1021) × Admissible (signatureOf (now table)) ⌝ }
-    requires { ⌜ IsTerm (signatureOf (now table)) (now left) ⌝ }
+    requires { ⌜ IsTerm (signatureOf (now table)) (now left) × Arities (signatureOf (now table)) (now arities) ⌝ }
     ensures { λ r. ⌜
         replyOf r
         ≡ comparedRight (signatureOf (now (table .entry)))
         (termOf (signatureOf (now (table .entry))) (now (left .entry))) (now (right .entry))
         ⌝ }
 {
-    match whole_term(table, right) {
+    match whole_term(arities, right) {
         TermReading::Fault(code, offset) => CompareReply::Refused(Error {
             code,
             input: 2,
             offset,
         }),
-        TermReading::Got(count) => CompareReply::Accepted(compare_read(table, left, right)),
+        TermReading::Got(_) => CompareReply::Accepted(compare_read(table, left, right)),
     }
 }
 
@@ -99,13 +100,14 @@ fn compare_terms(table: &[u16], left: &[u16], right: &[u16]) -> CompareReply
         replyOf r ≡ comparedTerms (signatureOf (now (table .entry))) (now (left .entry)) (now (right .entry))
         ⌝ }
 {
-    match whole_term(table, left) {
+    let arities = symbols::arities(table);
+    match whole_term(&arities, left) {
         TermReading::Fault(code, offset) => CompareReply::Refused(Error {
             code,
             input: 1,
             offset,
         }),
-        TermReading::Got(count) => compare_right(table, left, right),
+        TermReading::Got(_) => compare_right(table, &arities, left, right),
     }
 }
 
@@ -114,7 +116,8 @@ pub fn compare(book: &[u8], left: &[u16], right: &[u16]) -> CompareReply
     ensures { λ r. ⌜ replyOf r ≡ compared (now (book .entry)) (now (left .entry)) (now (right .entry)) ⌝ }
 {
     let mut table = [0u16; TABLE_WORDS];
-    match read_file(book, &mut table) {
+    let mut nothing = [0u16; 1];
+    match read_file(book, &mut table, &mut nothing) {
         File::Fault(code, offset) => CompareReply::Refused(Error {
             code,
             input: 0,

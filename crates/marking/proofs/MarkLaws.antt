@@ -1,5 +1,5 @@
 -- What marking gives back, by what its bytes read as.
---     table-of                                 the table that reading leaves
+--     is-table                                 the table that reading leaves
 --     mark-fault, mark-short, mark-written     the ends of marking
 --     front-stored                             the marks that were kept elsewhere
 use mathlib.Core.List.{List}
@@ -8,7 +8,7 @@ use Prim.Native.Nat.{ℕ, _+_, _*_, _^_, _≤_, _<_}
 use native.Mathlib.Omega.{arith}
 use native.Mathlib.Nat.{zero-add}
 use lib.ListN.{length, take, drop}
-use lib.Seq.{sets, sets-eq, take-append-seam, length-take-le}
+use lib.Seq.{sets, sets-eq, take-append-seam}
 use borrow.Author.Tests.{le-leb, lt-leb}
 use Rattle.multisets.proofs.Relations.{byOrder}
 use Rattle.format.specs.Errors.{fileTooLong, marksTooShort}
@@ -20,16 +20,16 @@ use Rattle.format.specs.Files.{readBytes}
 use Rattle.format.specs.Replies.Reply.{accepted, refused}
 use Rattle.format.proofs.Theorems.{faults-within}
 use Rattle.reader.specs.File.{HeadParts}
+use Rattle.reader.proofs.FileLaws.{table-of}
 use Rattle.marking.specs.Marking.{decreasingCount, scoreOf, marked}
 use Rattle.marking.specs.Rule.{IsTable, sidesMarks}
 use Rattle.marking.proofs.RuleLaws.{length-marks}
 
-pub table-of : (bytes table : List ℕ) (symbols rules offset : ℕ) → 1021 ≡ length table →
+pub is-table : (bytes table : List ℕ) (symbols rules offset : ℕ) → 1021 ≡ length table →
     HeadParts bytes table symbols rules offset → IsTable (take (1 + 4 * symbols) table)
-table-of bytes table symbols rules offset n head = record {
-  short = omega (arith, length-take-le (1 + 4 * symbols) table (omega (arith, head .fewSymbols)), head .fewSymbols);
-  admissible = head .admissible;
-}
+is-table bytes table symbols rules offset n head =
+    let (short, admissible) = table-of bytes table symbols rules offset n head in
+    record { short = short; admissible = admissible }
 
 -- A fault lies within 32,768 bytes.
 pub fault-small : (bytes : List ℕ) (code offset : ℕ) → readBytes bytes ≡ fault code offset → offset < 10 ^ 9

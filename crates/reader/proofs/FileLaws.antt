@@ -2,7 +2,7 @@
 --     signature-front                              the signature of a table's front part
 --     rules-length                                 as many rules as were asked for
 --     unpacked-parts, unpacked-length              the words of a file
---     symbols-fault, head-read                     what follows a header
+--     symbols-fault, head-read, table-of           what follows a header
 --     rest-unread, rest-unpadded, rest-padded, rest-read     what follows the symbols
 --     rest-fault, file-read                        the whole
 use mathlib.Core.Path.{_≡_, refl, sym, ap, _∙_}
@@ -28,7 +28,7 @@ use Rattle.reader.specs.declared.file.Head.the-variants as head
 use Rattle.reader.specs.declared.file.File.the-variants as file
 use Rattle.bits.specs.Cursor.{isPadding}
 use Rattle.reader.specs.Rule.{WordsRead, ruleReader, rulesWords}
-use Rattle.reader.specs.File.{bodyReader, restReader, HeadRead, RestRead, FileRead, symbolsWords}
+use Rattle.reader.specs.File.{bodyReader, restReader, HeadParts, HeadRead, RestRead, FileRead, symbolsWords}
 use Rattle.symbols.proofs.TableLaws.{length-symbols}
 use Rattle.format.proofs.ReadingLaws.{andThen-assoc, andThen-same, holds-got}
 use Rattle.format.proofs.FormatLaws.{symbols-read}
@@ -170,6 +170,15 @@ module _ (bytes : List ℕ) (w0 symbols rules at : ℕ) where
               (symbols-within (8 * length bytes) (bitSource bytes) (bits-bounded bytes) w0 symbols [] at start) read;
         },
       )
+
+-- The table that reading a head leaves.
+pub table-of : (bytes table : List ℕ) (symbols rules offset : ℕ) → 1021 ≡ length table →
+    HeadParts bytes table symbols rules offset →
+    (length (take (1 + 4 * symbols) table) ≤ 1021) × Admissible (signatureOf (take (1 + 4 * symbols) table))
+table-of bytes table symbols rules offset n head = (
+  omega (arith, length-take-le (1 + 4 * symbols) table (omega (arith, head .fewSymbols)), head .fewSymbols),
+  head .admissible,
+)
 
 -- ---- after the symbols
 

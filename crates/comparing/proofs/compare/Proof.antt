@@ -1,14 +1,17 @@
-use mathlib.Core.Path.{_≡_, sym, _∙_}
+use mathlib.Core.Path.{sym, _∙_}
 use native.Mathlib.Omega.{arith}
-use lib.ListN.{length}
 use lib.Seq.{length-take-le}
-use Rattle.comparing.proofs.CompareLaws.{table-of, book-fault, book-read}
+use Rattle.reader.proofs.FileLaws.{table-of}
+use Rattle.comparing.proofs.CompareLaws.{book-fault, book-read}
 use borrow.Author.Needs.{needs}
 use Rattle.comparing.proofs.compare.Statement.{statement}
 use Rattle.comparing.proofs.compare.Tie as tie
 
 slice-aggregate-read-file : tie.Need-slice-aggregate-read-file
 slice-aggregate-read-file c = search needs
+
+slice-aggregate-read-file-2 : tie.Need-slice-aggregate-read-file-2
+slice-aggregate-read-file-2 c = search needs
 
 read-file-requires : tie.Need-read-file-requires
 read-file-requires c κs = search needs
@@ -21,53 +24,38 @@ enum-known-symbol-count c = search needs
 
 mul-front : tie.Need-mul-front
 mul-front c =
-    let (file, end, read, parts) = (rw (c .before .symbol-count .given .1) at
-    (c .before .before .before .before .read-file .ensures)) in
-    omega (arith, parts .fewSymbols)
+    let (file, end, read, parts) = (rw (c .before .symbol-count .given .1) at (c .before .before .before .before .before .read-file .ensures)) in
+    omega (arith, parts .head .fewSymbols)
 
 add-front : tie.Need-add-front
 add-front c =
-    let (file, end, read, parts) = (rw (c .before .symbol-count .given .1) at
-    (c .before .before .before .before .read-file .ensures)) in
-    omega (arith, parts .fewSymbols)
+    let (file, end, read, parts) = (rw (c .before .symbol-count .given .1) at (c .before .before .before .before .before .read-file .ensures)) in
+    omega (arith, parts .head .fewSymbols)
 
 array-share-prefix-table : tie.Need-array-share-prefix-table
 array-share-prefix-table c =
-    let (file, end, read, parts) = (rw (c .before .symbol-count .given .1) at
-    (c .before .before .before .before .read-file .ensures)) in
-    let n : length (c .before .before .before .before .read-file .last .1 .0) ≡ 1021 =
-    c .before .before .before .before .read-file .kept .1 .0 in
-    omega (arith, parts .fewSymbols)
+    let (file, end, read, parts) = (rw (c .before .symbol-count .given .1) at (c .before .before .before .before .before .read-file .ensures)) in
+    omega (arith, parts .head .fewSymbols, c .before .before .before .before .before .read-file .kept .1 .0)
 
 slice-aggregate-compare-terms : tie.Need-slice-aggregate-compare-terms
 slice-aggregate-compare-terms c =
-    let (file, end, read, parts) = (rw (c .before .before .symbol-count .given .1) at
-    (c .before .before .before .before .before .read-file .ensures)) in
-    let n : length (c .before .before .before .before .before .read-file .last .1 .0) ≡ 1021 =
-    c .before .before .before .before .before .read-file .kept .1 .0 in
-    sym (length-take-le _ (c .before .before .before .before .before .read-file .last .1 .0)
-    (omega (arith, parts .fewSymbols)))
+    let (file, end, read, parts) = (rw (c .before .before .symbol-count .given .1) at (c .before .before .before .before .before .before .read-file .ensures)) in
+    sym (length-take-le _ (c .before .before .before .before .before .before .read-file .last .1 .0) (omega (arith, parts .head .fewSymbols, c .before .before .before .before .before .before .read-file .kept .1 .0)))
 
 compare-terms-requires : tie.Need-compare-terms-requires
 compare-terms-requires c κs =
-    let (file, end, read, parts) = (rw (c .before .before .symbol-count .given .1) at
-    (c .before .before .before .before .before .read-file .ensures)) in
-    let n : length (c .before .before .before .before .before .read-file .last .1 .0) ≡ 1021 =
-    c .before .before .before .before .before .read-file .kept .1 .0 in
-    table-of (c .before .before .before .before .before .before .before .before .before .before .args .book .now) _
-    file end _ _ _ _ (sym n) read parts
+    let (file, end, read, parts) = (rw (c .before .before .symbol-count .given .1) at (c .before .before .before .before .before .before .read-file .ensures)) in
+    table-of (c .before .before .before .before .before .before .before .before .before .before .before .before .args .book .now) _ _ _ _ (sym (c .before .before .before .before .before .before .read-file .kept .1 .0)) (parts .head)
 
 returns : tie.Need-returns
 returns c =
-    let a = c .before .before .before .before .before .before .before .before .before .args in
-    book-fault (a .book .now) (a .left .now) (a .right .now) _ _
-    (rw (c .before .code .given .1) at (c .before .before .before .before .read-file .ensures))
+    let a = c .before .before .before .before .before .before .before .before .before .before .before .args in
+    book-fault (a .book .now) (a .left .now) (a .right .now) _ _ (rw (c .before .code .given .1) at (c .before .before .before .before .before .read-file .ensures))
 
 returns-2 : tie.Need-returns-2
 returns-2 c =
-    let a = c .before .before .before .before .before .before .before .before .before .before .before .args in
-    let (file, end, read, parts) = (rw (c .before .before .before .symbol-count .given .1) at
-    (c .before .before .before .before .before .before .read-file .ensures)) in
+    let a = c .before .before .before .before .before .before .before .before .before .before .before .before .before .args in
+    let (file, end, read, parts) = (rw (c .before .before .before .symbol-count .given .1) at (c .before .before .before .before .before .before .before .read-file .ensures)) in
     book-read (a .book .now) (a .left .now) (a .right .now) file end read _
     (c .compare-terms .ensures ∙ rw (parts .signature))
 
@@ -76,6 +64,7 @@ compare-spec =
     tie.close
     (tie.spec
     slice-aggregate-read-file
+    slice-aggregate-read-file-2
     read-file-requires
     enum-known-code
     enum-known-symbol-count

@@ -10,32 +10,28 @@ whole-term-requires c κs = search needs
 enum-known-code : tie.Need-enum-known-code
 enum-known-code c = search needs
 
-enum-known-count : tie.Need-enum-known-count
-enum-known-count c = search needs
+enum-told : tie.Need-enum-told
+enum-told c = search needs
 
 compare-read-requires : tie.Need-compare-read-requires
 compare-read-requires c κs =
-    let a = c .before .before .before .before .before .before .before .args in
-    let e = rw (c .before .count .given .1) at (c .before .before .before .whole-term .ensures) in (
-      c .before .before .before .before .before .before .before .pre .0,
-      (
-        c .before .before .before .before .before .before .before .pre .1,
-        read-whole (signatureOf (a .table .now))
-            (a .right .now) _ _ e .1,
-      ),
-    )
+    let a = c .before .before .before .before .before .before .args in
+    let σ = signatureOf (a .table .now) in
+    let e = rw (c .enum-told .given .1) at (c .before .before .whole-term .ensures σ (c .before .before .before .before .before .before .pre .1 .1)) in
+    (c .before .before .before .before .before .before .pre .0, (c .before .before .before .before .before .before .pre .1 .0, read-whole σ (a .right .now) _ _ e .1))
 
 returns : tie.Need-returns
 returns c =
     let a = c .before .before .before .before .before .before .before .args in
-    right-fault (signatureOf (a .table .now)) _ (a .right .now) _ _
-    (rw (c .before .code .given .1) at (c .before .before .before .whole-term .ensures))
+    let σ = signatureOf (a .table .now) in
+    right-fault σ _ (a .right .now) _ _ (rw (c .before .code .given .1) at (c .before .before .before .whole-term .ensures σ (c .before .before .before .before .before .before .before .pre .1 .1)))
 
 returns-2 : tie.Need-returns-2
 returns-2 c =
-    let a = c .before .before .before .before .before .before .before .before .args in
-    let e = rw (c .before .before .count .given .1) at (c .before .before .before .before .whole-term .ensures) in
-    right-read (signatureOf (a .table .now)) _ (a .right .now) _ _ e _ (c .compare-read .ensures)
+    let a = c .before .before .before .before .before .before .before .args in
+    let σ = signatureOf (a .table .now) in
+    let e = rw (c .before .enum-told .given .1) at (c .before .before .before .whole-term .ensures σ (c .before .before .before .before .before .before .before .pre .1 .1)) in
+    right-read σ _ (a .right .now) _ _ e _ (c .compare-read .ensures)
 
 pub compare-right-spec : {M : Type 1} → statement M
 compare-right-spec =
@@ -43,7 +39,7 @@ compare-right-spec =
     (tie.spec
     whole-term-requires
     enum-known-code
-    enum-known-count
+    enum-told
     compare-read-requires
     returns
     returns-2)

@@ -4,43 +4,46 @@ use borrow.Author.Needs.{needs}
 use Rattle.comparing.proofs.compare_terms.Statement.{statement}
 use Rattle.comparing.proofs.compare_terms.Tie as tie
 
+arities-requires : tie.Need-arities-requires
+arities-requires c κs = search needs
+
 whole-term-requires : tie.Need-whole-term-requires
 whole-term-requires c κs = search needs
 
 enum-known-code : tie.Need-enum-known-code
 enum-known-code c = search needs
 
-enum-known-count : tie.Need-enum-known-count
-enum-known-count c = search needs
+enum-told : tie.Need-enum-told
+enum-told c = search needs
 
 compare-right-requires : tie.Need-compare-right-requires
 compare-right-requires c κs =
-    let a = c .before .before .before .before .before .before .before .args in
-    let e = rw (c .before .count .given .1) at (c .before .before .before .whole-term .ensures) in (
-      c .before .before .before .before .before .before .before .pre,
-      read-whole (signatureOf (a .table .now))
-          (a .left .now) _ _ e .1,
-    )
+    let a = c .before .before .before .before .before .before .before .before .before .args in
+    let σ = signatureOf (a .table .now) in
+    let e = rw (c .before .enum-told .given .1) at (c .before .before .before .whole-term .ensures σ (c .before .before .before .before .before .arities .ensures)) in
+    (c .before .before .before .before .before .before .before .before .before .pre, (read-whole σ (a .left .now) _ _ e .1, c .before .before .before .before .before .arities .ensures))
 
 returns : tie.Need-returns
 returns c =
-    let a = c .before .before .before .before .before .before .before .args in
-    left-fault (signatureOf (a .table .now)) (a .left .now) (a .right .now) _ _
-    (rw (c .before .code .given .1) at (c .before .before .before .whole-term .ensures))
+    let a = c .before .before .before .before .before .before .before .before .before .args in
+    let σ = signatureOf (a .table .now) in
+    left-fault σ (a .left .now) (a .right .now) _ _ (rw (c .before .code .given .1) at (c .before .before .before .whole-term .ensures σ (c .before .before .before .before .before .arities .ensures)))
 
 returns-2 : tie.Need-returns-2
 returns-2 c =
-    let a = c .before .before .before .before .before .before .before .before .args in
-    let e = rw (c .before .before .count .given .1) at (c .before .before .before .before .whole-term .ensures) in
-    left-read (signatureOf (a .table .now)) (a .left .now) (a .right .now) _ _ e _ (c .compare-right .ensures)
+    let a = c .before .before .before .before .before .before .before .before .before .before .args in
+    let σ = signatureOf (a .table .now) in
+    let e = rw (c .before .before .enum-told .given .1) at (c .before .before .before .before .whole-term .ensures σ (c .before .before .before .before .before .before .arities .ensures)) in
+    left-read σ (a .left .now) (a .right .now) _ _ e _ (c .compare-right .ensures)
 
 pub compare-terms-spec : {M : Type 1} → statement M
 compare-terms-spec =
     tie.close
     (tie.spec
+    arities-requires
     whole-term-requires
     enum-known-code
-    enum-known-count
+    enum-told
     compare-right-requires
     returns
     returns-2)

@@ -1,7 +1,7 @@
 use mathlib.Core.Path.{sym, _∙_}
 use native.Mathlib.Omega.{arith}
 use lib.Seq.{length-take-le}
-use Rattle.marking.proofs.MarkLaws.{table-of, mark-fault}
+use Rattle.marking.proofs.MarkLaws.{is-table, mark-fault}
 use borrow.Author.Needs.{needs}
 use Rattle.marking.proofs.mark.mark.Statement.{statement}
 use Rattle.marking.proofs.mark.mark.Tie as tie
@@ -44,7 +44,7 @@ slice-aggregate-mark-under c =
 mark-under-requires : tie.Need-mark-under-requires
 mark-under-requires c κs =
     let head = rw (c .before .before .before .symbols .given .1) at (c .before .before .before .before .before .before .read-head .ensures) in
-    ((head .1 .short, head .1 .within), (table-of (c .before .before .before .before .before .before .before .before .before .before .args .book .now) _ _ _ _ (sym (c .before .before .before .before .before .before .read-head .kept .1 .0)) (head .1), head .1 .fewRules))
+    ((head .1 .short, head .1 .within), (is-table (c .before .before .before .before .before .before .before .before .before .before .args .book .now) _ _ _ _ (sym (c .before .before .before .before .before .before .read-head .kept .1 .0)) (head .1), head .1 .fewRules))
 
 returns : tie.Need-returns
 returns c =

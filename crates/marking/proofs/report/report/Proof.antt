@@ -1,7 +1,7 @@
 use mathlib.Core.Path.{sym, _∙_}
 use native.Mathlib.Omega.{arith}
 use lib.Seq.{length-take-le}
-use Rattle.marking.proofs.MarkLaws.{table-of, fault-small}
+use Rattle.marking.proofs.MarkLaws.{is-table, fault-small}
 use Rattle.marking.proofs.ReportLaws.{report-refusal, report-marks}
 use borrow.Author.Needs.{needs}
 use Rattle.marking.proofs.report.report.Statement.{statement}
@@ -62,7 +62,7 @@ slice-aggregate-arities c =
 arities-requires : tie.Need-arities-requires
 arities-requires c κs =
     let (file, end, read, parts) = (rw (c .before .before .before .before .before .before .before .symbol-count .given .1) at (c .before .before .before .before .before .before .before .before .before .before .before .read-file .ensures)) in
-    let T = table-of (c .before .before .before .before .before .before .before .before .before .before .before .before .before .before .before .before .args .book .now) _ _ _ _ (sym (c .before .before .before .before .before .before .before .before .before .before .before .read-file .kept .1 .0)) (parts .head) in
+    let T = is-table (c .before .before .before .before .before .before .before .before .before .before .before .before .before .before .before .before .args .book .now) _ _ _ _ (sym (c .before .before .before .before .before .before .before .before .before .before .before .read-file .kept .1 .0)) (parts .head) in
     omega (arith, T .short)
 
 array-share-prefix-table-2 : tie.Need-array-share-prefix-table-2
@@ -78,7 +78,7 @@ slice-aggregate-put-rules c =
 put-rules-requires : tie.Need-put-rules-requires
 put-rules-requires c κs =
     let (file, end, read, parts) = (rw (c .before .before .before .before .before .before .before .before .before .before .before .symbol-count .given .1) at (c .before .before .before .before .before .before .before .before .before .before .before .before .before .before .before .read-file .ensures)) in
-    let T = table-of (c .before .before .before .before .before .before .before .before .before .before .before .before .before .before .before .before .before .before .before .before .args .book .now) _ _ _ _ (sym (c .before .before .before .before .before .before .before .before .before .before .before .before .before .before .before .read-file .kept .1 .0)) (parts .head) in (
+    let T = is-table (c .before .before .before .before .before .before .before .before .before .before .before .before .before .before .before .before .before .before .before .before .args .book .now) _ _ _ _ (sym (c .before .before .before .before .before .before .before .before .before .before .before .before .before .before .before .read-file .kept .1 .0)) (parts .head) in (
       (parts .head .short, parts .head .within),
       ((T, c .before .before .before .arities .ensures), (omega (arith, c .before .before .before .before .before .before .before .put-count .ensures .1 .1), parts .head .fewRules)),
     )

@@ -2,6 +2,7 @@
 --     symbol-bits, variable-bits               the bits of a node
 --     field-bits, node-bits                    the bits of an item
 --     flat-nil, bits-more, bits-le, bits-mono  the bits of the first items; an item takes at most 16
+--     node-more, two-more, room-one, room-two  one node more, or two, and that there is room for them
 --     fields-length                            how many bits the fields take
 use mathlib.Core.List.{List, [], _∷_, _++_, flatMap, append-nil}
 use mathlib.Core.Path.{_≡_, refl, sym, ap, _∙_}
@@ -102,6 +103,38 @@ module _ (words : List ℕ) (nodes : ℕ) where
       ∙ flat-append itemBits (itemsFrom words nodes 0 i) later)
       ∙ length-append (bitsTo words nodes i) (flatMap itemBits later) in
       omega arith
+
+  -- ---- a node more, and two
+
+  pub node-more : (i : ℕ) → nodes ≤ i →
+      bitsTo words nodes (i + 1) ≡ bitsTo words nodes i ++ itemBits (node (getD words i 0))
+  node-more i h = bits-more i ∙ rw (node-bits i h)
+
+  pub two-more : (i : ℕ) → nodes ≤ i → bitsTo words nodes (i + 2) ≡
+      (bitsTo words nodes i ++ itemBits (node (getD words i 0))) ++ itemBits (node (getD words (i + 1) 0))
+  two-more i h =
+      let e : i + 2 ≡ i + 1 + 1 = omega arith in
+      rw (e, node-more (i + 1) (omega arith), node-more i h)
+
+  pub room-one : (i : ℕ) → nodes ≤ i → i < length words →
+      length (bitsTo words nodes i) + length (itemBits (node (getD words i 0))) ≤
+      length (bitsTo words nodes (length words))
+  room-one i h l = omega (
+    arith,
+    ap length (node-more i h),
+    length-append (bitsTo words nodes i) (itemBits (node (getD words i 0))),
+    bits-mono (i + 1) (length words) (omega arith),
+  )
+
+  pub room-two : (i : ℕ) → nodes ≤ i → i + 1 < length words →
+      length (bitsTo words nodes i) + length (itemBits (node (getD words i 0))) +
+      length (itemBits (node (getD words (i + 1) 0))) ≤ length (bitsTo words nodes (length words))
+  room-two i h l = omega (
+    arith,
+    ap length (node-more i h),
+    length-append (bitsTo words nodes i) (itemBits (node (getD words i 0))),
+    room-one (i + 1) (omega arith) l,
+  )
 
   -- ---- the bits of the fields
 

@@ -117,7 +117,29 @@ fn write_node(writer: BitWriter, word: u16, bytes: &mut [u8]) -> BitWriter
     writer.put(bytes, node_width(word), node_value(word))
 }
 
-// Writes the bits of all items, with zeros up to a whole byte, to the front of the bytes.
+// Writes the bits of two nodes.
+fn write_two(writer: BitWriter, first: u16, second: u16, bytes: &mut [u8]) -> BitWriter
+    requires { ⌜ (writer .count < 32) × (writer .pending < 2 ^ writer .count) ⌝ }
+    requires { ⌜
+        8 * writer .stored + writer .count + length (itemBits (node first)) + length (itemBits (node second))
+        ≤ 8 * length (now bytes)
+        ⌝ }
+    ensures { λ r. ⌜ r .count < 32 ⌝ }
+    ensures { λ r. ⌜
+        ((old bits : List ℕ) → Writes old bits writer (now (bytes .entry)) →
+        Writes old ((bits ++ itemBits (node first)) ++ itemBits (node second)) r (now (bytes .exit)))
+        ⌝ }
+{
+    writer.put_two(
+        bytes,
+        node_width(first),
+        node_value(first),
+        node_width(second),
+        node_value(second),
+    )
+}
+
+// Writes the bits of all items, with zeros up to a whole byte, to the front of the bytes; the nodes two by two.
 pub fn write_items(words: &[u16], nodes: usize, bytes: &mut [u8])
     requires { ⌜ nodes ≤ length (now words) ⌝ }
     requires { ⌜ length (bitsTo (now words) nodes (length (now words))) ≤ 8 * length (now bytes) ⌝ }
@@ -129,9 +151,13 @@ pub fn write_items(words: &[u16], nodes: usize, bytes: &mut [u8])
 {
     let mut writer = write_fields(words, nodes, bytes);
     let mut i = nodes;
-    while i < words.len() {
-        writer = write_node(writer, words[i], bytes);
-        i += 1;
+    while i + 1 < words.len() {
+        writer = write_two(writer, words[i], words[i + 1], bytes);
+        i += 2;
     }
-    writer.finish(bytes);
+    if i == words.len() {
+        writer.finish(bytes);
+        return;
+    }
+    write_node(writer, words[i], bytes).finish(bytes);
 }

@@ -66,20 +66,20 @@ pub pushed-lt : (w : BitWriter) (width v : ℕ) → v < 2 ^ width → w .pending
     pushed w width v .pending < 2 ^ (w .count + width)
 pushed-lt w width v h p = rw (pow-add 2 (w .count) width) (digits-lt p h)
 
-pub push-fits : (n width v : ℕ) → v < 2 ^ width → n < 2 ^ 32 → width ≤ 16 → n * 2 ^ width + v < 2 ^ 64
+pub push-fits : (n width v : ℕ) → v < 2 ^ width → n < 2 ^ 48 → width ≤ 16 → n * 2 ^ width + v < 2 ^ 64
 push-fits n width v l h k =
-    let e : 32 + width ≤ 48 = omega arith in
-    let m : 2 ^ (32 + width) ≤ 2 ^ 48 = pow-mono e in
-    let p : n * 2 ^ width + v < 2 ^ (32 + width) = rw (pow-add 2 32 width) (digits-lt h l) in
+    let e : 48 + width ≤ 64 = omega arith in
+    let m : 2 ^ (48 + width) ≤ 2 ^ 64 = pow-mono e in
+    let p : n * 2 ^ width + v < 2 ^ (48 + width) = rw (pow-add 2 48 width) (digits-lt h l) in
     omega arith
 
 -- The first byte of a number of at least eight bits.
 pub byte-lt : (n k : ℕ) → 8 ≤ k → n < 2 ^ k → n / 2 ^ (k - 8) < 256
 byte-lt n k h l = let e : 8 + (k - 8) ≡ k = omega arith in shr-lt 8 (k - 8) (rw e l)
 
--- Fewer than 32 bits are a number of 32 bits.
-pub below-word : (n k : ℕ) → k < 32 → n < 2 ^ k → n < 2 ^ 32
-below-word n k h l = let e : k ≤ 32 = omega arith in lt-of-lt-of-le l (pow-mono e)
+-- Fewer than 48 bits are a number of 48 bits.
+pub below-48 : (n k : ℕ) → k < 48 → n < 2 ^ k → n < 2 ^ 48
+below-48 n k h l = let e : k ≤ 48 = omega arith in lt-of-lt-of-le l (pow-mono e)
 
 -- The first 32 bits of a number of at least as many.
 pub word-lt : (n k : ℕ) → 32 ≤ k → n < 2 ^ k → n / 2 ^ (k - 32) < 2 ^ 32

@@ -53,7 +53,7 @@ fn put_four(bytes: &mut [u8], i: usize, value: u32)
 impl BitWriter {
     // A value of so many bits after those that wait.
     fn push(self, width: usize, value: u16) -> BitWriter
-        requires { ⌜ (self .count < 32) × (self .pending < 2 ^ 32) × (width ≤ 16) × (value < 2 ^ width) ⌝ }
+        requires { ⌜ (self .count < 48) × (self .pending < 2 ^ 48) × (width ≤ 16) × (value < 2 ^ width) ⌝ }
         ensures { λ r. ⌜ r ≡ pushed self width value ⌝ }
     {
         BitWriter {
@@ -84,7 +84,7 @@ impl BitWriter {
     // Stores the first 32 of the bits that wait, where there are as many.
     fn store_four(self, bytes: &mut [u8]) -> BitWriter
         requires { ⌜ 8 * self .stored + self .count ≤ 8 * length (now bytes) ⌝ }
-        requires { ⌜ (self .count ≤ 48) × (self .pending < 2 ^ self .count) ⌝ }
+        requires { ⌜ (self .count < 64) × (self .pending < 2 ^ self .count) ⌝ }
         ensures { λ r. ⌜ r .count < 32 ⌝ }
         ensures { λ r. ⌜
             ((old bits : List ℕ) → Writes old bits self (now (bytes .entry)) → Writes old bits r (now (bytes .exit)))
@@ -113,6 +113,20 @@ impl BitWriter {
             ⌝ }
     {
         self.push(width, value).store_four(bytes)
+    }
+
+    // Writes u in m bits and then v in n bits, for which there is room.
+    pub fn put_two(self, bytes: &mut [u8], m: usize, u: u16, n: usize, v: u16) -> BitWriter
+        requires { ⌜ (self .count < 32) × (self .pending < 2 ^ self .count) ⌝ }
+        requires { ⌜ (m ≤ 16) × (u < 2 ^ m) × (n ≤ 16) × (v < 2 ^ n) ⌝ }
+        requires { ⌜ 8 * self .stored + self .count + m + n ≤ 8 * length (now bytes) ⌝ }
+        ensures { λ r. ⌜ r .count < 32 ⌝ }
+        ensures { λ r. ⌜
+            ((old bits : List ℕ) → Writes old bits self (now (bytes .entry)) →
+            Writes old ((bits ++ bitsOf m u) ++ bitsOf n v) r (now (bytes .exit)))
+            ⌝ }
+    {
+        self.push(m, u).push(n, v).store_four(bytes)
     }
 
     // Stores the bits that wait, with zeros after them, as the last byte.

@@ -2,14 +2,14 @@ use borrow.Author.Needs.{needs}
 use native.Mathlib.Omega.{arith}
 use Prim.Native.Nat.{ℕ, _+_, _-_, _≤_, _<_}
 use mathlib.Core.List.{List}
-use mathlib.Core.Path.{_≡_, refl, ap, _∙_}
+use mathlib.Core.Path.{_≡_, refl, sym, ap, _∙_}
 use lib.ListN.{length}
 use lib.Seq.{sets}
 use Rattle.format.specs.Packing.{bytesOf}
 use Rattle.writer.specs.Writer.{Writes}
 use Rattle.writer.proofs.WriterLaws.{pending-lt}
 use Rattle.encoder.specs.Items.{bitsTo}
-use Rattle.encoder.proofs.ItemBits.{node-bits, bits-more, length-more, bits-le, bits-mono}
+use Rattle.encoder.proofs.ItemBits.{bits-le, bits-mono, node-more, two-more, room-one, room-two}
 use Rattle.encoder.proofs.items.write_items.Statement.{statement}
 use Rattle.encoder.proofs.items.write_items.Tie as tie
 
@@ -31,29 +31,40 @@ write-fields-requires c κs =
 loop-holds : tie.Need-loop-holds Inv-loop μ-loop
 loop-holds c = (omega arith, omega arith, refl, c .before .before .write-fields .ensures .0, λ old h. h)
 
-mul-write-node : tie.Need-mul-write-node Inv-loop μ-loop
-mul-write-node c = search needs
+add-loop : tie.Need-add-loop Inv-loop μ-loop
+add-loop c = search needs
 
-shared-slice-read-write-node : tie.Need-shared-slice-read-write-node Inv-loop μ-loop
-shared-slice-read-write-node c = search needs
+mul-write-two : tie.Need-mul-write-two Inv-loop μ-loop
+mul-write-two c = search needs
 
-write-node-requires : tie.Need-write-node-requires Inv-loop μ-loop
-write-node-requires c κs =
-    let l = c .before .before .before .before .before .before .before .before .before .before .args .words .now in
-    let n = c .before .before .before .before .before .before .before .before .before .before .args .nodes in
-    let i = c .before .before .before .loop .i in
-    let h = c .before .before .before .loop .inv .4 _ (c .before .before .before .before .before .before
-    .write-fields .ensures .1) in (
-      (c .before .before .before .loop .inv .3, pending-lt _ _ _ _ h),
+shared-slice-read-write-two : tie.Need-shared-slice-read-write-two Inv-loop μ-loop
+shared-slice-read-write-two c = search needs
+
+add-write-two : tie.Need-add-write-two Inv-loop μ-loop
+add-write-two c = search needs
+
+mul-write-two-2 : tie.Need-mul-write-two-2 Inv-loop μ-loop
+mul-write-two-2 c = search needs
+
+shared-slice-read-write-two-2 : tie.Need-shared-slice-read-write-two-2 Inv-loop μ-loop
+shared-slice-read-write-two-2 c = search needs
+
+write-two-requires : tie.Need-write-two-requires Inv-loop μ-loop
+write-two-requires c κs =
+    let h = c .before .before .before .before .loop .inv .4 _
+    (c .before .before .before .before .before .before .before .write-fields .ensures .1) in (
+      (c .before .before .before .before .loop .inv .3, pending-lt _ _ _ _ h),
       omega (
         arith,
         h .total,
-        length-more l n i (i + 1) refl,
-        ap length (node-bits l n i (c .before .before .before .loop .inv .0)),
-        bits-mono l n (i + 1) (length l) (omega arith),
-        c .before .before .before .before .before .before .before .before .before .before .pre .1,
-        c .before .before .before .loop .inv .2,
-        c .before .before .before .before .before .before .write-fields .kept .1 .1 .0,
+        room-two (c .before .before .before .before .before .before .before .before .before .before
+            .before .args .words .now)
+            (c .before .before .before .before .before .before .before .before .before .before .before .args .nodes)
+            (c .before .before .before .before .loop .i) (c .before .before .before .before .loop .inv .0)
+            (c .before .before .before .loop-test .taken),
+        c .before .before .before .before .before .before .before .before .before .before .before .pre .1,
+        c .before .before .before .before .loop .inv .2,
+        c .before .before .before .before .before .before .before .write-fields .kept .1 .1 .0,
       ),
     )
 
@@ -65,48 +76,122 @@ loop-less c = search needs
 
 loop-again : tie.Need-loop-again Inv-loop μ-loop
 loop-again c =
-    let l = c .before .before .before .before .before .before .before .before .before .before .before .before
-    .before .args .words .now in
-    let n = c .before .before .before .before .before .before .before .before .before .before .before .before
-    .before .args .nodes in
-    let i = c .before .before .before .before .before .before .loop .i in (
+    let l = c .before .before .before .before .before .before .before .before .before .before .before
+    .before .before .before .args .words .now in
+    let n = c .before .before .before .before .before .before .before .before .before .before .before
+    .before .before .before .args .nodes in (
       omega arith,
       omega arith,
-      c .before .before .write-node .kept .1 .1 .0 ∙ c .before .before .before .before .before .before .loop .inv .2,
-      c .before .before .write-node .ensures .0,
-      λ old h. rw (bits-more l n i, node-bits l n i (c .before .before .before .before .before .before .loop .inv .0))
-          (c .before .before .write-node .ensures .1 old _ (c .before .before .before .before .before .before .loop
-          .inv .4 old h)),
+      c .before .before .write-two .kept .1 .1 .1 .0 ∙
+          c .before .before .before .before .before .before .before .loop .inv .2,
+      c .before .before .write-two .ensures .0,
+      λ old h. rw (two-more l n (c .before .before .before .before .before .before .before .loop .i)
+          (c .before .before .before .before .before .before .before .loop .inv .0))
+          (c .before .before .write-two .ensures .1 old _
+          (c .before .before .before .before .before .before .before .loop .inv .4 old h)),
     )
 
 finish-requires : tie.Need-finish-requires Inv-loop μ-loop
 finish-requires c κs =
-    let h = c .before .before .loop .inv .4 _ (c .before .before .before .before .before .write-fields .ensures .1) in (
+    let h = c .before .before .before .loop .inv .4 _
+    (c .before .before .before .before .before .before .write-fields .ensures .1) in (
       omega (
         arith,
         h .total,
-        bits-le (c .before .before .before .before .before .before .before .before .before
-            .args .words .now) (c .before .before .before .before .before .before .before .before .before .args
-            .nodes) (c .before .before .loop .i),
+        bits-le
+            (c .before .before .before .before .before .before .before .before .before .before .args .words .now)
+            (c .before .before .before .before .before .before .before .before .before .before .args .nodes)
+            (c .before .before .before .loop .i),
       ),
-      c .before .before .loop .inv .3,
+      c .before .before .before .loop .inv .3,
       pending-lt _ _ _ _ h,
     )
 
 same-length : tie.Need-same-length Inv-loop μ-loop
-same-length c = c .before .before .finish .kept .1 .0 ∙ c .before .before .before .before .before .loop .inv .2 ∙ c
-    .before .before .before .before .before .before .before .before .write-fields .kept .1 .1 .0
+same-length c = c .before .before .finish .kept .1 .0 ∙
+    c .before .before .before .before .before .before .loop .inv .2 ∙
+    c .before .before .before .before .before .before .before .before .before .write-fields .kept .1 .1 .0
 
 returns : tie.Need-returns Inv-loop μ-loop
 returns c =
-    let l = c .before .before .before .before .before .before .before .before .before .before .before .before .args
-    .words .now in
-    let e : c .before .before .before .before .before .loop .i ≡ length l = omega arith in
-    c .before .before .finish .ensures _ _ (c .before .before .before .before .before .loop .inv .4 _ (c .before
-    .before .before .before .before .before .before .before .write-fields .ensures .1)) ∙ ap
-    (λ (k : ℕ). sets (c .before .before .before .before .before .before .before .before .before .before .before
-    .before .args .bytes .now) 0 (bytesOf (bitsTo l (c .before .before .before .before .before .before .before
-    .before .before .before .before .before .args .nodes) k))) e
+    let a = c .before .before .before .before .before .before .before .before .before .before .before
+    .before .before .args in
+    c .before .before .finish .ensures _ _
+    (c .before .before .before .before .before .before .loop .inv .4 _
+    (c .before .before .before .before .before .before .before .before .before .write-fields .ensures .1))
+    ∙ ap (λ (k : ℕ). sets (a .bytes .now) 0 (bytesOf (bitsTo (a .words .now) (a .nodes) k)))
+    (c .before .before .before .before .if1 .taken)
+
+mul-write-node : tie.Need-mul-write-node Inv-loop μ-loop
+mul-write-node c = search needs
+
+shared-slice-read-write-node : tie.Need-shared-slice-read-write-node Inv-loop μ-loop
+shared-slice-read-write-node c = search needs
+
+write-node-requires : tie.Need-write-node-requires Inv-loop μ-loop
+write-node-requires c κs =
+    let h = c .before .before .before .before .loop .inv .4 _
+    (c .before .before .before .before .before .before .before .write-fields .ensures .1) in (
+      (c .before .before .before .before .loop .inv .3, pending-lt _ _ _ _ h),
+      omega (
+        arith,
+        h .total,
+        room-one (c .before .before .before .before .before .before .before .before .before .before
+            .before .args .words .now)
+            (c .before .before .before .before .before .before .before .before .before .before .before .args .nodes)
+            (c .before .before .before .before .loop .i) (c .before .before .before
+            .before .loop .inv .0) (omega arith),
+        c .before .before .before .before .before .before .before .before .before .before .before .pre .1,
+        c .before .before .before .before .loop .inv .2,
+        c .before .before .before .before .before .before .before .write-fields .kept .1 .1 .0,
+      ),
+    )
+
+finish-requires-2 : tie.Need-finish-requires-2 Inv-loop μ-loop
+finish-requires-2 c κs =
+    let h = c .before .before .before .write-node .ensures .1 _ _
+    (c .before .before .before .before .before .before .before .before .loop .inv .4 _
+    (c .before .before .before .before .before .before .before .before .before .before
+    .before .write-fields .ensures .1)) in
+    let a = c .before .before .before .before .before .before .before .before .before .before .before
+    .before .before .before .before .args in (
+      omega (
+        arith,
+        h .total,
+        ap length (node-more (a .words .now) (a .nodes)
+            (c .before .before .before .before .before .before .before .before .loop .i)
+            (c .before .before .before .before .before .before .before .before .loop .inv .0)),
+        bits-le (a .words .now) (a .nodes)
+            (c .before .before .before .before .before .before .before .before .loop .i + 1),
+      ),
+      c .before .before .before .write-node .ensures .0,
+      pending-lt _ _ _ _ h,
+    )
+
+same-length-2 : tie.Need-same-length-2 Inv-loop μ-loop
+same-length-2 c =
+    c .before .before .finish2 .kept .1 .0 ∙
+    c .before .before .before .before .before .before .write-node .kept .1 .1 .0 ∙
+    c .before .before .before .before .before .before .before .before .before .before .before .loop .inv .2 ∙
+    c .before .before .before .before .before .before .before .before .before .before .before .before
+    .before .before .write-fields .kept .1 .1 .0
+
+returns-2 : tie.Need-returns-2 Inv-loop μ-loop
+returns-2 c =
+    let a = c .before .before .before .before .before .before .before .before .before .before .before
+    .before .before .before .before .before .before .before .args in
+    let e : c .before .before .before .before .before .before .before .before .before .before .before .loop .i + 1 ≡
+    length (a .words .now) = omega arith in
+    c .before .before .finish2 .ensures _ _
+    (c .before .before .before .before .before .before .write-node .ensures .1 _ _
+    (c .before .before .before .before .before .before .before .before .before .before .before .loop .inv .4 _
+    (c .before .before .before .before .before .before .before .before .before .before .before .before
+    .before .before .write-fields .ensures .1)))
+    ∙ ap (λ (bits : List ℕ). sets (a .bytes .now) 0 (bytesOf bits))
+    (sym (node-more (a .words .now) (a .nodes)
+    (c .before .before .before .before .before .before .before .before .before .before .before .loop .i)
+    (c .before .before .before .before .before .before .before .before .before .before .before .loop .inv .0))
+    ∙ ap (bitsTo (a .words .now) (a .nodes)) e)
 
 pub write-items-spec : {M : Type 1} → statement M
 write-items-spec =
@@ -116,12 +201,22 @@ write-items-spec =
     μ-loop
     write-fields-requires
     loop-holds
-    mul-write-node
-    shared-slice-read-write-node
-    write-node-requires
+    add-loop
+    mul-write-two
+    shared-slice-read-write-two
+    add-write-two
+    mul-write-two-2
+    shared-slice-read-write-two-2
+    write-two-requires
     add-i
     loop-less
     loop-again
     finish-requires
     same-length
-    returns)
+    returns
+    mul-write-node
+    shared-slice-read-write-node
+    write-node-requires
+    finish-requires-2
+    same-length-2
+    returns-2)

@@ -1,5 +1,5 @@
 use native.Mathlib.Omega.{arith}
-use Rattle.writer.proofs.WriterLaws.{pushed-lt, below-word, writes-push}
+use Rattle.writer.proofs.WriterLaws.{pushed-lt, below-48, writes-push}
 use borrow.Author.Needs.{needs}
 use Rattle.writer.proofs.BitWriter.put.Statement.{statement}
 use Rattle.writer.proofs.BitWriter.put.Tie as tie
@@ -8,7 +8,7 @@ push-requires : tie.Need-push-requires
 push-requires c κs =
     let s = c .before .args .self in (
       omega arith,
-      below-word (s .pending) (s .count) (c .before .pre .0 .0) (c .before .pre .0 .1),
+      below-48 (s .pending) (s .count) (omega arith) (c .before .pre .0 .1),
       omega arith,
       c .before .pre .0 .3,
     )

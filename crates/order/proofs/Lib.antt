@@ -2,6 +2,7 @@
 pub mod SumLaws
 pub mod TotalLaws
 pub mod OccurrenceLaws
+pub mod DigitLaws
 pub mod MeasureLaws
 pub mod CoverLaws
 pub mod SplitLaws

@@ -1,5 +1,4 @@
 -- Occurrences of eight variables as digits of one number: comparing digits compares occurrences.
---     within-none, within-more             one digit more
 --     none-oftener-of, oftener-low, -high  the test of all sixteen variables
 use mathlib.Core.List.{List}
 use mathlib.Core.Path.{_≡_, refl, sym, _∙_}
@@ -8,7 +7,7 @@ use Prim.Native.Nat.{ℕ, suc, zero, _+_, _-_, _*_, _/_, _%_, _≤_, _<_}
 use native.Mathlib.Omega.{arith}
 use lib.Dec.{eqb, leb}
 use lib.ListN.{length}
-use borrow.Author.Tests.{leb-true, le-leb, lt-leb}
+use borrow.Author.Tests.{leb-true, le-leb}
 use Rattle.multisets.proofs.Relations.{byTest, byOrder}
 use Rattle.terms.specs.Signature.{Signature}
 use Rattle.terms.specs.Term.{Term, Terms, size, sizes, measure, measures, occurrences, variableCount}
@@ -21,32 +20,6 @@ use Rattle.equivalence.specs.Parts.{partAt}
 use Rattle.equivalence.specs.Keys.{Prepared}
 use Rattle.equivalence.proofs.StepLaws.{part-small}
 use Rattle.order.specs.Sums.{digit, digitsWithin, termSum}
-
--- ---- the loop over digits
-
-pub within-zero : (n a b : ℕ) → b ≡ 0 → digitsWithin n a b ≡ true
-unfolding digitsWithin
-within-zero zero a b e = refl
-within-zero (suc n) a b e = rw (
-  le-leb (b % 256) (a % 256) (omega arith),
-  within-zero n (a / 256) (b / 256)
-      (omega arith),
-)
-
-pub within-none : (n a b : ℕ) → n ≡ 0 → digitsWithin n a b ≡ true
-unfolding digitsWithin
-within-none n a b e = rw e
-
-pub within-not : (n a b : ℕ) → 0 < n → a % 256 < b % 256 → digitsWithin n a b ≡ false
-unfolding digitsWithin
-within-not zero a b p h = absurd (omega arith)
-within-not (suc n) a b p h = rw (lt-leb (b % 256) (a % 256) h)
-
-pub within-more : (n a b : ℕ) → 0 < n → b % 256 ≤ a % 256 → digitsWithin (n - 1) (a / 256) (b / 256) ≡ digitsWithin n a
-    b
-unfolding digitsWithin
-within-more zero a b p h = absurd (omega arith)
-within-more (suc n) a b p h = let d : suc n - 1 ≡ n = omega arith in rw (d, le-leb (b % 256) (a % 256) h)
 
 -- ---- digits are occurrences
 

@@ -2,20 +2,22 @@
 --     nodes-part                  the words from an offset on are those of the part there and those after it
 --     place-below, place-at       the place value of a variable
 --     part-sum                    the sum of a part
---     node-weight, -nothing, -variable, -low, -high     what a node adds
+--     weight-node, occurrence-node     what a node adds
 use mathlib.Core.List.{List, [], _∷_, _++_}
 use mathlib.Core.Path.{_≡_, refl, sym, ap, _∙_}
-use Prim.Native.Nat.{ℕ, suc, zero, _+_, _-_, _*_, _%_, _^_, _≤_, _<_}
+use mathlib.Core.Bool.{cond}
+use Prim.Native.Nat.{ℕ, suc, zero, _+_, _-_, _*_, _/_, _%_, _^_, _≤_, _<_}
 use native.Mathlib.Omega.{arith}
 use native.Mathlib.Nat.{pow-succ'}
-use lib.Dec.{ltb}
+use lib.Dec.{ltb, eqb}
 use lib.ListN.{length, getD, take, drop, take-append-drop}
 use borrow.Author.Tests.{lt-ltb, le-ltb, eq-eqb, ne-eqb}
-use Rattle.multisets.proofs.Relations.{byTest}
-use Rattle.terms.specs.Signature.{Signature, symbolOf}
+use Rattle.multisets.proofs.Relations.{byTest, byOrder}
+use Rattle.terms.specs.Signature.{Symbol, Signature, symbolOf}
 use Rattle.terms.specs.Term.{Term, size, measure, measures, arguments}
 use Rattle.terms.specs.Words.{firstVariable, grow, forestOf}
 use Rattle.symbols.specs.Table.{signatureOf}
+use Rattle.symbols.proofs.TableLaws.{symbol-at}
 use Rattle.equivalence.specs.Parts.{partAt}
 use Rattle.equivalence.specs.Keys.{Prepared, sizeIn}
 use Rattle.equivalence.proofs.PartLaws.{next, stand-one}
@@ -101,30 +103,23 @@ power-shift (suc (suc (suc (suc (suc (suc (suc (suc d)))))))) h = absurd (omega 
 
 -- ---- what a node adds
 
-module _ (table : List ℕ) (kind w : ℕ) where
-  abbrev σ : Signature
-  σ = signatureOf table
+pub weight-node : (table : List ℕ) (w : ℕ) →
+    getD table (cond (ltb w 256) (4 * w + 3) 0) 0 ≡ nodeSum (signatureOf table) 0 w
+unfolding signatureOf
+weight-node table w =
+    byOrder w 256 (λ h. rw (lt-ltb w 256 h) (sym (ap (λ (f : Symbol). f .weight) (symbol-at table w))))
+    λ h. rw (le-ltb w 256 h)
 
-  pub node-weight : w < 256 → kind ≡ 0 → symbolOf σ w .weight ≡ nodeSum σ kind w
-  node-weight h e = rw (e, lt-ltb w firstVariable h)
-
-  pub node-nothing : w < 256 → (kind ≡ 0 → ⊥) → 0 ≡ nodeSum σ kind w
-  node-nothing h e = rw (lt-ltb w firstVariable h) (go kind e)
-    where
-      go : (kind : ℕ) → (kind ≡ 0 → ⊥) → 0 ≡ atSymbol σ kind w
-      go zero e = absurd (e refl)
-      go (suc kind) e = refl
-
-  pub node-variable : 256 ≤ w → kind ≡ 0 → σ .w0 ≡ nodeSum σ kind w
-  node-variable h e = rw (e, le-ltb w firstVariable h)
-
-  pub node-low : 256 ≤ w → kind ≡ 1 → digit 0 8 (w - 256) ≡ nodeSum σ kind w
-  node-low h e = rw (e, le-ltb w firstVariable h)
-
-  pub node-high : 256 ≤ w → (kind ≡ 0 → ⊥) → (kind ≡ 1 → ⊥) → digit 8 8 (w - 256) ≡ nodeSum σ kind w
-  node-high h d e = rw (le-ltb w firstVariable h) (go kind d e)
-    where
-      go : (kind : ℕ) → (kind ≡ 0 → ⊥) → (kind ≡ 1 → ⊥) → digit 8 8 (w - 256) ≡ atVariable σ kind (w - 256)
-      go zero d e = absurd (d refl)
-      go (suc zero) d e = absurd (e refl)
-      go (suc (suc kind)) d e = refl
+-- The eight variables from k on have the words from 8 * e on.
+pub occurrence-node : (k e w : ℕ) → 8 * e ≡ 256 + k →
+    cond (eqb (w / 8) e) (256 ^ (w % 8)) 0 ≡ node (digit k 8) (λ (f : ℕ). 0) w
+occurrence-node k e w h =
+    byOrder w 256 (λ l. let d : w / 8 ≡ e → ⊥ = λ z. omega arith in rw (ne-eqb (w / 8) e d, lt-ltb w 256 l)) λ l.
+    byOrder w (256 + k)
+    (λ m. let d : w / 8 ≡ e → ⊥ = λ z. omega arith in
+    rw (ne-eqb (w / 8) e d, le-ltb w 256 l, place-below k 8 (w - 256) (omega arith)))
+    λ m. byOrder w (264 + k)
+    (λ n. let x : w - 256 ≡ k + w % 8 = omega arith in
+    rw (eq-eqb (w / 8) e (omega arith), le-ltb w 256 l, x, place-at 8 k (w % 8) (omega arith)))
+    λ n. let d : w / 8 ≡ e → ⊥ = λ z. omega arith in
+    rw (ne-eqb (w / 8) e d, le-ltb w 256 l, place-past k 8 (w - 256) (omega arith))

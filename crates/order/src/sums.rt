@@ -1,15 +1,17 @@
 // Sums by offset, prepared once from right to left: of weights, and of the occurrences of the variables.
 use equivalence::keys::size_at;
-use symbols::variable_weight;
-use symbols::weight;
+use symbols::long;
 use symbols::wide;
+use symbols::word_at;
 ghost use mathlib.Core.Path.{_≡_};
-ghost use Prim.Native.Nat.{ℕ, _+_, _^_, _≤_, _<_};
+ghost use mathlib.Core.Bool.{cond};
+ghost use Prim.Native.Nat.{ℕ, _+_, _*_, _/_, _%_, _^_, _≤_, _<_};
+ghost use lib.Dec.{eqb, ltb};
 ghost use lib.ListN.{length, set};
 ghost use Rattle.symbols.specs.Table.{signatureOf};
 ghost use Rattle.equivalence.specs.Parts.{partAt};
 ghost use Rattle.equivalence.specs.Keys.{Prepared};
-ghost use Rattle.order.specs.Sums.{digit, digitsWithin, nodeSum, termSum, Bounded, Added, Totalled, Summed};
+ghost use Rattle.order.specs.Sums.{digitsWithin, nodeSum, termSum, Bounded, Added, Totalled, Summed};
 
 // The sums over the words of a term: weights, and the occurrences of the variables 0 to 7 and 8 to 15 as digits.
 pub struct Totals {
@@ -18,48 +20,26 @@ pub struct Totals {
     pub high: u64,
 }
 
-// 256 to the power of d.
-fn power(d: usize) -> u64
-    requires { ⌜ d < 8 ⌝ }
-    ensures { λ r. ⌜ (r ≡ 256 ^ d) × (r ≤ 72057594037927936) ⌝ }
+// The index in the table of a node's weight.
+fn weight_index(word: u16) -> usize
+    ensures { λ r. ⌜ r ≡ cond (ltb word 256) (4 * word + 3) 0 ⌝ }
 {
-    1u64 << (8 * d)
+    if word < 256 { 4 * wide(word) + 3 } else { 0 }
 }
 
-// The place value of variable x among the eight from `first` on.
-fn place(first: usize, x: usize) -> u64
-    requires { ⌜ first < 16 ⌝ }
-    ensures { λ r. ⌜ (r ≡ digit first 8 x) × (r ≤ 72057594037927936) ⌝ }
+// What a node adds to the weight.
+fn node_weight(table: &[u16], word: u16) -> u64
+    ensures { λ r. ⌜ (r ≡ nodeSum (signatureOf (now (table .entry))) 0 word) × (r < 65536) ⌝ }
 {
-    if x < first {
-        return 0;
-    }
-    let d = x - first;
-    if d < 8 {
-        return power(d);
-    }
-    0
+    long(word_at(table, weight_index(word)))
 }
 
-// What a node adds to the sum of that kind.
-fn node_sum(table: &[u16], kind: usize, word: u16) -> u64
-    ensures { λ r. ⌜ (r ≡ nodeSum (signatureOf (now (table .entry))) kind word) × (r ≤ 72057594037927936) ⌝ }
-    ensures { λ r. ⌜ (kind ≡ 0 → r < 65536) ⌝ }
+// What a node adds to the digits of the eight variables whose words are 8 times `eight` and on.
+fn occurrence(eight: u16, word: u16) -> u64
+    ensures { λ r. ⌜ (r ≡ cond (eqb (word / 8) eight) (256 ^ (word % 8)) 0) × (r ≤ 72057594037927936) ⌝ }
 {
-    if word < 256 {
-        if kind == 0 {
-            return weight(table, word);
-        }
-        return 0;
-    }
-    if kind == 0 {
-        return variable_weight(table);
-    }
-    let x = wide(word) - 256;
-    if kind == 1 {
-        return place(0, x);
-    }
-    place(8, x)
+    let unit = 1u64 << (8 * (word % 8));
+    if word / 8 == eight { unit } else { 0 }
 }
 
 // The sums with those of one more node.
@@ -69,9 +49,9 @@ fn with_node(table: &[u16], word: u16, after: Totals) -> Totals
     ensures { λ r. ⌜ ((n : ℕ) → Bounded n after → Bounded (n + 1) r) ⌝ }
 {
     Totals {
-        weight: after.weight + node_sum(table, 0, word),
-        low: after.low + node_sum(table, 1, word),
-        high: after.high + node_sum(table, 2, word),
+        weight: after.weight + node_weight(table, word),
+        low: after.low + occurrence(32, word),
+        high: after.high + occurrence(33, word),
     }
 }
 
@@ -149,23 +129,13 @@ pub fn sum_at(
     sums[129 * kind + i] - sums[129 * kind + end]
 }
 
-// Is each of the eight digits of `right` at most that of `left`?
+// Is each of the eight digits of `right` at most that of `left`? Four at a time, each with 8 bits of room: 256 more than
+// the left digit, less the right one, has its ninth bit if the left digit is not less.
 pub fn digits_within(left: u64, right: u64) -> bool
     ensures { λ r. ⌜ r ≡ digitsWithin 8 left right ⌝ }
 {
-    let mut a = left;
-    let mut b = right;
-    let mut n = 8usize;
-    while n > 0 {
-        if b == 0 {
-            return true;
-        }
-        if a % 256 < b % 256 {
-            return false;
-        }
-        a /= 256;
-        b /= 256;
-        n -= 1;
-    }
-    true
+    let even = (left & 0x00ff00ff00ff00ff) + 0x0100010001000100 - (right & 0x00ff00ff00ff00ff);
+    let odd = (left / 256 & 0x00ff00ff00ff00ff) + 0x0100010001000100
+        - (right / 256 & 0x00ff00ff00ff00ff);
+    even & odd & 0x0100010001000100 == 0x0100010001000100
 }

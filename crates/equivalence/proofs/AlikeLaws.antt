@@ -1,12 +1,12 @@
 -- What the functions of the AC-equivalence test show at each of their ends.
---     equivalent-differ, -keys, -elements, -rows    the roots
---     rows-none, -unlike, -more                     the arguments in their order
+--     equivalent-keys, -elements, -rows, keys-roots the roots
+--     rows-none, -unlike, -more, -one               the arguments in their order
 --     cancelled-none, -own, -absent, -more          a flattening against a list
 --     Going, RowGoing                               the invariants of the scans
 use mathlib.Core.List.{List}
 use mathlib.Core.Path.{_≡_, refl, sym, ap, ap₂, _∙_}
 use mathlib.Core.Bool.{Bool, true, false, _&&_, false≢true}
-use Prim.Native.Nat.{ℕ, suc, _+_, _-_, _≤_, _<_}
+use Prim.Native.Nat.{ℕ, suc, _+_, _-_, _/_, _%_, _≤_, _<_}
 use native.Mathlib.Omega.{arith}
 use lib.Dec.{eqb}
 use lib.ListN.{length, getD, take, List·getD-eq-default}
@@ -29,6 +29,7 @@ use Rattle.equivalence.proofs.PartLaws.{variable, symbol}
 use Rattle.terms.proofs.EquivalenceSound.{isEquivalent→Equivalent}
 use Rattle.equivalence.proofs.FormedLaws.{part-formed}
 use Rattle.equivalence.proofs.StepLaws.{row-next, elements-own, elements-other, stands-inner, prepared-size}
+use Rattle.equivalence.proofs.StepLaws.{keyed-root}
 use Rattle.equivalence.proofs.KeyLaws.{key-of-equivalent}
 use Rattle.equivalence.proofs.RemovalLaws.{equal-none, equal-absent, equal-without, removed-none, removed-one}
 
@@ -94,8 +95,13 @@ ac-small table h f a =
 
 module _ {table s sk t tk : List ℕ} (S : Sides table s sk t tk) where
   module _ (i j : ℕ) (h : i < length s) (k : j < length t) where
-    pub equivalent-differ : (getD s i 0 ≡ getD t j 0 → ⊥) → false ≡ alikeAt table s i t j
-    equivalent-differ d = sym (roots-differ (signatureOf table) s i t j h k d)
+    pub keys-roots : getD sk i 0 ≡ getD tk j 0 → getD s i 0 ≡ getD t j 0
+    keys-roots e =
+        let σ = signatureOf table in
+        let few = few-at table (S .small) in
+        sym (keyed-root σ s (S .left .complete) i h sk (S .left .keyed i (omega arith) h) (S .left .short) few)
+        ∙ ap (λ (key : ℕ). key / 256 % 65536) e
+        ∙ keyed-root σ t (S .right .complete) j k tk (S .right .keyed j (omega arith) k) (S .right .short) few
 
     pub equivalent-keys : (getD sk i 0 ≡ getD tk j 0 → ⊥) → false ≡ alikeAt table s i t j
     equivalent-keys d =
@@ -151,6 +157,12 @@ module _ {table s sk t tk : List ℕ} (S : Sides table s sk t tk) where
     rows-more p e d g h =
         (rw (d, g, prepared-size (S .left) i (omega arith), prepared-size (S .right) j (omega arith)) at h)
         ∙ rw (rows-step p, ← e)
+
+    pub rows-one : {r : Bool} → n ≡ 1 → r ≡ alikeAt table s i t j → r ≡ rowsAlike table s i t j n
+    unfolding rowEqual
+    rows-one {r} e q =
+        let d : n - 1 ≡ 0 = omega arith in
+        rw (rows-step (omega arith), d, ← q) (byTest r (λ z. rw z) λ z. rw z)
 
   module _ (f : ℕ) {i n : ℕ} (a : Stands (signatureOf table) s i n) {offsets : List ℕ} {m : ℕ}
       (P : Offsets (signatureOf table) t offsets m (termsAt table t offsets m)) where

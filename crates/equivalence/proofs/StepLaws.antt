@@ -6,7 +6,7 @@
 use mathlib.Core.List.{List, [], _∷_}
 use mathlib.Core.Logic.{inl, inr}
 use mathlib.Core.Path.{_≡_, ap, _∙_}
-use Prim.Native.Nat.{ℕ, suc, zero, _+_, _-_, _/_, _≤_, _<_}
+use Prim.Native.Nat.{ℕ, suc, zero, _+_, _-_, _/_, _%_, _≤_, _<_}
 use native.Mathlib.Omega.{arith}
 use lib.ListN.{length, getD, take}
 use lib.Seq.{drop-cons}
@@ -86,6 +86,9 @@ module _ (σ : Signature) (ws : List ℕ) (c : Complete σ ws) (k : ℕ) (h : k 
 
     pub keyed-hash : length (σ .symbols) ≤ 256 → getD keys k 0 / 16777216 ≡ hash σ (partAt σ ws k)
     keyed-hash few = omega (arith, part-small, part-root, node-range few)
+
+    pub keyed-root : length (σ .symbols) ≤ 256 → getD keys k 0 / 256 % 65536 ≡ getD ws k 0
+    keyed-root few = omega (arith, part-small, part-root, node-range few)
 
 module _ {σ : Signature} {ws keys : List ℕ} (P : Prepared σ ws keys) where
   pub prepared-size : (i : ℕ) → i < length ws → sizeIn keys i ≡ size (partAt σ ws i)

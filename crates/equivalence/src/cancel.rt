@@ -13,26 +13,26 @@ pub struct Counts {
 
 // Cancels equivalent terms, one for one; what is left stands first among the offsets of both sides.
 pub fn cancel(
-    table: &[u16],
-    s: &[u16],
+    table: &&[u16],
+    s: &&[u16],
     sk: &[u64; 128],
     ps: &mut [u8; 64],
     n: usize,
-    t: &[u16],
+    t: &&[u16],
     tk: &[u64; 128],
     qs: &mut [u8; 64],
     m: usize,
 ) -> Counts
-    requires { ⌜ Sides (now table) (now s) (now sk) (now t) (now tk) ⌝ }
-    requires { ⌜ Offsets (signatureOf (now table)) (now s) (now ps) n (termsAt (now table) (now s) (now ps) n) ⌝ }
-    requires { ⌜ Offsets (signatureOf (now table)) (now t) (now qs) m (termsAt (now table) (now t) (now qs) m) ⌝ }
+    requires { ⌜ Sides (now (now table)) (now (now s)) (now sk) (now (now t)) (now tk) ⌝ }
+    requires { ⌜ Offsets (signatureOf (now (now table))) (now (now s)) (now ps) n (termsAt (now (now table)) (now (now s)) (now ps) n) ⌝ }
+    requires { ⌜ Offsets (signatureOf (now (now table))) (now (now t)) (now qs) m (termsAt (now (now table)) (now (now t)) (now qs) m) ⌝ }
     ensures { λ r. ⌜
-        Offsets (signatureOf (now (table .entry))) (now (s .entry)) (now (ps .exit)) (r .left)
-        (leftAt (now (table .entry)) (now (s .entry)) (now (ps .entry)) n (now (t .entry)) (now (qs .entry)) m .left)
+        Offsets (signatureOf (now (now (table .entry)))) (now (now (s .entry))) (now (ps .exit)) (r .left)
+        (leftAt (now (now (table .entry))) (now (now (s .entry))) (now (ps .entry)) n (now (now (t .entry))) (now (qs .entry)) m .left)
         ⌝ }
     ensures { λ r. ⌜
-        Offsets (signatureOf (now (table .entry))) (now (t .entry)) (now (qs .exit)) (r .right)
-        (leftAt (now (table .entry)) (now (s .entry)) (now (ps .entry)) n (now (t .entry)) (now (qs .entry)) m .right)
+        Offsets (signatureOf (now (now (table .entry)))) (now (now (t .entry))) (now (qs .exit)) (r .right)
+        (leftAt (now (now (table .entry))) (now (now (s .entry))) (now (ps .entry)) n (now (now (t .entry))) (now (qs .entry)) m .right)
         ⌝ }
 {
     let mut k = 0;

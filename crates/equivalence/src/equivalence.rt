@@ -15,27 +15,24 @@ ghost use Rattle.equivalence.specs.Offsets.{Offsets, First, alikeAt, row
 
 // Are the terms at i and j AC-equivalent?
 pub fn equivalent(
-    table: &[u16],
-    s: &[u16],
+    table: &&[u16],
+    s: &&[u16],
     sk: &[u64; 128],
     i: usize,
-    t: &[u16],
+    t: &&[u16],
     tk: &[u64; 128],
     j: usize,
 ) -> bool
-    requires { ⌜ Sides (now table) (now s) (now sk) (now t) (now tk) ⌝ }
-    requires { ⌜ (i < length (now s)) × (j < length (now t)) ⌝ }
-    ensures { λ r. ⌜ r ≡ alikeAt (now (table .entry)) (now (s .entry)) i (now (t .entry)) j ⌝ }
+    requires { ⌜ Sides (now (now table)) (now (now s)) (now sk) (now (now t)) (now tk) ⌝ }
+    requires { ⌜ (i < length (now (now s))) × (j < length (now (now t))) ⌝ }
+    ensures { λ r. ⌜ r ≡ alikeAt (now (now (table .entry))) (now (now (s .entry))) i (now (now (t .entry))) j ⌝ }
 {
-    let f = s[i];
-    if f != t[j] {
-        return false;
-    }
     if sk[i] != tk[j] {
         return false;
     }
-    let n = arity(table, f);
-    if is_ac(table, f) {
+    let f = s[i];
+    let n = arity(*table, f);
+    if is_ac(*table, f) {
         return flattenings_equivalent(table, s, sk, i + 1, t, tk, j + 1, f, n);
     }
     rows_equivalent(table, s, sk, i + 1, t, tk, j + 1, n)
@@ -43,23 +40,26 @@ pub fn equivalent(
 
 // Are the n terms at i and j equivalent in their order?
 fn rows_equivalent(
-    table: &[u16],
-    s: &[u16],
+    table: &&[u16],
+    s: &&[u16],
     sk: &[u64; 128],
     i: usize,
-    t: &[u16],
+    t: &&[u16],
     tk: &[u64; 128],
     j: usize,
     n: usize,
 ) -> bool
-    requires { ⌜ Sides (now table) (now s) (now sk) (now t) (now tk) ⌝ }
-    requires { ⌜ Stands (signatureOf (now table)) (now s) i n × Stands (signatureOf (now table)) (now t) j n ⌝ }
-    ensures { λ r. ⌜ r ≡ rowsAlike (now (table .entry)) (now (s .entry)) i (now (t .entry)) j n ⌝ }
+    requires { ⌜ Sides (now (now table)) (now (now s)) (now sk) (now (now t)) (now tk) ⌝ }
+    requires { ⌜ Stands (signatureOf (now (now table))) (now (now s)) i n × Stands (signatureOf (now (now table))) (now (now t)) j n ⌝ }
+    ensures { λ r. ⌜ r ≡ rowsAlike (now (now (table .entry))) (now (now (s .entry))) i (now (now (t .entry))) j n ⌝ }
 {
+    if n == 0 {
+        return true;
+    }
     let mut at = i;
     let mut to = j;
     let mut left = n;
-    while left > 0 {
+    while left > 1 {
         if equivalent(table, s, sk, at, t, tk, to) {
             at += size_at(sk, at);
             to += size_at(tk, to);
@@ -68,28 +68,28 @@ fn rows_equivalent(
             return false;
         }
     }
-    true
+    equivalent(table, s, sk, at, t, tk, to)
 }
 
 // Are the flattenings for f of the n terms at i and of those at j equivalent as multisets?
 fn flattenings_equivalent(
-    table: &[u16],
-    s: &[u16],
+    table: &&[u16],
+    s: &&[u16],
     sk: &[u64; 128],
     i: usize,
-    t: &[u16],
+    t: &&[u16],
     tk: &[u64; 128],
     j: usize,
     f: u16,
     n: usize,
 ) -> bool
-    requires { ⌜ Sides (now table) (now s) (now sk) (now t) (now tk) ⌝ }
-    requires { ⌜ Stands (signatureOf (now table)) (now s) i n × Stands (signatureOf (now table)) (now t) j n ⌝ }
-    requires { ⌜ (f < 256) × (length (elementsAt (signatureOf (now table)) f (now t) j n) ≤ 64) ⌝ }
+    requires { ⌜ Sides (now (now table)) (now (now s)) (now sk) (now (now t)) (now tk) ⌝ }
+    requires { ⌜ Stands (signatureOf (now (now table))) (now (now s)) i n × Stands (signatureOf (now (now table))) (now (now t)) j n ⌝ }
+    requires { ⌜ (f < 256) × (length (elementsAt (signatureOf (now (now table))) f (now (now t)) j n) ≤ 64) ⌝ }
     ensures { λ r. ⌜
         r
-        ≡ elementsAlike (now (table .entry)) f (now (s .entry)) i n
-        (elementsAt (signatureOf (now (table .entry))) f (now (t .entry)) j n)
+        ≡ elementsAlike (now (now (table .entry))) f (now (now (s .entry))) i n
+        (elementsAt (signatureOf (now (now (table .entry)))) f (now (now (t .entry))) j n)
         ⌝ }
 {
     let mut offsets = [0u8; 64];
@@ -99,25 +99,25 @@ fn flattenings_equivalent(
 
 // Does the flattening for f of the n terms at i cancel against the terms at the first m offsets?
 fn cancels(
-    table: &[u16],
-    s: &[u16],
+    table: &&[u16],
+    s: &&[u16],
     sk: &[u64; 128],
     i: usize,
-    t: &[u16],
+    t: &&[u16],
     tk: &[u64; 128],
     f: u16,
     n: usize,
     offsets: &mut [u8; 64],
     m: usize,
 ) -> bool
-    requires { ⌜ Sides (now table) (now s) (now sk) (now t) (now tk) ⌝ }
-    requires { ⌜ Stands (signatureOf (now table)) (now s) i n ⌝ }
+    requires { ⌜ Sides (now (now table)) (now (now s)) (now sk) (now (now t)) (now tk) ⌝ }
+    requires { ⌜ Stands (signatureOf (now (now table))) (now (now s)) i n ⌝ }
     requires { ⌜ f < 256 ⌝ }
-    requires { ⌜ Offsets (signatureOf (now table)) (now t) (now offsets) m (termsAt (now table) (now t) (now offsets) m) ⌝ }
+    requires { ⌜ Offsets (signatureOf (now (now table))) (now (now t)) (now offsets) m (termsAt (now (now table)) (now (now t)) (now offsets) m) ⌝ }
     ensures { λ r. ⌜
         r
-        ≡ elementsAlike (now (table .entry)) f (now (s .entry)) i n
-        (termsAt (now (table .entry)) (now (t .entry)) (now (offsets .entry)) m)
+        ≡ elementsAlike (now (now (table .entry))) f (now (now (s .entry))) i n
+        (termsAt (now (now (table .entry))) (now (now (t .entry))) (now (offsets .entry)) m)
         ⌝ }
 {
     let mut at = i;
@@ -125,7 +125,7 @@ fn cancels(
     let mut left = m;
     while owed > 0 {
         if s[at] == f {
-            owed = arity(table, f) + (owed - 1);
+            owed = arity(*table, f) + (owed - 1);
             at += 1;
         } else {
             let k = partner(table, s, sk, at, t, tk, offsets, left);
@@ -143,20 +143,20 @@ fn cancels(
 
 // The first of the m offsets whose term is equivalent to the term at i; m where there is none.
 pub fn partner(
-    table: &[u16],
-    s: &[u16],
+    table: &&[u16],
+    s: &&[u16],
     sk: &[u64; 128],
     i: usize,
-    t: &[u16],
+    t: &&[u16],
     tk: &[u64; 128],
     offsets: &[u8; 64],
     m: usize,
 ) -> usize
-    requires { ⌜ Sides (now table) (now s) (now sk) (now t) (now tk) ⌝ }
-    requires { ⌜ i < length (now s) ⌝ }
-    requires { ⌜ Offsets (signatureOf (now table)) (now t) (now offsets) m (termsAt (now table) (now t) (now offsets) m) ⌝ }
+    requires { ⌜ Sides (now (now table)) (now (now s)) (now sk) (now (now t)) (now tk) ⌝ }
+    requires { ⌜ i < length (now (now s)) ⌝ }
+    requires { ⌜ Offsets (signatureOf (now (now table))) (now (now t)) (now offsets) m (termsAt (now (now table)) (now (now t)) (now offsets) m) ⌝ }
     ensures { λ r. ⌜
-        First (λ (k : ℕ). alikeAt (now (table .entry)) (now (s .entry)) i (now (t .entry)) (getD (now (offsets .entry)) k 0))
+        First (λ (k : ℕ). alikeAt (now (now (table .entry))) (now (now (s .entry))) i (now (now (t .entry))) (getD (now (offsets .entry)) k 0))
         m r
         ⌝ }
 {
@@ -173,4 +173,24 @@ pub fn partner(
         }
     }
     m
+}
+
+// The same test of the terms at i and j; terms with different keys are told apart without a call.
+pub fn equivalent_by_keys(
+    table: &&[u16],
+    s: &&[u16],
+    sk: &[u64; 128],
+    i: usize,
+    t: &&[u16],
+    tk: &[u64; 128],
+    j: usize,
+) -> bool
+    requires { ⌜ Sides (now (now table)) (now (now s)) (now sk) (now (now t)) (now tk) ⌝ }
+    requires { ⌜ (i < length (now (now s))) × (j < length (now (now t))) ⌝ }
+    ensures { λ r. ⌜ r ≡ alikeAt (now (now (table .entry))) (now (now (s .entry))) i (now (now (t .entry))) j ⌝ }
+{
+    if sk[i] == tk[j] {
+        return equivalent(table, s, sk, i, t, tk, j);
+    }
+    false
 }

@@ -11,24 +11,24 @@ ghost use Rattle.equivalence.specs.Offsets.{Offsets};
 
 // Lists the offsets of the elements of the flattenings for f of the n terms at i.
 pub fn elements(
-    table: &[u16],
+    table: &&[u16],
     f: u16,
-    words: &[u16],
+    words: &&[u16],
     keys: &[u64; 128],
     i: usize,
     n: usize,
     offsets: &mut [u8; 64],
 ) -> usize
     requires { ⌜ (f < 256) × (length (now offsets) ≡ 64) ⌝ }
-    requires { ⌜ Prepared (signatureOf (now table)) (now words) (now keys) ⌝ }
-    requires { ⌜ Stands (signatureOf (now table)) (now words) i n ⌝ }
-    requires { ⌜ length (elementsAt (signatureOf (now table)) f (now words) i n) ≤ 64 ⌝ }
+    requires { ⌜ Prepared (signatureOf (now (now table))) (now (now words)) (now keys) ⌝ }
+    requires { ⌜ Stands (signatureOf (now (now table))) (now (now words)) i n ⌝ }
+    requires { ⌜ length (elementsAt (signatureOf (now (now table))) f (now (now words)) i n) ≤ 64 ⌝ }
     ensures { λ r. ⌜
-        Offsets (signatureOf (now (table .entry))) (now (words .entry)) (now (offsets .exit)) r
-        (elementsAt (signatureOf (now (table .entry))) f (now (words .entry)) i n)
+        Offsets (signatureOf (now (now (table .entry)))) (now (now (words .entry))) (now (offsets .exit)) r
+        (elementsAt (signatureOf (now (now (table .entry)))) f (now (now (words .entry))) i n)
         ⌝ }
 {
-    let inner = arity(table, f);
+    let inner = arity(*table, f);
     let mut at = i;
     let mut owed = n;
     let mut k = 0;

@@ -1,5 +1,4 @@
 -- Covering and the comparison of two lists of offsets as multisets.
---     marked, marked-above, marked-not           a mark says whether the left is greater
 --     above-none, above-at                       the search for a greater term
 --     covered-all, covered-not                   each has a greater one
 --     verdict-equal, -short, -above, -not        what is left decides
@@ -8,10 +7,8 @@ use mathlib.Core.Path.{_≡_, refl, sym, _∙_}
 use mathlib.Core.Bool.{Bool, true, false}
 use Prim.Native.Nat.{ℕ, suc, zero, _≤_, _<_}
 use native.Mathlib.Omega.{arith}
-use lib.Dec.{ltb}
 use lib.ListN.{length, getD, take}
 use lib.Seq.{getD-take, length-take-le}
-use borrow.Author.Tests.{lt-ltb, le-ltb}
 use Rattle.multisets.specs.Multiset.{some, every, isEmpty, cancel, multisetEqual, multisetGreater}
 use Rattle.multisets.proofs.Relations.{byTest}
 use Rattle.multisets.proofs.MultisetLaws.{sum}
@@ -19,12 +16,11 @@ use Rattle.terms.specs.Signature.{Signature}
 use Rattle.terms.specs.Term.{Term, size}
 use Rattle.terms.specs.Equivalence.{isEquivalent}
 use Rattle.terms.specs.Order.{isGreater}
-use Rattle.terms.proofs.OrderLaws.{isGreater-unfolds}
 use Rattle.symbols.specs.Table.{signatureOf}
 use Rattle.equivalence.specs.Parts.{partAt}
 use Rattle.equivalence.specs.Offsets.{Offsets, termsAt}
 use Rattle.equivalence.proofs.OffsetLaws.{offsets-length}
-use Rattle.order.specs.Compared.{greaterAt, markAt, covered, verdict}
+use Rattle.order.specs.Compared.{greaterAt, covered, verdict}
 use Rattle.order.proofs.MeasureLaws.{cancel-within}
 
 module _ {A : Type 0} (p : A → Bool) (g : ℕ → A) where
@@ -51,19 +47,6 @@ module _ {A : Type 0} (p : A → Bool) (g : ℕ → A) where
 module _ (table : List ℕ) where
   abbrev σ : Signature
   σ = signatureOf table
-
-  greater-mark : (s : List ℕ) (i : ℕ) (t : List ℕ) (j : ℕ) → greaterAt table s i t j ≡ ltb 0 (markAt table s i t j)
-  greater-mark s i t j = isGreater-unfolds σ (partAt σ s i) (partAt σ t j)
-
-  module _ (s : List ℕ) (i : ℕ) (t : List ℕ) (j v : ℕ) (e : v ≡ markAt table s i t j) where
-    pub marked : ltb 0 v ≡ greaterAt table s i t j
-    marked = rw e (sym (greater-mark s i t j))
-
-    pub marked-above : 0 < v → greaterAt table s i t j ≡ true
-    marked-above h = sym marked ∙ lt-ltb 0 v h
-
-    pub marked-not : v ≤ 0 → greaterAt table s i t j ≡ false
-    marked-not h = sym marked ∙ le-ltb 0 v h
 
   -- Does the term at q have a greater one among those at offsets?
   abbrev pub someAbove : List ℕ → List ℕ → ℕ → List ℕ → ℕ → Bool

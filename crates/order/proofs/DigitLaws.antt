@@ -4,7 +4,7 @@
 --     digits-joined     the ninth bits of all gaps say whether each digit is at most the other
 --     digits-test       the same, as the code computes it
 use mathlib.Core.Path.{_≡_, refl, ap, ap₂, _∙_}
-use mathlib.Core.Bool.{true, false}
+use mathlib.Core.Bool.{false}
 use Prim.Native.Nat.{ℕ, suc, zero, _+_, _-_, _*_, _/_, _%_, _^_, _≤_, _<_}
 use native.Mathlib.Omega.{arith}
 use lib.Bits.{bitAnd, and-block, and-mask, and-le-l, and-shr, and-zero-l, and-zero-r}

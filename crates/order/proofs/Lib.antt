@@ -8,6 +8,7 @@ pub mod CoverLaws
 pub mod SplitLaws
 pub mod FlattenedLaws
 pub mod RootLaws
+pub mod GreaterLaws
 pub mod EquivalentLaws
 pub mod MarkLaws
 pub mod WholeLaws

@@ -2,7 +2,7 @@
 --     whole-seven, -one, -eight, -root, -ten      each way that the mark is decided
 --     decreasing-few                              marks of the order are at most 6
 --     relation-greater, -equivalent, -less, -none the relation, by the marks both ways
---     level-greater, -oftener, -one, -two, -four   the relation of terms of equal weight
+--     level-one, -two, -four                      the relation, by the order both ways
 use mathlib.Core.List.{List}
 use mathlib.Core.Path.{_≡_, refl, sym, ap, _∙_}
 use mathlib.Core.Bool.{Bool, true, false, cond, not, _&&_}
@@ -22,23 +22,18 @@ use Rattle.terms.specs.Order.{isGreater, mark}
 use Rattle.terms.proofs.EquivalenceLaws.{isEquivalent-equivalence}
 use Rattle.terms.proofs.OrderLaws.{isGreater-unfolds}
 use Rattle.order.specs.Compared.{relation}
+use Rattle.order.proofs.GreaterLaws.{byNone, root}
 use Rattle.order.proofs.EquivalentLaws.{level, mark-of-equivalent}
-
-abbrev byNone : Bool → ℕ → ℕ → ℕ → ℕ
-byNone none x y m = cond none (cond (ltb y x) 1 (cond (eqb y x) m 0)) 0
 
 abbrev byMark : ℕ → Bool → ℕ → ℕ → Bool → ℕ
 byMark m none x y like = cond (ltb 0 m) m (cond (not none) 7 (cond (ltb x y) 8 (cond like 9 10)))
 
 module _ (σ : Signature) (s t : Term) where
-  abbrev root : ℕ
-  root = rootMark σ (isEquivalent σ) (isGreater σ) s t
-
   abbrev decreasing : ℕ
   decreasing = decreasingMark σ (isEquivalent σ) (isGreater σ) s t
 
   whole : mark σ s t
-      ≡ byMark (byNone (noneOftener variableCount s t) (weight σ s) (weight σ t) root) (noneOftener variableCount s t)
+      ≡ byMark (byNone (noneOftener variableCount s t) (weight σ s) (weight σ t) (root σ s t)) (noneOftener variableCount s t)
       (weight σ s) (weight σ t) (isEquivalent σ s t)
   unfolding mark decreasingMark
   whole = refl
@@ -54,7 +49,7 @@ module _ (σ : Signature) (s t : Term) where
     whole-eight l =
         rw (whole, ← e, ← p, ← q, le-ltb y x (omega arith), ne-eqb y x (λ z. omega arith), lt-ltb x y l)
 
-    module _ (l : x ≡ y) {m : ℕ} (h : m ≡ root) where
+    module _ (l : x ≡ y) {m : ℕ} (h : m ≡ root σ s t) where
       pub whole-root : 0 < m → m ≡ mark σ s t
       whole-root k =
           rw (whole, ← e, ← p, ← q, ← h, le-ltb y x (omega arith), eq-eqb y x (sym l), lt-ltb 0 m k)
@@ -181,21 +176,9 @@ module _ (σ : Signature) (s t : Term) {m n : ℕ} (h : m ≡ mark σ s t) (k : 
   relation-none B v w d p =
       rw (not-greater-of-mark σ s t h l, not-greater-of-mark σ t s k p, unlike-of-mark σ s t h B v w d)
 
--- ---- terms of equal weight
+-- ---- the relation, by the order
 
 module _ (σ : Signature) (s t : Term) where
-  unfolds : isGreater σ s t ≡ ltb 0 (byNone (noneOftener variableCount s t) (weight σ s) (weight σ t) (root σ s t))
-  unfolding decreasingMark
-  unfolds = isGreater-unfolds σ s t
-
-  pub level-greater : weight σ s ≡ weight σ t → true ≡ noneOftener variableCount s t → {m : ℕ} → m ≡ root σ s t →
-      {r : Bool} → r ≡ ltb 0 m → r ≡ isGreater σ s t
-  level-greater l e h q =
-      q ∙ rw (unfolds, ← e, h, le-ltb (weight σ t) (weight σ s) (omega arith), eq-eqb (weight σ t) (weight σ s) (sym l))
-
-  pub level-oftener : false ≡ noneOftener variableCount s t → false ≡ isGreater σ s t
-  level-oftener e = rw (unfolds, ← e)
-
   pub level-one : true ≡ isGreater σ s t → 1 ≡ relation σ s t
   unfolding relation
   level-one e = rw (← e)

@@ -1,22 +1,21 @@
--- The comparison of two terms by their variables, weights, roots and rows of arguments.
---     lex-none, lex-here, lex-more                                  rows of arguments
---     root-left, -right, -above, -differ, -elements, -row, -none    the mark by the roots
---     mark-step, mark-oftener, -heavier, -lighter, -root            the mark of two terms, 1 to 6 or 0
+-- The comparison of two terms by their roots and rows of arguments.
+--     lex-none, lex-here, lex-more                                    rows of arguments
+--     root-variable, -differing, -elements, -rows, -plain             the mark by the roots
 use mathlib.Core.List.{List}
 use mathlib.Core.Path.{_≡_, refl, sym, ap₂, _∙_}
 use mathlib.Core.Bool.{Bool, true, false, cond}
 use Prim.Native.Nat.{ℕ, _+_, _-_, _≤_, _<_}
 use native.Mathlib.Omega.{arith}
-use lib.Dec.{ltb, eqb}
+use lib.Dec.{ltb}
 use lib.ListN.{length, getD}
-use borrow.Author.Tests.{lt-ltb, le-ltb, eq-eqb, ne-eqb}
+use borrow.Author.Tests.{lt-ltb, le-ltb, ne-eqb}
 use Rattle.multisets.specs.Multiset.{rowGreater}
-use Rattle.multisets.proofs.Relations.{byTest, eqb-self}
+use Rattle.multisets.proofs.Relations.{byTest, byOrder, eqb-self}
 use Rattle.terms.specs.Signature.{Signature, symbolOf}
 use Rattle.terms.specs.Term.{size, arguments}
 use Rattle.terms.specs.Term.Term.{app}
 use Rattle.terms.specs.Equivalence.{isEquivalent}
-use Rattle.terms.specs.Order.{rootMark, decreasingMark, isGreater}
+use Rattle.terms.specs.Order.{rootMark, isGreater}
 use Rattle.terms.proofs.TermLaws.{row-arguments}
 use Rattle.symbols.specs.Table.{signatureOf}
 use Rattle.equivalence.specs.Parts.{partAt, partsAt, Stands}
@@ -25,7 +24,7 @@ use Rattle.equivalence.specs.Offsets.{alikeAt}
 use Rattle.equivalence.proofs.PartLaws.{variable, symbol}
 use Rattle.equivalence.proofs.StepLaws.{row-next, prepared-size}
 use Rattle.order.proofs.MeasureLaws.{rowNodes}
-use Rattle.order.specs.Compared.{weightAt, noneOftenerAt, greaterAt, markAt, rootAt, rowsGreater, flattenedAt}
+use Rattle.order.specs.Compared.{isHigher, greaterAt, rootAt, rowsGreater, flattenedAt}
 
 -- ---- rows
 
@@ -63,94 +62,57 @@ pub record RowsGoing (table s t : List ℕ) (i j n at to left : ℕ) : Type 0 wh
 
 -- ---- the roots
 
+-- What a row of arguments says is the mark 3, or 0.
+pub positive : (r : Bool) → r ≡ ltb 0 (cond r 3 0)
+positive r = byTest r (λ e. rw e) λ e. rw e
+
 module _ (table s : List ℕ) (i : ℕ) (t : List ℕ) (j : ℕ) (h : i < length s) (k : j < length t) where
   abbrev σ : Signature
   σ = signatureOf table
 
-  pub root-left : 256 ≤ getD s i 0 → 0 ≡ rootAt table s i t j
+  both-symbols : getD s i 0 < 256 → getD t j 0 < 256 → rootAt table s i t j ≡ rootMark σ (isEquivalent σ) (isGreater σ)
+      (app (getD s i 0) (arguments (partsAt σ s (i + 1) (symbolOf σ (getD s i 0) .arity))))
+      (app (getD t j 0) (arguments (partsAt σ t (j + 1) (symbolOf σ (getD t j 0) .arity))))
   unfolding rootMark
-  root-left v = rw (variable σ s i h v)
+  both-symbols v u = ap₂ (rootMark σ (isEquivalent σ) (isGreater σ)) (symbol σ s i h v) (symbol σ t j k u)
 
-  module _ (v : getD s i 0 < 256) where
-    pub root-right : 256 ≤ getD t j 0 → 0 ≡ rootAt table s i t j
-    unfolding rootMark
-    root-right u = rw (symbol σ s i h v, variable σ t j k u)
+  pub root-variable : 256 ≤ getD s i 0 → 0 ≡ rootAt table s i t j
+  unfolding rootMark
+  root-variable v = rw (variable σ s i h v)
 
-    module _ (u : getD t j 0 < 256) where
-      both-symbols : rootAt table s i t j ≡ rootMark σ (isEquivalent σ) (isGreater σ)
-          (app (getD s i 0) (arguments (partsAt σ s (i + 1) (symbolOf σ (getD s i 0) .arity))))
-          (app (getD t j 0) (arguments (partsAt σ t (j + 1) (symbolOf σ (getD t j 0) .arity))))
+  pub root-differing : (getD s i 0 ≡ getD t j 0 → ⊥) → {r : Bool} → r ≡ isHigher table (getD s i 0) (getD t j 0) →
+      cond r 2 0 ≡ rootAt table s i t j
+  unfolding rootMark isHigher
+  root-differing d q =
+      rw q (byOrder (getD s i 0) 256
+      (λ v. byOrder (getD t j 0) 256
+      (λ u. rw (both-symbols v u, lt-ltb (getD s i 0) 256 v, lt-ltb (getD t j 0) 256 u, ne-eqb _ _ d))
+      λ u. rw (symbol σ s i h v, variable σ t j k u, lt-ltb (getD s i 0) 256 v, le-ltb (getD t j 0) 256 u))
+      λ v. rw (variable σ s i h v, le-ltb (getD s i 0) 256 v))
+
+  module _ (e : getD s i 0 ≡ getD t j 0) where
+    module _ (v : getD s i 0 < 256) {n : ℕ} (d : n ≡ symbolOf σ (getD s i 0) .arity) where
+      abbrev rank : ℕ
+      rank = symbolOf σ (getD s i 0) .precedence
+
+      same : rootAt table s i t j ≡ rootMark σ (isEquivalent σ) (isGreater σ)
+          (app (getD s i 0) (arguments (partsAt σ s (i + 1) n))) (app (getD s i 0) (arguments (partsAt σ t (j + 1) n)))
+      same = rw d (rw (← e) at (both-symbols v (omega arith)))
+
+      pub root-elements : symbolOf σ (getD s i 0) .ac ≡ true → {r : ℕ} →
+          r ≡ flattenedAt table (getD s i 0) s (i + 1) t (j + 1) n → r ≡ rootAt table s i t j
       unfolding rootMark
-      both-symbols = ap₂ (rootMark σ (isEquivalent σ) (isGreater σ)) (symbol σ s i h v) (symbol σ t j k u)
+      root-elements c q = q ∙ rw (same, le-ltb rank rank (omega arith), eqb-self, c)
 
-      pub root-above : symbolOf σ (getD t j 0) .precedence < symbolOf σ (getD s i 0) .precedence → 2 ≡ rootAt table s i
-          t j
+      pub root-rows : symbolOf σ (getD s i 0) .ac ≡ false → {r : Bool} →
+          r ≡ rowsGreater table s (i + 1) t (j + 1) n → cond r 3 0 ≡ rootAt table s i t j
       unfolding rootMark
-      root-above l = rw (both-symbols, lt-ltb _ _ l)
+      root-rows c q =
+          rw (q, same, le-ltb rank rank (omega arith), eqb-self, c, row-arguments, row-arguments)
 
-      module _ (l : symbolOf σ (getD s i 0) .precedence ≤ symbolOf σ (getD t j 0) .precedence) where
-        pub root-differ : (getD s i 0 ≡ getD t j 0 → ⊥) → 0 ≡ rootAt table s i t j
-        unfolding rootMark
-        root-differ d = rw (both-symbols, le-ltb _ _ l, ne-eqb _ _ d)
-
-        module _ (e : getD s i 0 ≡ getD t j 0) {n : ℕ} (d : n ≡ symbolOf σ (getD s i 0) .arity) where
-          pub root-elements : {r : ℕ} → symbolOf σ (getD s i 0) .ac ≡ true →
-              r ≡ flattenedAt table (getD s i 0) s (i + 1) t (j + 1) n → r ≡ rootAt table s i t j
-          unfolding rootMark
-          root-elements c q = (rw d at q) ∙ rw (both-symbols, le-ltb _ _ l, ← e, eqb-self (getD s i 0), c)
-
-          pub root-row : symbolOf σ (getD s i 0) .ac ≡ false → true ≡ rowsGreater table s (i + 1) t (j + 1) n →
-              3 ≡ rootAt table s i t j
-          unfolding rootMark
-          root-row c q = let z = rw d at q in rw (
-            both-symbols,
-            le-ltb _ _ l,
-            ← e,
-            eqb-self (getD s i 0),
-            c,
-            row-arguments,
-            row-arguments,
-            ← z,
-          )
-
-          pub root-none : symbolOf σ (getD s i 0) .ac ≡ false → false ≡ rowsGreater table s (i + 1) t (j + 1) n →
-              0 ≡ rootAt table s i t j
-          unfolding rootMark
-          root-none c q = let z = rw d at q in rw (
-            both-symbols,
-            le-ltb _ _ l,
-            ← e,
-            eqb-self (getD s i 0),
-            c,
-            row-arguments,
-            row-arguments,
-            ← z,
-          )
-
--- ---- the mark
-
-abbrev byFew : Bool → ℕ → ℕ → ℕ → ℕ
-byFew few x y m = cond few (cond (ltb y x) 1 (cond (eqb y x) m 0)) 0
-
-module _ (table s : List ℕ) (i : ℕ) (t : List ℕ) (j : ℕ) where
-  mark-step : markAt table s i t j ≡ byFew (noneOftenerAt table s i t j) (weightAt table s i) (weightAt table t j)
-      (rootAt table s i t j)
-  unfolding decreasingMark
-  mark-step = refl
-
-  pub mark-oftener : false ≡ noneOftenerAt table s i t j → 0 ≡ markAt table s i t j
-  mark-oftener e = rw (mark-step, ← e)
-
-  pub mark-lighter : {x y : ℕ} → x ≡ weightAt table s i → y ≡ weightAt table t j → x < y → 0 ≡ markAt table s i t j
-  mark-lighter {x} {y} d e l =
-      let z : y ≡ x → ⊥ = λ q. omega arith in
-      byTest (noneOftenerAt table s i t j)
-      (λ f. rw (mark-step, f, ← d, ← e, le-ltb y x (omega arith), ne-eqb y x z)) λ f. rw (mark-step, f)
-
-  module _ (f : true ≡ noneOftenerAt table s i t j) {x y : ℕ} (d : x ≡ weightAt table s i) (e : y ≡ weightAt table t j)
-    where
-      pub mark-heavier : y < x → 1 ≡ markAt table s i t j
-      mark-heavier l = rw (mark-step, ← f, ← d, ← e, lt-ltb y x l)
-
-      pub mark-root : {r : ℕ} → x ≡ y → r ≡ rootAt table s i t j → r ≡ markAt table s i t j
-      mark-root q h = h ∙ rw (mark-step, ← f, ← d, ← e, le-ltb y x (omega arith), eq-eqb y x (sym q))
+    pub root-plain : symbolOf σ (getD s i 0) .ac ≡ false → cond (ltb 0 (rootAt table s i t j)) 3 0 ≡ rootAt table s i t j
+    root-plain c =
+        byOrder (getD s i 0) 256
+        (λ v. byTest (rowsGreater table s (i + 1) t (j + 1) (symbolOf σ (getD s i 0) .arity))
+        (λ z. rw (← root-rows v refl c (sym z))) λ z. rw (← root-rows v refl c (sym z)))
+        λ v. rw (← root-variable v)

@@ -3,15 +3,17 @@
 --     left-some, left-formed, turned, ..       two terms
 --     left-weight, right-weight, totals-margin, within-none     what their totals say
 --     whole-sides                              both sides, prepared
+--     arguments-three, arguments-none          the mark by the arguments of a symbol that is not AC
 use mathlib.Core.List.{List, [], _∷_, _++_}
-use mathlib.Core.Path.{_≡_, refl, sym, ap₂, _∙_}
+use mathlib.Core.Path.{_≡_, refl, sym, ap, ap₂, _∙_}
+use mathlib.Core.Bool.{Bool, true, false, cond}
 use Prim.Native.Nat.{ℕ, _+_, _-_, _≤_, _<_}
 use native.Mathlib.Omega.{arith}
 use lib.IntN.{subℕ}
-use lib.ListN.{length}
+use lib.ListN.{length, getD}
 use borrow.Author.Tests.{lt-ltb, le-ltb}
 use Rattle.multisets.proofs.Relations.{byTest}
-use Rattle.terms.specs.Signature.{Signature}
+use Rattle.terms.specs.Signature.{Signature, symbolOf}
 use Rattle.terms.specs.Term.{Term, Terms, size, measure, measures, WellFormed, WellFormeds}
 use Rattle.terms.specs.Term.Term.{var, app}
 use Rattle.terms.specs.Term.Terms.{nil, cons}
@@ -20,13 +22,15 @@ use Rattle.terms.specs.Order.{margin}
 use Rattle.terms.proofs.WordsLaws.{length-words, termOf-words}
 use Rattle.symbols.specs.Table.{signatureOf}
 use Rattle.symbols.proofs.TableLaws.{few-at}
-use Rattle.equivalence.specs.Parts.{IsTerm, Complete}
+use Rattle.equivalence.specs.Parts.{IsTerm, Complete, partAt}
 use Rattle.equivalence.specs.Keys.{Prepared, Sides}
 use Rattle.equivalence.proofs.FormedLaws.{term-some, term-complete}
 use Rattle.order.specs.Sums.{nodes, atVariable, atSymbol, wordSum, termSum, digitsWithin, totalsWithin, Totalled}
 use Rattle.order.specs.declared.sums.Totals.{Totals}
-use Rattle.order.specs.Compared.{Whole, Level, weightAt, noneOftenerAt}
+use Rattle.order.specs.Compared.{Whole, SameRoot, weightAt, noneOftenerAt, greaterAt, rootAt}
 use Rattle.order.proofs.OccurrenceLaws.{none-oftener-of, oftener-low, oftener-high}
+use Rattle.order.proofs.RootLaws.{root-plain}
+use Rattle.order.proofs.GreaterLaws.{greater-level}
 
 module _ (σ : Signature) (few : length (σ .symbols) ≤ 256) (v w : ℕ → ℕ) where
   nodes-append : (us vs : List ℕ) → nodes v w (us ++ vs) ≡ nodes v w us + nodes v w vs
@@ -122,20 +126,20 @@ module _ {table s t : List ℕ} (S : Whole table s t) where
     pub whole-sides : Sides table s sk t tk
     whole-sides = record { small = S .small; binary = S .binary; left = P; right = Q }
 
-pub sides-turned : {table s sk t tk : List ℕ} → Sides table s sk t tk → Sides table t tk s sk
-sides-turned S = record { small = S .small; binary = S .binary; left = S .right; right = S .left }
+-- The mark by the arguments of two terms with the same root, which is no AC symbol.
+module _ {table s t : List ℕ} (R : SameRoot table s t) (h : 0 < length s) (k : 0 < length t)
+    (c : symbolOf (signatureOf table) (getD s 0 0) .ac ≡ false) where
+  arguments-mark : {r : Bool} → r ≡ greaterAt table s 0 t 0 → cond r 3 0 ≡ rootAt table s 0 t 0
+  arguments-mark e =
+      let σ = signatureOf table in
+      let g = greater-level σ (partAt σ s 0) (partAt σ t 0) refl refl (R .level) (R .few) refl in
+      ap (λ (b : Bool). cond b 3 0) (e ∙ sym g) ∙ root-plain table s 0 t 0 h k (R .root) c
 
-pub level-turned : {table s t : List ℕ} {a b : Totals} → Level table s a t b → Level table t b s a
-level-turned L = record {
-  whole = turned (L .whole);
-  left = L .right;
-  right = L .left;
-  level = sym (L .level);
-}
+  pub arguments-three : true ≡ greaterAt table s 0 t 0 → 3 ≡ rootAt table s 0 t 0
+  arguments-three e = arguments-mark e
 
-pub level-weights : {table s t : List ℕ} {a b : Totals} → Level table s a t b → weightAt table s 0 ≡ weightAt table t 0
-level-weights L =
-    omega (arith, L .level, left-weight (L .whole) (L .left) (L .right), right-weight (L .whole) (L .left) (L .right))
+  pub arguments-none : false ≡ greaterAt table s 0 t 0 → 0 ≡ rootAt table s 0 t 0
+  arguments-none e = arguments-mark e
 
 -- The margin by totals.
 pub totals-margin : {table s t : List ℕ} → Whole table s t → {a b : Totals} → Totalled (signatureOf table) s a →

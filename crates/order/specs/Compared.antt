@@ -1,21 +1,22 @@
 -- What the functions of the comparison answer of the terms at two offsets, of the n terms there, and of two lists.
 use mathlib.Core.List.{List}
-use mathlib.Core.Bool.{Bool, cond}
+use mathlib.Core.Bool.{Bool, true, cond, _&&_}
 use mathlib.Core.Path.{_≡_}
 use Prim.Native.Nat.{ℕ, _≤_, _<_}
-use lib.ListN.{length}
+use lib.Dec.{ltb}
+use lib.ListN.{length, getD}
 use Rattle.multisets.specs.Multiset.{every, some, multisetEqual, multisetGreater, rowGreater}
-use Rattle.terms.specs.Signature.{Signature, AcBinary}
+use Rattle.terms.specs.Signature.{Signature, symbolOf, AcBinary}
 use Rattle.terms.specs.Term.{Term, variableCount, weight}
 use Rattle.terms.specs.Equivalence.{isEquivalent}
+use Rattle.terms.specs.Words.{firstVariable}
 use Rattle.terms.specs.Order.{noneOftener, variables as variablesOf, highPart, lowPart, joinedHigh, flattenedMark}
-use Rattle.terms.specs.Order.{rootMark, decreasingMark, isGreater}
+use Rattle.terms.specs.Order.{rootMark, isGreater}
 use Rattle.symbols.specs.Table.{signatureOf}
 use Rattle.equivalence.specs.Parts.{IsTerm, partAt, partsAt, elementsAt}
 use Rattle.equivalence.specs.Keys.{Sides}
 use Rattle.equivalence.specs.Offsets.{Offsets}
-use Rattle.order.specs.declared.sums.Totals.{Totals}
-use Rattle.order.specs.Sums.{Summed, Totalled}
+use Rattle.order.specs.Sums.{Summed}
 
 -- What both sides of a comparison by the order are.
 pub record Scales (table s sk sw t tk tw : List ℕ) : Type 0 where
@@ -31,13 +32,6 @@ pub record Whole (table s t : List ℕ) : Type 0 where
   pub right : IsTerm (signatureOf table) t
   pub leftShort : length s ≤ 128
   pub rightShort : length t ≤ 128
-
--- Two whole terms of equal weight, with their totals.
-pub record Level (table s : List ℕ) (a : Totals) (t : List ℕ) (b : Totals) : Type 0 where
-  pub whole : Whole table s t
-  pub left : Totalled (signatureOf table) s a
-  pub right : Totalled (signatureOf table) t b
-  pub level : a .weight ≡ b .weight
 
 -- The offsets of the elements above f, of those below f and of the variables, and how many elements there are.
 pub record Parted (σ : Signature) (f : ℕ) (ws : List ℕ) (ts : List Term) (above below variables : List ℕ)
@@ -61,14 +55,23 @@ module _ (table : List ℕ) where
   abbrev pub noneOftenerAt : List ℕ → ℕ → List ℕ → ℕ → Bool
   noneOftenerAt s i t j = noneOftener variableCount (partAt σ s i) (partAt σ t j)
 
+  -- Both words are symbols, and the first is higher in the precedence.
+  unfoldable pub isHigher : ℕ → ℕ → Bool
+  isHigher f g =
+      ltb f firstVariable
+      && (ltb g firstVariable && ltb (symbolOf σ g .precedence) (symbolOf σ f .precedence))
+
   abbrev pub greaterAt : List ℕ → ℕ → List ℕ → ℕ → Bool
   greaterAt s i t j = isGreater σ (partAt σ s i) (partAt σ t j)
 
-  abbrev pub markAt : List ℕ → ℕ → List ℕ → ℕ → ℕ
-  markAt s i t j = decreasingMark σ (isEquivalent σ) (isGreater σ) (partAt σ s i) (partAt σ t j)
-
   abbrev pub rootAt : List ℕ → ℕ → List ℕ → ℕ → ℕ
   rootAt s i t j = rootMark σ (isEquivalent σ) (isGreater σ) (partAt σ s i) (partAt σ t j)
+
+  -- Two whole terms of equal weight with the same root; no variable occurs oftener in the right one.
+  pub record SameRoot (s t : List ℕ) : Type 0 where
+    pub root : getD s 0 0 ≡ getD t 0 0
+    pub few : true ≡ noneOftenerAt s 0 t 0
+    pub level : weightAt s 0 ≡ weightAt t 0
 
   abbrev pub rowsGreater : List ℕ → ℕ → List ℕ → ℕ → ℕ → Bool
   rowsGreater s i t j n = rowGreater (isEquivalent σ) (isGreater σ) (partsAt σ s i n) (partsAt σ t j n)

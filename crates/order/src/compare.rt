@@ -4,7 +4,7 @@ use crate::parts::parts;
 use crate::sums::digits_within;
 use crate::sums::sum_at;
 use equivalence::cancel::cancel;
-use equivalence::equivalence::equivalent;
+use equivalence::equivalence::equivalent_by_keys;
 use equivalence::keys::size_at;
 use equivalence::offsets::wide_byte;
 use symbols::arity;
@@ -16,160 +16,145 @@ ghost use lib.ListN.{length};
 ghost use Rattle.symbols.specs.Table.{signatureOf};
 ghost use Rattle.equivalence.specs.Parts.{elementsAt, Stands};
 ghost use Rattle.equivalence.specs.Offsets.{Offsets, termsAt};
-ghost use Rattle.order.specs.Compared.{Scales, noneOftenerAt, markAt, rootAt, rowsGreater, flattenedAt};
-ghost use Rattle.order.specs.Compared.{covered, verdict};
+ghost use Rattle.order.specs.Compared.{Scales, noneOftenerAt, isHigher, greaterAt, rowsGreater};
+ghost use Rattle.order.specs.Compared.{flattenedAt, covered, verdict};
 
 // Does no variable occur oftener in the term at j than in the term at i?
 pub fn none_oftener(
-    table: &[u16],
-    s: &[u16],
+    table: &&[u16],
+    s: &&[u16],
     sk: &[u64; 128],
     sw: &[u64; 387],
     i: usize,
-    t: &[u16],
+    t: &&[u16],
     tk: &[u64; 128],
     tw: &[u64; 387],
     j: usize,
 ) -> bool
-    requires { ⌜ Scales (now table) (now s) (now sk) (now sw) (now t) (now tk) (now tw) ⌝ }
-    requires { ⌜ (i < length (now s)) × (j < length (now t)) ⌝ }
-    ensures { λ r. ⌜ r ≡ noneOftenerAt (now (table .entry)) (now (s .entry)) i (now (t .entry)) j ⌝ }
+    requires { ⌜ Scales (now (now table)) (now (now s)) (now sk) (now sw) (now (now t)) (now tk) (now tw) ⌝ }
+    requires { ⌜ (i < length (now (now s))) × (j < length (now (now t))) ⌝ }
+    ensures { λ r. ⌜ r ≡ noneOftenerAt (now (now (table .entry))) (now (now (s .entry))) i (now (now (t .entry))) j ⌝ }
 {
-    let a = sum_at(table, 1, s, sk, sw, i);
-    let b = sum_at(table, 1, t, tk, tw, j);
-    if digits_within(a, b) {
-        let c = sum_at(table, 2, s, sk, sw, i);
-        let d = sum_at(table, 2, t, tk, tw, j);
-        return digits_within(c, d);
+    let a = sum_at(*table, 1, *s, sk, sw, i);
+    let b = sum_at(*table, 1, *t, tk, tw, j);
+    let c = sum_at(*table, 2, *s, sk, sw, i);
+    let d = sum_at(*table, 2, *t, tk, tw, j);
+    let low = digits_within(a, b);
+    let high = digits_within(c, d);
+    if low { high } else { false }
+}
+
+// Are both words symbols, and the first higher in the precedence?
+pub fn higher(table: &[u16], f: u16, g: u16) -> bool
+    ensures { λ r. ⌜ r ≡ isHigher (now (table .entry)) f g ⌝ }
+{
+    if f >= 256 {
+        return false;
+    }
+    if g >= 256 {
+        return false;
+    }
+    precedence(table, g) < precedence(table, f)
+}
+
+// Is the term at i greater than the term at j?
+pub fn greater(
+    table: &&[u16],
+    s: &&[u16],
+    sk: &[u64; 128],
+    sw: &[u64; 387],
+    i: usize,
+    t: &&[u16],
+    tk: &[u64; 128],
+    tw: &[u64; 387],
+    j: usize,
+) -> bool
+    requires { ⌜ Scales (now (now table)) (now (now s)) (now sk) (now sw) (now (now t)) (now tk) (now tw) ⌝ }
+    requires { ⌜ (i < length (now (now s))) × (j < length (now (now t))) ⌝ }
+    ensures { λ r. ⌜ r ≡ greaterAt (now (now (table .entry))) (now (now (s .entry))) i (now (now (t .entry))) j ⌝ }
+{
+    let x = sum_at(*table, 0, *s, sk, sw, i);
+    let y = sum_at(*table, 0, *t, tk, tw, j);
+    if x < y {
+        return false;
+    }
+    if y < x {
+        return none_oftener(table, s, sk, sw, i, t, tk, tw, j);
+    }
+    let f = s[i];
+    let g = t[j];
+    if f != g {
+        if higher(*table, f, g) {
+            return none_oftener(table, s, sk, sw, i, t, tk, tw, j);
+        }
+        return false;
+    }
+    if f >= 256 {
+        return false;
+    }
+    if none_oftener(table, s, sk, sw, i, t, tk, tw, j) {
+        let n = arity(*table, f);
+        if is_ac(*table, f) {
+            return flattened(table, s, sk, sw, i + 1, t, tk, tw, j + 1, f, n) > 0;
+        }
+        return rows_greater(table, s, sk, sw, i + 1, t, tk, tw, j + 1, n);
     }
     false
 }
 
-// The mark of the terms at i and j, 1 to 6; 0 where the first is not greater.
-pub fn decreasing_mark(
-    table: &[u16],
-    s: &[u16],
-    sk: &[u64; 128],
-    sw: &[u64; 387],
-    i: usize,
-    t: &[u16],
-    tk: &[u64; 128],
-    tw: &[u64; 387],
-    j: usize,
-) -> u8
-    requires { ⌜ Scales (now table) (now s) (now sk) (now sw) (now t) (now tk) (now tw) ⌝ }
-    requires { ⌜ (i < length (now s)) × (j < length (now t)) ⌝ }
-    ensures { λ r. ⌜ r ≡ markAt (now (table .entry)) (now (s .entry)) i (now (t .entry)) j ⌝ }
-{
-    let x = sum_at(table, 0, s, sk, sw, i);
-    let y = sum_at(table, 0, t, tk, tw, j);
-    if x < y {
-        return 0;
-    }
-    if none_oftener(table, s, sk, sw, i, t, tk, tw, j) {
-        if y < x {
-            return 1;
-        }
-        return root_mark(table, s, sk, sw, i, t, tk, tw, j);
-    }
-    0
-}
-
-// The mark by the roots, 2 to 6, of terms of equal weight; 0 where none holds.
-pub fn root_mark(
-    table: &[u16],
-    s: &[u16],
-    sk: &[u64; 128],
-    sw: &[u64; 387],
-    i: usize,
-    t: &[u16],
-    tk: &[u64; 128],
-    tw: &[u64; 387],
-    j: usize,
-) -> u8
-    requires { ⌜ Scales (now table) (now s) (now sk) (now sw) (now t) (now tk) (now tw) ⌝ }
-    requires { ⌜ (i < length (now s)) × (j < length (now t)) ⌝ }
-    ensures { λ r. ⌜ r ≡ rootAt (now (table .entry)) (now (s .entry)) i (now (t .entry)) j ⌝ }
-{
-    let f = s[i];
-    let g = t[j];
-    if f >= 256 {
-        return 0;
-    }
-    if g >= 256 {
-        return 0;
-    }
-    let p = precedence(table, f);
-    let q = precedence(table, g);
-    if q < p {
-        return 2;
-    }
-    if f != g {
-        return 0;
-    }
-    let n = arity(table, f);
-    if is_ac(table, f) {
-        return flattened(table, s, sk, sw, i + 1, t, tk, tw, j + 1, f, n);
-    }
-    if rows_greater(table, s, sk, sw, i + 1, t, tk, tw, j + 1, n) {
-        return 3;
-    }
-    0
-}
-
 // Are the n terms at i greater than those at j, at the first where they are not equivalent?
 fn rows_greater(
-    table: &[u16],
-    s: &[u16],
+    table: &&[u16],
+    s: &&[u16],
     sk: &[u64; 128],
     sw: &[u64; 387],
     i: usize,
-    t: &[u16],
+    t: &&[u16],
     tk: &[u64; 128],
     tw: &[u64; 387],
     j: usize,
     n: usize,
 ) -> bool
-    requires { ⌜ Scales (now table) (now s) (now sk) (now sw) (now t) (now tk) (now tw) ⌝ }
-    requires { ⌜ Stands (signatureOf (now table)) (now s) i n × Stands (signatureOf (now table)) (now t) j n ⌝ }
-    ensures { λ r. ⌜ r ≡ rowsGreater (now (table .entry)) (now (s .entry)) i (now (t .entry)) j n ⌝ }
+    requires { ⌜ Scales (now (now table)) (now (now s)) (now sk) (now sw) (now (now t)) (now tk) (now tw) ⌝ }
+    requires { ⌜ Stands (signatureOf (now (now table))) (now (now s)) i n × Stands (signatureOf (now (now table))) (now (now t)) j n ⌝ }
+    ensures { λ r. ⌜ r ≡ rowsGreater (now (now (table .entry))) (now (now (s .entry))) i (now (now (t .entry))) j n ⌝ }
 {
     let mut at = i;
     let mut to = j;
     let mut left = n;
     while left > 0 {
-        if equivalent(table, s, sk, at, t, tk, to) {
+        if equivalent_by_keys(table, s, sk, at, t, tk, to) {
             at += size_at(sk, at);
             to += size_at(tk, to);
             left -= 1;
         } else {
-            return decreasing_mark(table, s, sk, sw, at, t, tk, tw, to) > 0;
+            return greater(table, s, sk, sw, at, t, tk, tw, to);
         }
     }
     false
 }
 
 // The mark of the flattenings for f of the n terms at i and of those at j, 4 to 6; 0 where none holds.
-fn flattened(
-    table: &[u16],
-    s: &[u16],
+pub fn flattened(
+    table: &&[u16],
+    s: &&[u16],
     sk: &[u64; 128],
     sw: &[u64; 387],
     i: usize,
-    t: &[u16],
+    t: &&[u16],
     tk: &[u64; 128],
     tw: &[u64; 387],
     j: usize,
     f: u16,
     n: usize,
 ) -> u8
-    requires { ⌜ Scales (now table) (now s) (now sk) (now sw) (now t) (now tk) (now tw) ⌝ }
-    requires { ⌜ Stands (signatureOf (now table)) (now s) i n × Stands (signatureOf (now table)) (now t) j n ⌝ }
+    requires { ⌜ Scales (now (now table)) (now (now s)) (now sk) (now sw) (now (now t)) (now tk) (now tw) ⌝ }
+    requires { ⌜ Stands (signatureOf (now (now table))) (now (now s)) i n × Stands (signatureOf (now (now table))) (now (now t)) j n ⌝ }
     requires { ⌜
-        (f < 256) × (length (elementsAt (signatureOf (now table)) f (now s) i n) ≤ 64)
-        × (length (elementsAt (signatureOf (now table)) f (now t) j n) ≤ 64)
+        (f < 256) × (length (elementsAt (signatureOf (now (now table))) f (now (now s)) i n) ≤ 64)
+        × (length (elementsAt (signatureOf (now (now table))) f (now (now t)) j n) ≤ 64)
         ⌝ }
-    ensures { λ r. ⌜ r ≡ flattenedAt (now (table .entry)) f (now (s .entry)) i (now (t .entry)) j n ⌝ }
+    ensures { λ r. ⌜ r ≡ flattenedAt (now (now (table .entry))) f (now (now (s .entry))) i (now (now (t .entry))) j n ⌝ }
 {
     let mut sh = [0u8; 64];
     let mut sl = [0u8; 64];
@@ -228,25 +213,25 @@ fn flattened(
 
 // The terms at the n offsets ps as a multiset: 2 if above those at the m offsets qs, 1 if equivalent, 0 if neither.
 fn compare(
-    table: &[u16],
-    s: &[u16],
+    table: &&[u16],
+    s: &&[u16],
     sk: &[u64; 128],
     sw: &[u64; 387],
     ps: &mut [u8; 64],
     n: usize,
-    t: &[u16],
+    t: &&[u16],
     tk: &[u64; 128],
     tw: &[u64; 387],
     qs: &mut [u8; 64],
     m: usize,
 ) -> u8
-    requires { ⌜ Scales (now table) (now s) (now sk) (now sw) (now t) (now tk) (now tw) ⌝ }
-    requires { ⌜ Offsets (signatureOf (now table)) (now s) (now ps) n (termsAt (now table) (now s) (now ps) n) ⌝ }
-    requires { ⌜ Offsets (signatureOf (now table)) (now t) (now qs) m (termsAt (now table) (now t) (now qs) m) ⌝ }
+    requires { ⌜ Scales (now (now table)) (now (now s)) (now sk) (now sw) (now (now t)) (now tk) (now tw) ⌝ }
+    requires { ⌜ Offsets (signatureOf (now (now table))) (now (now s)) (now ps) n (termsAt (now (now table)) (now (now s)) (now ps) n) ⌝ }
+    requires { ⌜ Offsets (signatureOf (now (now table))) (now (now t)) (now qs) m (termsAt (now (now table)) (now (now t)) (now qs) m) ⌝ }
     ensures { λ r. ⌜
         r
-        ≡ verdict (now (table .entry)) (termsAt (now (table .entry)) (now (s .entry)) (now (ps .entry)) n)
-        (termsAt (now (table .entry)) (now (t .entry)) (now (qs .entry)) m)
+        ≡ verdict (now (now (table .entry))) (termsAt (now (now (table .entry))) (now (now (s .entry))) (now (ps .entry)) n)
+        (termsAt (now (now (table .entry))) (now (now (t .entry))) (now (qs .entry)) m)
         ⌝ }
 {
     let rest = cancel(table, s, sk, ps, n, t, tk, qs, m);
@@ -266,25 +251,25 @@ fn compare(
 
 // Does each term at the m offsets qs have a greater one at the n offsets ps?
 fn covers(
-    table: &[u16],
-    s: &[u16],
+    table: &&[u16],
+    s: &&[u16],
     sk: &[u64; 128],
     sw: &[u64; 387],
     ps: &[u8; 64],
     n: usize,
-    t: &[u16],
+    t: &&[u16],
     tk: &[u64; 128],
     tw: &[u64; 387],
     qs: &[u8; 64],
     m: usize,
 ) -> bool
-    requires { ⌜ Scales (now table) (now s) (now sk) (now sw) (now t) (now tk) (now tw) ⌝ }
-    requires { ⌜ Offsets (signatureOf (now table)) (now s) (now ps) n (termsAt (now table) (now s) (now ps) n) ⌝ }
-    requires { ⌜ Offsets (signatureOf (now table)) (now t) (now qs) m (termsAt (now table) (now t) (now qs) m) ⌝ }
+    requires { ⌜ Scales (now (now table)) (now (now s)) (now sk) (now sw) (now (now t)) (now tk) (now tw) ⌝ }
+    requires { ⌜ Offsets (signatureOf (now (now table))) (now (now s)) (now ps) n (termsAt (now (now table)) (now (now s)) (now ps) n) ⌝ }
+    requires { ⌜ Offsets (signatureOf (now (now table))) (now (now t)) (now qs) m (termsAt (now (now table)) (now (now t)) (now qs) m) ⌝ }
     ensures { λ r. ⌜
         r
-        ≡ covered (now (table .entry)) (termsAt (now (table .entry)) (now (s .entry)) (now (ps .entry)) n)
-        (termsAt (now (table .entry)) (now (t .entry)) (now (qs .entry)) m)
+        ≡ covered (now (now (table .entry))) (termsAt (now (now (table .entry))) (now (now (s .entry))) (now (ps .entry)) n)
+        (termsAt (now (now (table .entry))) (now (now (t .entry))) (now (qs .entry)) m)
         ⌝ }
 {
     let mut k = 0;
@@ -295,8 +280,7 @@ fn covers(
             if x == n {
                 return false;
             }
-            let mark = decreasing_mark(table, s, sk, sw, wide_byte(ps[x]), t, tk, tw, j);
-            if mark > 0 {
+            if greater(table, s, sk, sw, wide_byte(ps[x]), t, tk, tw, j) {
                 break 'left;
             }
             x += 1;

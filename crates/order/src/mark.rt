@@ -1,23 +1,26 @@
 // The mark, the relation and the margin of two whole terms.
-use crate::compare::root_mark;
+use crate::compare::flattened;
+use crate::compare::greater;
+use crate::compare::higher;
 use crate::sums::Totals;
 use crate::sums::digits_within;
 use crate::sums::sum_up;
 use equivalence::equivalence::equivalent;
 use equivalence::keys::prepare;
-use symbols::precedence;
+use symbols::arity;
+use symbols::is_ac;
 ghost use mathlib.Core.Bool.{true, false};
 ghost use mathlib.Core.Path.{_≡_};
 ghost use Prim.Native.Nat.{_≤_, _<_};
 ghost use lib.IntN.{subℕ};
-ghost use lib.ListN.{length, getD};
+ghost use lib.ListN.{length};
 ghost use Rattle.terms.specs.Words.{termOf};
 ghost use Rattle.terms.specs.Order.{mark as markOf};
 ghost use Rattle.symbols.specs.Table.{signatureOf};
 ghost use Rattle.equivalence.specs.Keys.{Sides};
 ghost use Rattle.equivalence.specs.Offsets.{alikeAt};
 ghost use Rattle.order.specs.Sums.{Totalled, totalsWithin};
-ghost use Rattle.order.specs.Compared.{Whole, Level, Scales, noneOftenerAt, weightAt, greaterAt, rootAt};
+ghost use Rattle.order.specs.Compared.{Whole, SameRoot, noneOftenerAt, weightAt, rootAt};
 ghost use Rattle.order.specs.Compared.{relation as relationOf};
 
 // Does no variable occur oftener in the term with the right totals?
@@ -30,44 +33,31 @@ fn within(s: Totals, t: Totals) -> bool
     false
 }
 
-// The mark by roots that differ: 2, or 0.
-fn root_mark_differing(table: &[u16], s: &[u16], t: &[u16]) -> u8
-    requires { ⌜ (0 < length (now s)) × (0 < length (now t)) × (getD (now s) 0 0 ≡ getD (now t) 0 0 → ⊥) ⌝ }
-    ensures { λ r. ⌜ r ≡ rootAt (now (table .entry)) (now (s .entry)) 0 (now (t .entry)) 0 ⌝ }
-{
-    let f = s[0];
-    let g = t[0];
-    if f >= 256 {
-        return 0;
-    }
-    if g >= 256 {
-        return 0;
-    }
-    if precedence(table, g) < precedence(table, f) {
-        return 2;
-    }
-    0
-}
-
-// The mark by the roots of two whole terms that are prepared.
-fn root_mark_whole(table: &[u16], s: &[u16], sk: &[u64; 128], t: &[u16], tk: &[u64; 128]) -> u8
+// The mark by the arguments of two whole terms that are prepared, of equal weight and with the same root, where no
+// variable occurs oftener in the right one: 3 to 6, or 0.
+fn arguments_mark(table: &[u16], s: &[u16], sk: &[u64; 128], t: &[u16], tk: &[u64; 128]) -> u8
     requires { ⌜ Sides (now table) (now s) (now sk) (now t) (now tk) ⌝ }
-    requires { ⌜ (0 < length (now s)) × (0 < length (now t)) ⌝ }
+    requires { ⌜ (0 < length (now s)) × (0 < length (now t)) × SameRoot (now table) (now s) (now t) ⌝ }
     ensures { λ r. ⌜ r ≡ rootAt (now (table .entry)) (now (s .entry)) 0 (now (t .entry)) 0 ⌝ }
 {
     let mut sw = [0u64; 387];
     let mut tw = [0u64; 387];
     sum_up(table, s, &mut sw);
     sum_up(table, t, &mut tw);
-    root_mark(table, s, sk, &sw, 0, t, tk, &tw, 0)
+    let f = s[0];
+    let n = arity(table, f);
+    if is_ac(table, f) {
+        return flattened(&table, &s, sk, &sw, 1, &t, tk, &tw, 1, f, n);
+    }
+    if greater(&table, &s, sk, &sw, 0, &t, tk, &tw, 0) {
+        return 3;
+    }
+    0
 }
 
-// The mark of two terms of equal weight, where no variable occurs oftener in the right one and the roots are the same.
+// The mark of two terms of equal weight with the same root, where no variable occurs oftener in the right one.
 fn mark_prepared(table: &[u16], s: &[u16], t: &[u16]) -> u8
-    requires { ⌜ Whole (now table) (now s) (now t) ⌝ }
-    requires { ⌜
-        (true ≡ noneOftenerAt (now table) (now s) 0 (now t) 0) × (weightAt (now table) (now s) 0 ≡ weightAt (now table) (now t) 0)
-        ⌝ }
+    requires { ⌜ Whole (now table) (now s) (now t) × SameRoot (now table) (now s) (now t) ⌝ }
     ensures { λ r. ⌜
         r
         ≡ markOf (signatureOf (now (table .entry))) (termOf (signatureOf (now (table .entry))) (now (s .entry)))
@@ -78,10 +68,10 @@ fn mark_prepared(table: &[u16], s: &[u16], t: &[u16]) -> u8
     let mut tk = [0u64; 128];
     prepare(table, s, &mut sk);
     prepare(table, t, &mut tk);
-    if equivalent(table, s, &sk, 0, t, &tk, 0) {
+    if equivalent(&table, &s, &sk, 0, &t, &tk, 0) {
         return 9;
     }
-    let m = root_mark_whole(table, s, &sk, t, &tk);
+    let m = arguments_mark(table, s, &sk, t, &tk);
     if m > 0 {
         return m;
     }
@@ -100,14 +90,15 @@ fn mark_level(table: &[u16], s: &[u16], t: &[u16]) -> u8
         (termOf (signatureOf (now (table .entry))) (now (t .entry)))
         ⌝ }
 {
-    if s[0] != t[0] {
-        let m = root_mark_differing(table, s, t);
-        if m > 0 {
-            return m;
-        }
-        return 10;
+    let f = s[0];
+    let g = t[0];
+    if f == g {
+        return mark_prepared(table, s, t);
     }
-    mark_prepared(table, s, t)
+    if higher(table, f, g) {
+        return 2;
+    }
+    10
 }
 
 // The mark of two terms with these totals, 1 to 10.
@@ -132,40 +123,10 @@ pub fn mark(table: &[u16], s: &[u16], st: Totals, t: &[u16], tt: Totals) -> u8
     7
 }
 
-// Is the first of two terms of equal weight greater?
-fn greater_level(
-    table: &[u16],
-    s: &[u16],
-    sk: &[u64; 128],
-    sw: &[u64; 387],
-    st: Totals,
-    t: &[u16],
-    tk: &[u64; 128],
-    tw: &[u64; 387],
-    tt: Totals,
-) -> bool
-    requires { ⌜ Scales (now table) (now s) (now sk) (now sw) (now t) (now tk) (now tw) ⌝ }
-    requires { ⌜ Level (now table) (now s) st (now t) tt ⌝ }
-    ensures { λ r. ⌜ r ≡ greaterAt (now (table .entry)) (now (s .entry)) 0 (now (t .entry)) 0 ⌝ }
-{
-    if within(st, tt) {
-        return root_mark(table, s, sk, sw, 0, t, tk, tw, 0) > 0;
-    }
-    false
-}
-
-// How two terms of equal weight that are not equivalent are related: 1 greater, 2 less, 4 unrelated.
-fn relation_unlike(
-    table: &[u16],
-    s: &[u16],
-    sk: &[u64; 128],
-    st: Totals,
-    t: &[u16],
-    tk: &[u64; 128],
-    tt: Totals,
-) -> u8
+// How two whole terms that are prepared and not equivalent are related: 1 greater, 2 less, 4 unrelated.
+fn relation_unlike(table: &[u16], s: &[u16], sk: &[u64; 128], t: &[u16], tk: &[u64; 128]) -> u8
     requires { ⌜ Sides (now table) (now s) (now sk) (now t) (now tk) ⌝ }
-    requires { ⌜ Level (now table) (now s) st (now t) tt × (false ≡ alikeAt (now table) (now s) 0 (now t) 0) ⌝ }
+    requires { ⌜ (0 < length (now s)) × (0 < length (now t)) × (false ≡ alikeAt (now table) (now s) 0 (now t) 0) ⌝ }
     ensures { λ r. ⌜
         r
         ≡ relationOf (signatureOf (now (table .entry))) (termOf (signatureOf (now (table .entry))) (now (s .entry)))
@@ -176,18 +137,18 @@ fn relation_unlike(
     let mut tw = [0u64; 387];
     sum_up(table, s, &mut sw);
     sum_up(table, t, &mut tw);
-    if greater_level(table, s, sk, &sw, st, t, tk, &tw, tt) {
+    if greater(&table, &s, sk, &sw, 0, &t, tk, &tw, 0) {
         return 1;
     }
-    if greater_level(table, t, tk, &tw, tt, s, sk, &sw, st) {
+    if greater(&table, &t, tk, &tw, 0, &s, sk, &sw, 0) {
         return 2;
     }
     4
 }
 
-// How two terms of equal weight are related.
-fn relation_level(table: &[u16], s: &[u16], st: Totals, t: &[u16], tt: Totals) -> u8
-    requires { ⌜ Level (now table) (now s) st (now t) tt ⌝ }
+// How two terms are related, by their arguments.
+fn relation_prepared(table: &[u16], s: &[u16], t: &[u16]) -> u8
+    requires { ⌜ Whole (now table) (now s) (now t) ⌝ }
     ensures { λ r. ⌜
         r
         ≡ relationOf (signatureOf (now (table .entry))) (termOf (signatureOf (now (table .entry))) (now (s .entry)))
@@ -198,10 +159,10 @@ fn relation_level(table: &[u16], s: &[u16], st: Totals, t: &[u16], tt: Totals) -
     let mut tk = [0u64; 128];
     prepare(table, s, &mut sk);
     prepare(table, t, &mut tk);
-    if equivalent(table, s, &sk, 0, t, &tk, 0) {
+    if equivalent(&table, &s, &sk, 0, &t, &tk, 0) {
         return 3;
     }
-    relation_unlike(table, s, &sk, st, t, &tk, tt)
+    relation_unlike(table, s, &sk, t, &tk)
 }
 
 // How two terms with these totals are related, by their marks both ways.
@@ -240,7 +201,7 @@ pub fn relation(table: &[u16], s: &[u16], st: Totals, t: &[u16], tt: Totals) -> 
 {
     if st.weight == tt.weight {
         if s[0] == t[0] {
-            return relation_level(table, s, st, t, tt);
+            return relation_prepared(table, s, t);
         }
     }
     relation_marked(table, s, st, t, tt)

@@ -77,9 +77,9 @@ fn split(
 
 // Lists the parts of the flattenings for f of the n terms at i.
 pub fn parts(
-    table: &[u16],
+    table: &&[u16],
     f: u16,
-    words: &[u16],
+    words: &&[u16],
     keys: &[u64; 128],
     i: usize,
     n: usize,
@@ -87,18 +87,18 @@ pub fn parts(
     below: &mut [u8; 64],
     variables: &mut [u8; 64],
 ) -> PartCounts
-    requires { ⌜ Prepared (signatureOf (now table)) (now words) (now keys) × Stands (signatureOf (now table)) (now words) i n ⌝ }
-    requires { ⌜ (f < 256) × (length (elementsAt (signatureOf (now table)) f (now words) i n) ≤ 64) ⌝ }
+    requires { ⌜ Prepared (signatureOf (now (now table))) (now (now words)) (now keys) × Stands (signatureOf (now (now table))) (now (now words)) i n ⌝ }
+    requires { ⌜ (f < 256) × (length (elementsAt (signatureOf (now (now table))) f (now (now words)) i n) ≤ 64) ⌝ }
     requires { ⌜ (length (now above) ≡ 64) × (length (now below) ≡ 64) × (length (now variables) ≡ 64) ⌝ }
     ensures { λ r. ⌜
-        Parted (signatureOf (now (table .entry))) f (now (words .entry))
-        (elementsAt (signatureOf (now (table .entry))) f (now (words .entry)) i n)
+        Parted (signatureOf (now (now (table .entry)))) f (now (now (words .entry)))
+        (elementsAt (signatureOf (now (now (table .entry)))) f (now (now (words .entry))) i n)
         (now (above .exit)) (now (below .exit)) (now (variables .exit)) (r .above) (r .below) (r .variables) (r .all)
         ⌝ }
 {
     let mut offsets = [0u8; 64];
     let m = elements(table, f, words, keys, i, n, &mut offsets);
-    split(table, f, words, &offsets, m, above, below, variables)
+    split(*table, f, *words, &offsets, m, above, below, variables)
 }
 
 // Puts the first m of qs after the first k of ps.
@@ -119,31 +119,31 @@ fn join(table: &[u16], t: &[u16], ps: &mut [u8; 64], k: usize, qs: &[u8; 64], m:
 
 // Puts what the left's a variables do not cancel of the right's b after the first k of the right's high part.
 pub fn join_surplus(
-    table: &[u16],
-    s: &[u16],
+    table: &&[u16],
+    s: &&[u16],
     sk: &[u64; 128],
     sv: &mut [u8; 64],
     a: usize,
-    t: &[u16],
+    t: &&[u16],
     tk: &[u64; 128],
     tv: &mut [u8; 64],
     b: usize,
     th: &mut [u8; 64],
     k: usize,
 ) -> usize
-    requires { ⌜ Sides (now table) (now s) (now sk) (now t) (now tk) ⌝ }
-    requires { ⌜ Offsets (signatureOf (now table)) (now s) (now sv) a (termsAt (now table) (now s) (now sv) a) ⌝ }
-    requires { ⌜ Offsets (signatureOf (now table)) (now t) (now tv) b (termsAt (now table) (now t) (now tv) b) ⌝ }
-    requires { ⌜ Offsets (signatureOf (now table)) (now t) (now th) k (termsAt (now table) (now t) (now th) k) ⌝ }
+    requires { ⌜ Sides (now (now table)) (now (now s)) (now sk) (now (now t)) (now tk) ⌝ }
+    requires { ⌜ Offsets (signatureOf (now (now table))) (now (now s)) (now sv) a (termsAt (now (now table)) (now (now s)) (now sv) a) ⌝ }
+    requires { ⌜ Offsets (signatureOf (now (now table))) (now (now t)) (now tv) b (termsAt (now (now table)) (now (now t)) (now tv) b) ⌝ }
+    requires { ⌜ Offsets (signatureOf (now (now table))) (now (now t)) (now th) k (termsAt (now (now table)) (now (now t)) (now th) k) ⌝ }
     requires { ⌜ k + b ≤ 64 ⌝ }
     ensures { λ r. ⌜
-        Offsets (signatureOf (now (table .entry))) (now (t .entry)) (now (th .exit)) r
-        (termsAt (now (table .entry)) (now (t .entry)) (now (th .entry)) k
-        ++ leftAt (now (table .entry)) (now (s .entry)) (now (sv .entry)) a (now (t .entry)) (now (tv .entry)) b .right)
+        Offsets (signatureOf (now (now (table .entry)))) (now (now (t .entry))) (now (th .exit)) r
+        (termsAt (now (now (table .entry))) (now (now (t .entry))) (now (th .entry)) k
+        ++ leftAt (now (now (table .entry))) (now (now (s .entry))) (now (sv .entry)) a (now (now (t .entry))) (now (tv .entry)) b .right)
         ⌝ }
 {
     let rest = cancel(table, s, sk, sv, a, t, tk, tv, b);
     let m = rest.right;
-    join(table, t, th, k, tv, m);
+    join(*table, *t, th, k, tv, m);
     k + m
 }

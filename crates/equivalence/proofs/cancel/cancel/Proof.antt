@@ -8,14 +8,14 @@ use Rattle.equivalence.proofs.cancel.cancel.Tie as tie
 
 abbrev Inv-loop : tie.InvT-loop
 Inv-loop table s sk ps₀ n t tk qs₀ m k₀ left₀ right₀ ps qs k left right =
-    Cancelling table s t ps₀ n qs₀ m ps qs k right left
+    Cancelling (table .now) (s .now) (t .now) ps₀ n qs₀ m ps qs k right left
 
 abbrev μ-loop : tie.MeasureT-loop
 μ-loop table s sk ps₀ n t tk qs₀ m k₀ left₀ right₀ ps qs k left right = n - k
 
 loop-holds : tie.Need-loop-holds Inv-loop μ-loop
-loop-holds c = cancelling-start _ _ _ _ _ _ _ (c .before .before .before .pre .1 .0)
-    (c .before .before .before .pre .1 .1)
+loop-holds c = cancelling-start _ _ _ _ _ _ _ (c .pre .1 .0)
+    (c .pre .1 .1)
 
 element-copy-out-p : tie.Need-element-copy-out-p Inv-loop μ-loop
 element-copy-out-p c = search needs
@@ -26,7 +26,7 @@ wide-byte-requires c κs = search needs
 partner-requires : tie.Need-partner-requires Inv-loop μ-loop
 partner-requires c κs =
     let g = c .before .before .before .before .loop .inv in (
-      c .before .before .before .before .before .before .before .before .pre .0,
+      c .before .before .before .before .before .pre .0,
       (
         rw (c .before .wide-byte .ensures .0) (g .left .inside (c .before .before .before .before .loop .k)
             (omega arith)),

@@ -9,24 +9,24 @@ use Rattle.equivalence.proofs.flatten.elements.Statement.{statement}
 use Rattle.equivalence.proofs.flatten.elements.Tie as tie
 
 abbrev Inv-loop : tie.InvT-loop
-Inv-loop table f words keys i n offsets₀ inner at₀ owed₀ k₀ offsets at owed k = Listing table f words i n offsets at
+Inv-loop table f words keys i n offsets₀ inner at₀ owed₀ k₀ offsets at owed k = Listing (table .now) f (words .now) i n offsets at
     owed k
 
 abbrev μ-loop : tie.MeasureT-loop
-μ-loop table f words keys i n offsets₀ inner at₀ owed₀ k₀ offsets at owed k = length words - at
+μ-loop table f words keys i n offsets₀ inner at₀ owed₀ k₀ offsets at owed k = length (words .now) - at
 
 arity-requires : tie.Need-arity-requires Inv-loop μ-loop
 arity-requires c κs = search needs
 
 loop-holds : tie.Need-loop-holds Inv-loop μ-loop
-loop-holds c = listing-start _ _ _ _ _ _ (c .before .before .before .pre .1 .1 .0)
-    (c .before .before .before .pre .0 .1)
+loop-holds c = listing-start _ _ _ _ _ _ (c .before .before .pre .1 .1 .0)
+    (c .before .before .pre .0 .1)
 
 mul-if1 : tie.Need-mul-if1 Inv-loop μ-loop
 mul-if1 c = search needs
 
-shared-slice-read-if1 : tie.Need-shared-slice-read-if1 Inv-loop μ-loop
-shared-slice-read-if1 c = search needs
+index-1-if1 : tie.Need-index-1-if1 Inv-loop μ-loop
+index-1-if1 c = search needs
 
 add-at : tie.Need-add-at Inv-loop μ-loop
 add-at c = search needs
@@ -42,7 +42,7 @@ loop-less c = search needs
 
 loop-again : tie.Need-loop-again Inv-loop μ-loop
 loop-again c =
-    listing-own (c .before .before .before .before .before .before .before .pre .1 .0)
+    listing-own (c .before .before .before .before .before .before .pre .1 .0)
     (c .before .before .before .loop .inv) (omega arith) (c .if1 .taken) (omega arith)
     (c .before .before .before .before .arity .ensures .0)
 
@@ -51,9 +51,9 @@ cast-offsets c = search needs
 
 element-write-offsets : tie.Need-element-write-offsets Inv-loop μ-loop
 element-write-offsets c =
-    listing-room (c .before .before .before .before .before .before .before .pre .1 .0)
+    listing-room (c .before .before .before .before .before .before .pre .1 .0)
     (c .before .before .before .loop .inv) (omega arith) (c .if1 .left)
-    (c .before .before .before .before .before .before .before .pre .1 .1 .1)
+    (c .before .before .before .before .before .before .pre .1 .1 .1)
 
 add-k : tie.Need-add-k Inv-loop μ-loop
 add-k c = search needs
@@ -69,18 +69,18 @@ sub-owed-2 c = search needs
 
 loop-less-2 : tie.Need-loop-less-2 Inv-loop μ-loop
 loop-less-2 c =
-    let p = step-some (c .before .before .before .before .before .before .before .before .pre .1 .0)
+    let p = step-some (c .before .before .before .before .before .before .before .pre .1 .0)
     (c .before .before .before .before .loop .inv .terms) (omega arith) in
     omega (arith, c .size-at .ensures .0)
 
 loop-again-2 : tie.Need-loop-again-2 Inv-loop μ-loop
 loop-again-2 c =
-    listing-other (c .before .before .before .before .before .before .before .before .pre .1 .0)
+    listing-other (c .before .before .before .before .before .before .before .pre .1 .0)
     (c .before .before .before .before .loop .inv) (omega arith) (c .before .if1 .left) (c .size-at .ensures .0)
-    (c .before .before .before .before .before .before .before .before .pre .1 .1 .1)
+    (c .before .before .before .before .before .before .before .pre .1 .1 .1)
 
 returns : tie.Need-returns Inv-loop μ-loop
-returns c = listing-done (c .before .before .before .before .before .pre .1 .0) (c .before .loop .inv) (omega arith)
+returns c = listing-done (c .before .before .before .before .pre .1 .0) (c .before .loop .inv) (omega arith)
 
 pub elements-spec : {M : Type 1} → statement M
 elements-spec =
@@ -91,7 +91,7 @@ elements-spec =
     arity-requires
     loop-holds
     mul-if1
-    shared-slice-read-if1
+    index-1-if1
     add-at
     sub-owed
     add-owed

@@ -10,60 +10,65 @@ use Rattle.order.proofs.mark.mark_prepared.Tie as tie
 
 prepare-requires : tie.Need-prepare-requires
 prepare-requires c κs =
-    let S = c .before .before .before .before .pre .0 in
-    (left-complete S, (S .small, S .leftShort, refl))
+    let S = c .before .before .before .before .pre .0 in (left-complete S, (S .small, S .leftShort, refl))
 
 prepare-requires-2 : tie.Need-prepare-requires-2
 prepare-requires-2 c κs =
-    let S = c .before .before .before .before .before .before .pre .0 in
-    (right-complete S, (S .small, S .rightShort, refl))
+    let S = c .before .before .before .before .before .before .pre .0 in (
+      right-complete S,
+      (S .small, S .rightShort, refl),
+    )
 
 equivalent-requires : tie.Need-equivalent-requires
 equivalent-requires c κs =
-    let S = c .before .before .before .before .before .before .before .before .before .pre .0 in (
-      whole-sides S (c .before .before .before .before .prepare .ensures) (c .before .before .prepare2 .ensures),
+    let S = c .before .before .before .before .before .before .before .before .before .before .before .before .pre .0 in (
+      whole-sides S (c .before .before .before .before .before .before .before .prepare .ensures)
+          (c .before .before .before .before .before .prepare2 .ensures),
       (left-some S, right-some S),
     )
 
 returns : tie.Need-returns
 returns c =
-    let a = c .before .before .before .before .before .before .before .before .before .before .before .args in
-    let S = c .before .before .before .before .before .before .before .before .before .before .before .pre .0 in
-    let σ = signatureOf (a .table .now) in
-    mark-of-equivalent σ (S .binary) (termOf σ (a .s .now)) (termOf σ (a .t .now)) (left-formed S) (right-formed S)
+    let a = c .before .before .before .before .before .before .before .before .before .before .before .before .before
+    .before .args in
+    let S = c .before .before .before .before .before .before .before .before .before .before .before .before .before
+    .before .pre .0 in
+    let σ = signatureOf (a .t1 .now) in
+    mark-of-equivalent σ (S .binary) (termOf σ (a .t2 .now)) (termOf σ (a .t3 .now)) (left-formed S) (right-formed S)
     (sym (c .before .equivalent .ensures) ∙ c .if1 .taken)
 
-root-mark-whole-requires : tie.Need-root-mark-whole-requires
-root-mark-whole-requires c κs =
-    let S =
-    c .before .before .before .before .before .before .before .before .before .before .before .before .before .pre .0 in (
-      whole-sides S (c .before .before .before .before .before .before .before .before .prepare .ensures)
-          (c .before .before .before .before .before .before .prepare2 .ensures),
-      (left-some S, right-some S),
+arguments-mark-requires : tie.Need-arguments-mark-requires
+arguments-mark-requires c κs =
+    let (S, R) = c .before .before .before .before .before .before .before .before .before .before .before .before
+    .before .before .before .before .pre in (
+      whole-sides S
+          (c .before .before .before .before .before .before .before .before .before .before .before .prepare .ensures)
+          (c .before .before .before .before .before .before .before .before .before .prepare2 .ensures),
+      (left-some S, right-some S, R),
     )
 
 returns-2 : tie.Need-returns-2
 returns-2 c =
-    let a =
-    c .before .before .before .before .before .before .before .before .before .before .before .before .before .before .before .args in
-    let h =
-    c .before .before .before .before .before .before .before .before .before .before .before .before .before .before .before .pre .1 in
-    let σ = signatureOf (a .table .now) in
-    whole-root σ (termOf σ (a .s .now)) (termOf σ (a .t .now)) (h .0) refl refl (h .1)
-    (c .before .root-mark-whole .ensures)
+    let a = c .before .before .before .before .before .before .before .before .before .before .before .before .before
+    .before .before .before .before .before .args in
+    let R = c .before .before .before .before .before .before .before .before .before .before .before .before .before
+    .before .before .before .before .before .pre .1 in
+    let σ = signatureOf (a .t1 .now) in
+    whole-root σ (termOf σ (a .t2 .now)) (termOf σ (a .t3 .now)) (R .few) refl refl (R .level)
+    (c .before .arguments-mark .ensures)
     (c .if2 .taken)
 
 returns-3 : tie.Need-returns-3
 returns-3 c =
-    let a =
-    c .before .before .before .before .before .before .before .before .before .before .before .before .before .before .before .args in
-    let h =
-    c .before .before .before .before .before .before .before .before .before .before .before .before .before .before .before .pre .1 in
-    let σ = signatureOf (a .table .now) in
-    let unlike = sym (c .before .before .before .before .if1 .left) in
-    whole-ten σ (termOf σ (a .s .now)) (termOf σ (a .t .now)) (h .0) refl refl (h .1)
-    (c .before .root-mark-whole .ensures)
-    (c .if2 .left) (unlike ∙ c .before .before .before .before .before .equivalent .ensures)
+    let a = c .before .before .before .before .before .before .before .before .before .before .before .before .before
+    .before .before .before .before .before .args in
+    let R = c .before .before .before .before .before .before .before .before .before .before .before .before .before
+    .before .before .before .before .before .pre .1 in
+    let σ = signatureOf (a .t1 .now) in
+    whole-ten σ (termOf σ (a .t2 .now)) (termOf σ (a .t3 .now)) (R .few) refl refl (R .level)
+    (c .before .arguments-mark .ensures)
+    (c .if2 .left) (sym (c .before .before .before .before .if1 .left)
+    ∙ c .before .before .before .before .before .equivalent .ensures)
 
 pub mark-prepared-spec : {M : Type 1} → statement M
 mark-prepared-spec =
@@ -73,6 +78,6 @@ mark-prepared-spec =
     prepare-requires-2
     equivalent-requires
     returns
-    root-mark-whole-requires
+    arguments-mark-requires
     returns-2
     returns-3)

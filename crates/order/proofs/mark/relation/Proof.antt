@@ -9,8 +9,8 @@ shared-slice-read-if2 c = left-some (c .before .before .before .before .before .
 shared-slice-read-if2-2 : tie.Need-shared-slice-read-if2-2
 shared-slice-read-if2-2 c = right-some (c .before .before .before .before .before .before .before .before .pre .0)
 
-relation-level-requires : tie.Need-relation-level-requires
-relation-level-requires c κs = search needs
+relation-prepared-requires : tie.Need-relation-prepared-requires
+relation-prepared-requires c κs = search needs
 
 returns : tie.Need-returns
 returns c = search needs
@@ -27,7 +27,7 @@ relation-spec =
     (tie.spec
     shared-slice-read-if2
     shared-slice-read-if2-2
-    relation-level-requires
+    relation-prepared-requires
     returns
     relation-marked-requires
     returns-2)

@@ -1,0 +1,38 @@
+use borrow.Author.Tests.{lt-ltb, le-ltb}
+use Rattle.order.specs.Compared.{isHigher}
+use borrow.Author.Needs.{needs}
+use Rattle.order.proofs.compare.higher.Statement.{statement}
+use Rattle.order.proofs.compare.higher.Tie as tie
+
+returns : tie.Need-returns
+unfolding isHigher
+returns c =
+    rw (le-ltb (c .before .before .args .f) 256 (c .if1 .taken))
+
+returns-2 : tie.Need-returns-2
+unfolding isHigher
+returns-2 c =
+    let a = c .before .before .before .args in
+    rw (lt-ltb (a .f) 256 (c .before .if1 .left), le-ltb (a .g) 256 (c .if2 .taken))
+
+precedence-requires : tie.Need-precedence-requires
+precedence-requires c κs = search needs
+
+precedence-requires-2 : tie.Need-precedence-requires-2
+precedence-requires-2 c κs = search needs
+
+returns-3 : tie.Need-returns-3
+unfolding isHigher
+returns-3 c =
+    let a = c .before .before .before .before .before .args in
+    rw (
+      lt-ltb (a .f) 256 (c .before .before .before .if1 .left),
+      lt-ltb (a .g) 256
+          (c .before .before .if2 .left),
+      c .before .precedence .ensures,
+      c .precedence2 .ensures,
+    )
+
+pub higher-spec : {M : Type 1} → statement M
+higher-spec =
+    tie.close (tie.spec returns returns-2 precedence-requires precedence-requires-2 returns-3)

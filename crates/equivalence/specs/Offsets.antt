@@ -48,6 +48,10 @@ module _ (table : List ℕ) where
   abbrev pub termsAt : List ℕ → List ℕ → ℕ → List Term
   termsAt ws offsets m = map (partAt (signatureOf table) ws) (take m offsets)
 
+  -- The first m of offsets are offsets in ws.
+  abbrev pub OffsetsIn : List ℕ → List ℕ → ℕ → Type 0
+  OffsetsIn ws offsets m = Offsets (signatureOf table) ws offsets m (termsAt ws offsets m)
+
   -- What is left of the terms at the n offsets ps and at the m offsets qs once equivalent pairs are cancelled.
   abbrev pub leftAt : List ℕ → List ℕ → ℕ → List ℕ → List ℕ → ℕ → Rest Term
   leftAt s ps n t qs m = cancel (isEquivalent (signatureOf table)) (termsAt s ps n) (termsAt t qs m)

@@ -4,7 +4,7 @@ use crate::offsets::delete;
 use crate::offsets::wide_byte;
 ghost use Rattle.symbols.specs.Table.{signatureOf};
 ghost use Rattle.equivalence.specs.Keys.{Sides};
-ghost use Rattle.equivalence.specs.Offsets.{Offsets, termsAt, leftAt};
+ghost use Rattle.equivalence.specs.Offsets.{Offsets, OffsetsIn, leftAt};
 
 pub struct Counts {
     pub left: usize,
@@ -24,15 +24,17 @@ pub fn cancel(
     m: usize,
 ) -> Counts
     requires { ⌜ Sides (now (now table)) (now (now s)) (now sk) (now (now t)) (now tk) ⌝ }
-    requires { ⌜ Offsets (signatureOf (now (now table))) (now (now s)) (now ps) n (termsAt (now (now table)) (now (now s)) (now ps) n) ⌝ }
-    requires { ⌜ Offsets (signatureOf (now (now table))) (now (now t)) (now qs) m (termsAt (now (now table)) (now (now t)) (now qs) m) ⌝ }
+    requires { ⌜ OffsetsIn (now (now table)) (now (now s)) (now ps) n ⌝ }
+    requires { ⌜ OffsetsIn (now (now table)) (now (now t)) (now qs) m ⌝ }
     ensures { λ r. ⌜
         Offsets (signatureOf (now (now (table .entry)))) (now (now (s .entry))) (now (ps .exit)) (r .left)
-        (leftAt (now (now (table .entry))) (now (now (s .entry))) (now (ps .entry)) n (now (now (t .entry))) (now (qs .entry)) m .left)
+        (leftAt (now (now (table .entry))) (now (now (s .entry))) (now (ps .entry)) n (now (now (t .entry)))
+        (now (qs .entry)) m .left)
         ⌝ }
     ensures { λ r. ⌜
         Offsets (signatureOf (now (now (table .entry)))) (now (now (t .entry))) (now (qs .exit)) (r .right)
-        (leftAt (now (now (table .entry))) (now (now (s .entry))) (now (ps .entry)) n (now (now (t .entry))) (now (qs .entry)) m .right)
+        (leftAt (now (now (table .entry))) (now (now (s .entry))) (now (ps .entry)) n (now (now (t .entry)))
+        (now (qs .entry)) m .right)
         ⌝ }
 {
     let mut k = 0;

@@ -11,7 +11,7 @@ ghost use lib.ListN.{length, getD};
 ghost use Rattle.symbols.specs.Table.{signatureOf};
 ghost use Rattle.equivalence.specs.Parts.{elementsAt, Stands};
 ghost use Rattle.equivalence.specs.Keys.{Sides};
-ghost use Rattle.equivalence.specs.Offsets.{Offsets, First, alikeAt, rowsAlike, elementsAlike, termsAt};
+ghost use Rattle.equivalence.specs.Offsets.{OffsetsIn, First, alikeAt, rowsAlike, elementsAlike, termsAt};
 
 // Are the terms at i and j AC-equivalent?
 pub fn equivalent(
@@ -50,7 +50,10 @@ fn rows_equivalent(
     n: usize,
 ) -> bool
     requires { ⌜ Sides (now (now table)) (now (now s)) (now sk) (now (now t)) (now tk) ⌝ }
-    requires { ⌜ Stands (signatureOf (now (now table))) (now (now s)) i n × Stands (signatureOf (now (now table))) (now (now t)) j n ⌝ }
+    requires { ⌜
+        Stands (signatureOf (now (now table))) (now (now s)) i n
+        × Stands (signatureOf (now (now table))) (now (now t)) j n
+        ⌝ }
     ensures { λ r. ⌜ r ≡ rowsAlike (now (now (table .entry))) (now (now (s .entry))) i (now (now (t .entry))) j n ⌝ }
 {
     if n == 0 {
@@ -84,7 +87,10 @@ fn flattenings_equivalent(
     n: usize,
 ) -> bool
     requires { ⌜ Sides (now (now table)) (now (now s)) (now sk) (now (now t)) (now tk) ⌝ }
-    requires { ⌜ Stands (signatureOf (now (now table))) (now (now s)) i n × Stands (signatureOf (now (now table))) (now (now t)) j n ⌝ }
+    requires { ⌜
+        Stands (signatureOf (now (now table))) (now (now s)) i n
+        × Stands (signatureOf (now (now table))) (now (now t)) j n
+        ⌝ }
     requires { ⌜ (f < 256) × (length (elementsAt (signatureOf (now (now table))) f (now (now t)) j n) ≤ 64) ⌝ }
     ensures { λ r. ⌜
         r
@@ -113,7 +119,7 @@ fn cancels(
     requires { ⌜ Sides (now (now table)) (now (now s)) (now sk) (now (now t)) (now tk) ⌝ }
     requires { ⌜ Stands (signatureOf (now (now table))) (now (now s)) i n ⌝ }
     requires { ⌜ f < 256 ⌝ }
-    requires { ⌜ Offsets (signatureOf (now (now table))) (now (now t)) (now offsets) m (termsAt (now (now table)) (now (now t)) (now offsets) m) ⌝ }
+    requires { ⌜ OffsetsIn (now (now table)) (now (now t)) (now offsets) m ⌝ }
     ensures { λ r. ⌜
         r
         ≡ elementsAlike (now (now (table .entry))) f (now (now (s .entry))) i n
@@ -154,10 +160,10 @@ pub fn partner(
 ) -> usize
     requires { ⌜ Sides (now (now table)) (now (now s)) (now sk) (now (now t)) (now tk) ⌝ }
     requires { ⌜ i < length (now (now s)) ⌝ }
-    requires { ⌜ Offsets (signatureOf (now (now table))) (now (now t)) (now offsets) m (termsAt (now (now table)) (now (now t)) (now offsets) m) ⌝ }
+    requires { ⌜ OffsetsIn (now (now table)) (now (now t)) (now offsets) m ⌝ }
     ensures { λ r. ⌜
-        First (λ (k : ℕ). alikeAt (now (now (table .entry))) (now (now (s .entry))) i (now (now (t .entry))) (getD (now (offsets .entry)) k 0))
-        m r
+        First (λ (k : ℕ). alikeAt (now (now (table .entry))) (now (now (s .entry))) i (now (now (t .entry)))
+        (getD (now (offsets .entry)) k 0)) m r
         ⌝ }
 {
     let key = sk[i];

@@ -64,7 +64,9 @@ struct Gathered {
 fn gather(ac: bool, f: u16, words: &[u16], keys: &[u64; 128], i: usize, n: usize) -> Gathered
     requires { ⌜ (i + 256 * n < 2 ^ 64) × (length (now keys) ≡ 128) ⌝ }
     ensures { λ r. ⌜ r .end ≡ offsetAfter (now (keys .entry)) i n ⌝ }
-    ensures { λ r. ⌜ (r .hash ≡ hashAfter ac f (now (words .entry)) (now (keys .entry)) 0 i n) × (r .hash < 4294967296) ⌝ }
+    ensures { λ r. ⌜
+        (r .hash ≡ hashAfter ac f (now (words .entry)) (now (keys .entry)) 0 i n) × (r .hash < 4294967296)
+        ⌝ }
 {
     let mut at = i;
     let mut left = n;

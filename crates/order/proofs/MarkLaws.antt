@@ -33,8 +33,8 @@ module _ (σ : Signature) (s t : Term) where
   decreasing = decreasingMark σ (isEquivalent σ) (isGreater σ) s t
 
   whole : mark σ s t
-      ≡ byMark (byNone (noneOftener variableCount s t) (weight σ s) (weight σ t) (root σ s t)) (noneOftener variableCount s t)
-      (weight σ s) (weight σ t) (isEquivalent σ s t)
+      ≡ byMark (byNone (noneOftener variableCount s t) (weight σ s) (weight σ t) (root σ s t))
+      (noneOftener variableCount s t) (weight σ s) (weight σ t) (isEquivalent σ s t)
   unfolding mark decreasingMark
   whole = refl
 

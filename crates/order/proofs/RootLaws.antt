@@ -110,7 +110,8 @@ module _ (table s : List ℕ) (i : ℕ) (t : List ℕ) (j : ℕ) (h : i < length
       root-rows c q =
           rw (q, same, le-ltb rank rank (omega arith), eqb-self, c, row-arguments, row-arguments)
 
-    pub root-plain : symbolOf σ (getD s i 0) .ac ≡ false → cond (ltb 0 (rootAt table s i t j)) 3 0 ≡ rootAt table s i t j
+    pub root-plain : symbolOf σ (getD s i 0) .ac ≡ false →
+        cond (ltb 0 (rootAt table s i t j)) 3 0 ≡ rootAt table s i t j
     root-plain c =
         byOrder (getD s i 0) 256
         (λ v. byTest (rowsGreater table s (i + 1) t (j + 1) (symbolOf σ (getD s i 0) .arity))

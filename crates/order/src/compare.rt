@@ -15,7 +15,7 @@ ghost use Prim.Native.Nat.{_≤_, _<_};
 ghost use lib.ListN.{length};
 ghost use Rattle.symbols.specs.Table.{signatureOf};
 ghost use Rattle.equivalence.specs.Parts.{elementsAt, Stands};
-ghost use Rattle.equivalence.specs.Offsets.{Offsets, termsAt};
+ghost use Rattle.equivalence.specs.Offsets.{OffsetsIn, termsAt};
 ghost use Rattle.order.specs.Compared.{Scales, noneOftenerAt, isHigher, greaterAt, rowsGreater};
 ghost use Rattle.order.specs.Compared.{flattenedAt, covered, verdict};
 
@@ -116,7 +116,10 @@ fn rows_greater(
     n: usize,
 ) -> bool
     requires { ⌜ Scales (now (now table)) (now (now s)) (now sk) (now sw) (now (now t)) (now tk) (now tw) ⌝ }
-    requires { ⌜ Stands (signatureOf (now (now table))) (now (now s)) i n × Stands (signatureOf (now (now table))) (now (now t)) j n ⌝ }
+    requires { ⌜
+        Stands (signatureOf (now (now table))) (now (now s)) i n
+        × Stands (signatureOf (now (now table))) (now (now t)) j n
+        ⌝ }
     ensures { λ r. ⌜ r ≡ rowsGreater (now (now (table .entry))) (now (now (s .entry))) i (now (now (t .entry))) j n ⌝ }
 {
     let mut at = i;
@@ -149,12 +152,17 @@ pub fn flattened(
     n: usize,
 ) -> u8
     requires { ⌜ Scales (now (now table)) (now (now s)) (now sk) (now sw) (now (now t)) (now tk) (now tw) ⌝ }
-    requires { ⌜ Stands (signatureOf (now (now table))) (now (now s)) i n × Stands (signatureOf (now (now table))) (now (now t)) j n ⌝ }
+    requires { ⌜
+        Stands (signatureOf (now (now table))) (now (now s)) i n
+        × Stands (signatureOf (now (now table))) (now (now t)) j n
+        ⌝ }
     requires { ⌜
         (f < 256) × (length (elementsAt (signatureOf (now (now table))) f (now (now s)) i n) ≤ 64)
         × (length (elementsAt (signatureOf (now (now table))) f (now (now t)) j n) ≤ 64)
         ⌝ }
-    ensures { λ r. ⌜ r ≡ flattenedAt (now (now (table .entry))) f (now (now (s .entry))) i (now (now (t .entry))) j n ⌝ }
+    ensures { λ r. ⌜
+        r ≡ flattenedAt (now (now (table .entry))) f (now (now (s .entry))) i (now (now (t .entry))) j n
+        ⌝ }
 {
     let mut sh = [0u8; 64];
     let mut sl = [0u8; 64];
@@ -226,11 +234,12 @@ fn compare(
     m: usize,
 ) -> u8
     requires { ⌜ Scales (now (now table)) (now (now s)) (now sk) (now sw) (now (now t)) (now tk) (now tw) ⌝ }
-    requires { ⌜ Offsets (signatureOf (now (now table))) (now (now s)) (now ps) n (termsAt (now (now table)) (now (now s)) (now ps) n) ⌝ }
-    requires { ⌜ Offsets (signatureOf (now (now table))) (now (now t)) (now qs) m (termsAt (now (now table)) (now (now t)) (now qs) m) ⌝ }
+    requires { ⌜ OffsetsIn (now (now table)) (now (now s)) (now ps) n ⌝ }
+    requires { ⌜ OffsetsIn (now (now table)) (now (now t)) (now qs) m ⌝ }
     ensures { λ r. ⌜
         r
-        ≡ verdict (now (now (table .entry))) (termsAt (now (now (table .entry))) (now (now (s .entry))) (now (ps .entry)) n)
+        ≡ verdict (now (now (table .entry)))
+        (termsAt (now (now (table .entry))) (now (now (s .entry))) (now (ps .entry)) n)
         (termsAt (now (now (table .entry))) (now (now (t .entry))) (now (qs .entry)) m)
         ⌝ }
 {
@@ -264,11 +273,12 @@ fn covers(
     m: usize,
 ) -> bool
     requires { ⌜ Scales (now (now table)) (now (now s)) (now sk) (now sw) (now (now t)) (now tk) (now tw) ⌝ }
-    requires { ⌜ Offsets (signatureOf (now (now table))) (now (now s)) (now ps) n (termsAt (now (now table)) (now (now s)) (now ps) n) ⌝ }
-    requires { ⌜ Offsets (signatureOf (now (now table))) (now (now t)) (now qs) m (termsAt (now (now table)) (now (now t)) (now qs) m) ⌝ }
+    requires { ⌜ OffsetsIn (now (now table)) (now (now s)) (now ps) n ⌝ }
+    requires { ⌜ OffsetsIn (now (now table)) (now (now t)) (now qs) m ⌝ }
     ensures { λ r. ⌜
         r
-        ≡ covered (now (now (table .entry))) (termsAt (now (now (table .entry))) (now (now (s .entry))) (now (ps .entry)) n)
+        ≡ covered (now (now (table .entry)))
+        (termsAt (now (now (table .entry))) (now (now (s .entry))) (now (ps .entry)) n)
         (termsAt (now (now (table .entry))) (now (now (t .entry))) (now (qs .entry)) m)
         ⌝ }
 {

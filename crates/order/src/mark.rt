@@ -82,7 +82,8 @@ fn mark_prepared(table: &[u16], s: &[u16], t: &[u16]) -> u8
 fn mark_level(table: &[u16], s: &[u16], t: &[u16]) -> u8
     requires { ⌜ Whole (now table) (now s) (now t) ⌝ }
     requires { ⌜
-        (true ≡ noneOftenerAt (now table) (now s) 0 (now t) 0) × (weightAt (now table) (now s) 0 ≡ weightAt (now table) (now t) 0)
+        (true ≡ noneOftenerAt (now table) (now s) 0 (now t) 0)
+        × (weightAt (now table) (now s) 0 ≡ weightAt (now table) (now t) 0)
         ⌝ }
     ensures { λ r. ⌜
         r

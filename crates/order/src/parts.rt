@@ -11,7 +11,7 @@ ghost use Rattle.terms.specs.Term.{Term};
 ghost use Rattle.symbols.specs.Table.{signatureOf};
 ghost use Rattle.equivalence.specs.Parts.{elementsAt, Stands};
 ghost use Rattle.equivalence.specs.Keys.{Prepared, Sides};
-ghost use Rattle.equivalence.specs.Offsets.{Offsets, termsAt, leftAt};
+ghost use Rattle.equivalence.specs.Offsets.{Offsets, OffsetsIn, termsAt, leftAt};
 ghost use Rattle.order.specs.Compared.{Parted};
 
 pub struct PartCounts {
@@ -32,7 +32,7 @@ fn split(
     below: &mut [u8; 64],
     variables: &mut [u8; 64],
 ) -> PartCounts
-    requires { ⌜ Offsets (signatureOf (now table)) (now words) (now offsets) m (termsAt (now table) (now words) (now offsets) m) ⌝ }
+    requires { ⌜ OffsetsIn (now table) (now words) (now offsets) m ⌝ }
     requires { ⌜ (length (now above) ≡ 64) × (length (now below) ≡ 64) × (length (now variables) ≡ 64) ⌝ }
     ensures { λ r. ⌜
         Parted (signatureOf (now (table .entry))) f (now (words .entry))
@@ -87,7 +87,10 @@ pub fn parts(
     below: &mut [u8; 64],
     variables: &mut [u8; 64],
 ) -> PartCounts
-    requires { ⌜ Prepared (signatureOf (now (now table))) (now (now words)) (now keys) × Stands (signatureOf (now (now table))) (now (now words)) i n ⌝ }
+    requires { ⌜
+        Prepared (signatureOf (now (now table))) (now (now words)) (now keys)
+        × Stands (signatureOf (now (now table))) (now (now words)) i n
+        ⌝ }
     requires { ⌜ (f < 256) × (length (elementsAt (signatureOf (now (now table))) f (now (now words)) i n) ≤ 64) ⌝ }
     requires { ⌜ (length (now above) ≡ 64) × (length (now below) ≡ 64) × (length (now variables) ≡ 64) ⌝ }
     ensures { λ r. ⌜
@@ -104,7 +107,7 @@ pub fn parts(
 // Puts the first m of qs after the first k of ps.
 fn join(table: &[u16], t: &[u16], ps: &mut [u8; 64], k: usize, qs: &[u8; 64], m: usize)
     requires { ⌜ k + m ≤ 64 ⌝ }
-    requires { ⌜ Offsets (signatureOf (now table)) (now t) (now qs) m (termsAt (now table) (now t) (now qs) m) ⌝ }
+    requires { ⌜ OffsetsIn (now table) (now t) (now qs) m ⌝ }
     ensures { λ r. ⌜ ((l : List Term) →
         Offsets (signatureOf (now (table .entry))) (now (t .entry)) (now (ps .entry)) k l →
         Offsets (signatureOf (now (table .entry))) (now (t .entry)) (now (ps .exit)) (k + m)
@@ -132,14 +135,15 @@ pub fn join_surplus(
     k: usize,
 ) -> usize
     requires { ⌜ Sides (now (now table)) (now (now s)) (now sk) (now (now t)) (now tk) ⌝ }
-    requires { ⌜ Offsets (signatureOf (now (now table))) (now (now s)) (now sv) a (termsAt (now (now table)) (now (now s)) (now sv) a) ⌝ }
-    requires { ⌜ Offsets (signatureOf (now (now table))) (now (now t)) (now tv) b (termsAt (now (now table)) (now (now t)) (now tv) b) ⌝ }
-    requires { ⌜ Offsets (signatureOf (now (now table))) (now (now t)) (now th) k (termsAt (now (now table)) (now (now t)) (now th) k) ⌝ }
+    requires { ⌜ OffsetsIn (now (now table)) (now (now s)) (now sv) a ⌝ }
+    requires { ⌜ OffsetsIn (now (now table)) (now (now t)) (now tv) b ⌝ }
+    requires { ⌜ OffsetsIn (now (now table)) (now (now t)) (now th) k ⌝ }
     requires { ⌜ k + b ≤ 64 ⌝ }
     ensures { λ r. ⌜
         Offsets (signatureOf (now (now (table .entry)))) (now (now (t .entry))) (now (th .exit)) r
         (termsAt (now (now (table .entry))) (now (now (t .entry))) (now (th .entry)) k
-        ++ leftAt (now (now (table .entry))) (now (now (s .entry))) (now (sv .entry)) a (now (now (t .entry))) (now (tv .entry)) b .right)
+        ++ leftAt (now (now (table .entry))) (now (now (s .entry))) (now (sv .entry)) a (now (now (t .entry)))
+        (now (tv .entry)) b .right)
         ⌝ }
 {
     let rest = cancel(table, s, sk, sv, a, t, tk, tv, b);

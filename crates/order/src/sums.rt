@@ -129,8 +129,8 @@ pub fn sum_at(
     sums[129 * kind + i] - sums[129 * kind + end]
 }
 
-// Is each of the eight digits of `right` at most that of `left`? Four at a time, each with 8 bits of room: 256 more than
-// the left digit, less the right one, has its ninth bit if the left digit is not less.
+// Is each of the eight digits of `right` at most that of `left`? Four at a time, with 8 bits of room above each: 256
+// more than the left digit, less the right one, has a ninth bit unless the left digit is less.
 pub fn digits_within(left: u64, right: u64) -> bool
     ensures { λ r. ⌜ r ≡ digitsWithin 8 left right ⌝ }
 {

@@ -9,8 +9,8 @@ use Rattle.equivalence.proofs.flatten.elements.Statement.{statement}
 use Rattle.equivalence.proofs.flatten.elements.Tie as tie
 
 abbrev Inv-loop : tie.InvT-loop
-Inv-loop table f words keys i n offsets₀ inner at₀ owed₀ k₀ offsets at owed k = Listing (table .now) f (words .now) i n offsets at
-    owed k
+Inv-loop table f words keys i n offsets₀ inner at₀ owed₀ k₀ offsets at owed k =
+    Listing (table .now) f (words .now) i n offsets at owed k
 
 abbrev μ-loop : tie.MeasureT-loop
 μ-loop table f words keys i n offsets₀ inner at₀ owed₀ k₀ offsets at owed k = length (words .now) - at

@@ -21,7 +21,8 @@ prepare-requires-2 c κs =
 
 equivalent-requires : tie.Need-equivalent-requires
 equivalent-requires c κs =
-    let S = c .before .before .before .before .before .before .before .before .before .before .before .before .pre .0 in (
+    let S = c .before .before .before .before .before .before .before .before .before .before .before .before .pre .0
+    in (
       whole-sides S (c .before .before .before .before .before .before .before .prepare .ensures)
           (c .before .before .before .before .before .prepare2 .ensures),
       (left-some S, right-some S),

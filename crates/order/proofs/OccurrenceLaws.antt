@@ -1,10 +1,12 @@
 -- Occurrences of eight variables as digits of one number: comparing digits compares occurrences.
 --     none-oftener-of, oftener-low, -high  the test of all sixteen variables
+--     few-ground, few-low, few-both        that test, by the sums at two offsets
 use mathlib.Core.List.{List}
 use mathlib.Core.Path.{_≡_, refl, sym, _∙_}
 use mathlib.Core.Bool.{Bool, true, false, cond, false≢true, and-eq-true-iff as both}
 use Prim.Native.Nat.{ℕ, suc, zero, _+_, _-_, _*_, _/_, _%_, _≤_, _<_}
 use native.Mathlib.Omega.{arith}
+use lib.Bits.{bitOr, or-add-and, and-le-l, and-le-r}
 use lib.Dec.{eqb, leb}
 use lib.ListN.{length}
 use borrow.Author.Tests.{leb-true, le-leb}
@@ -20,6 +22,12 @@ use Rattle.equivalence.specs.Parts.{partAt}
 use Rattle.equivalence.specs.Keys.{Prepared}
 use Rattle.equivalence.proofs.StepLaws.{part-small}
 use Rattle.order.specs.Sums.{digit, digitsWithin, termSum}
+
+within-zero : (n a b : ℕ) → b ≡ 0 → digitsWithin n a b ≡ true
+unfolding digitsWithin
+within-zero zero a b e = refl
+within-zero (suc n) a b e =
+    rw (le-leb (b % 256) (a % 256) (omega arith), within-zero n (a / 256) (b / 256) (omega arith))
 
 -- ---- digits are occurrences
 
@@ -109,6 +117,16 @@ module _ (table : List ℕ) {s sk t tk : List ℕ} (P : Prepared (signatureOf ta
 
   small-right : size (partAt σ t j) < 256
   small-right = omega (arith, part-small σ t (Q .complete) j k, Q .short)
+
+  -- A term without variables.
+  pub few-ground : {b b' : ℕ} → b ≡ termSum σ 1 (partAt σ t j) → b' ≡ termSum σ 2 (partAt σ t j) → bitOr b b' ≡ 0 →
+      true ≡ noneOftener variableCount (partAt σ s i) (partAt σ t j)
+  few-ground {b} {b'} d e z =
+      let p : termSum σ 1 (partAt σ t j) ≡ 0 = omega (arith, d, z, or-add-and b b', and-le-r b b') in
+      let q : termSum σ 2 (partAt σ t j) ≡ 0 = omega (arith, e, z, or-add-and b b', and-le-l b b') in
+      none-oftener-of (partAt σ s i) (partAt σ t j) small-left small-right
+      (within-zero 8 (termSum σ 1 (partAt σ s i)) (termSum σ 1 (partAt σ t j)) p)
+      (within-zero 8 (termSum σ 2 (partAt σ s i)) (termSum σ 2 (partAt σ t j)) q)
 
   module _ {a b : ℕ} (d : a ≡ termSum σ 1 (partAt σ s i)) (e : b ≡ termSum σ 1 (partAt σ t j)) where
     pub few-low : digitsWithin 8 a b ≡ false → false ≡ noneOftener variableCount (partAt σ s i) (partAt σ t j)

@@ -35,10 +35,13 @@ pub fn none_oftener(
     requires { ⌜ (i < length (now (now s))) × (j < length (now (now t))) ⌝ }
     ensures { λ r. ⌜ r ≡ noneOftenerAt (now (now (table .entry))) (now (now (s .entry))) i (now (now (t .entry))) j ⌝ }
 {
-    let a = sum_at(*table, 1, *s, sk, sw, i);
     let b = sum_at(*table, 1, *t, tk, tw, j);
-    let c = sum_at(*table, 2, *s, sk, sw, i);
     let d = sum_at(*table, 2, *t, tk, tw, j);
+    if b | d == 0 {
+        return true;
+    }
+    let a = sum_at(*table, 1, *s, sk, sw, i);
+    let c = sum_at(*table, 2, *s, sk, sw, i);
     let low = digits_within(a, b);
     let high = digits_within(c, d);
     if low { high } else { false }

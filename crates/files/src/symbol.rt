@@ -1,10 +1,8 @@
 // Reading the symbols of a file from its words.
 ghost use mathlib.Core.Path.{_≡_};
 ghost use mathlib.Core.List.{List, []};
-ghost use mathlib.Core.Bool.{_||_};
-ghost use lib.Dec.{eqb};
 ghost use lib.ListN.{drop};
-ghost use Rattle.terms.specs.Signature.{Symbol, leastWeight};
+ghost use Rattle.terms.specs.Signature.{Symbol};
 ghost use Rattle.format.specs.Reading.{wordSource};
 ghost use Rattle.format.specs.Format.{symbolReader, symbolsReader};
 ghost use Rattle.symbols.specs.Table.{symbolsAt};
@@ -18,26 +16,6 @@ use words::cursor::WordReading;
 pub enum SymbolReading {
     Got(u16, WordCursor),
     Fault(u8, usize),
-}
-
-// Whether a symbol that is AC has two arguments.
-fn binary_if_ac(arity: u16, ac: u16) -> bool
-    ensures { λ r. ⌜ r ≡ (eqb ac 0 || eqb arity 2) ⌝ }
-{
-    if ac == 0 { true } else { arity == 2 }
-}
-
-// The least weight of a symbol of that arity.
-fn least_weight(w0: u16, arity: u16) -> u16
-    ensures { λ r. ⌜ r ≡ leastWeight w0 arity ⌝ }
-{
-    if arity == 0 {
-        w0
-    } else if arity == 1 {
-        1
-    } else {
-        0
-    }
 }
 
 // Reads a symbol, whose rank is none of those taken.
@@ -56,14 +34,14 @@ fn symbol(words: &[u16], c: WordCursor, w0: u16, taken: &[bool; 256]) -> SymbolR
         WordReading::Got(word) => word,
         WordReading::Fault(code, offset) => return SymbolReading::Fault(code, offset),
     };
-    if !binary_if_ac(arity.value, ac.value) {
+    if !symbols::binary_if_ac(arity.value, ac.value) {
         return SymbolReading::Fault(6, c.at);
     }
     let weight = match ac.next.below(words, 65536) {
         WordReading::Got(word) => word,
         WordReading::Fault(code, offset) => return SymbolReading::Fault(code, offset),
     };
-    if weight.value < least_weight(w0, arity.value) {
+    if weight.value < symbols::least_weight(w0, arity.value) {
         return SymbolReading::Fault(7, ac.next.at);
     }
     let rank = match weight.next.below(words, 256) {

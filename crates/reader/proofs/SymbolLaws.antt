@@ -1,5 +1,4 @@
 -- Tests of a symbol's entry, its words in the table, and the marks of the ranks.
---     least-zero, least-one, least-more    the weight's test by the arity
 --     getD-put-before, symbols-put         the table with one entry more
 --     taken-none, taken-put                the marks before the first symbol, and with one rank more
 --     symbol-fault, symbol-past            reading some symbols by reading one
@@ -13,30 +12,16 @@ use native.Mathlib.Numerals.{add-one}
 use native.Mathlib.Omega.{arith}
 use lib.ListN.{length, getD, set, length-set, replicate, getD-replicate}
 use lib.Seq.{getD-set-same, getD-set-other}
-use lib.Dec.{leb, eqb, lit<}
-use borrow.Author.Tests.{le-leb, eqb-true, eqb-false}
+use lib.Dec.{eqb, lit<}
+use borrow.Author.Tests.{eqb-true, eqb-false}
 use Rattle.multisets.proofs.Relations.{byTest}
-use Rattle.terms.specs.Signature.{Symbol, leastWeight}
+use Rattle.terms.specs.Signature.{Symbol}
 use Rattle.format.specs.Reading.{Reading, Source}
 use Rattle.format.specs.Reading.Reading.{got, fault}
 use Rattle.format.specs.Format.{heldBy, symbolReader, symbolsReader}
 use Rattle.symbols.specs.Table.{symbolAt, symbolsAt}
 use Rattle.reader.specs.declared.symbol.Step.{Step}
 use Rattle.reader.specs.Symbol.{onward, TakenBy}
-
--- ---- the weight
-
-module _ (w0 arity weight : ℕ) where
-  pub least-zero : arity ≡ 0 → leb w0 weight ≡ leb (leastWeight w0 arity) weight
-  least-zero e = rw e
-
-  pub least-one : arity ≡ 1 → leb 1 weight ≡ leb (leastWeight w0 arity) weight
-  least-one e = rw e
-
-pub least-more : (w0 arity weight : ℕ) → 1 < arity → true ≡ leb (leastWeight w0 arity) weight
-least-more w0 zero weight h = absurd (omega arith)
-least-more w0 (suc zero) weight h = absurd (omega arith)
-least-more w0 (suc (suc n)) weight h = sym (le-leb 0 weight (omega arith))
 
 -- ---- the table
 

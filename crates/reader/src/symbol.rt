@@ -1,11 +1,9 @@
 // The symbol table of a packed file: a symbol's entry, and all of them into a table.
 ghost use mathlib.Core.Path.{_≡_};
 ghost use mathlib.Core.List.{List, []};
-ghost use mathlib.Core.Bool.{_||_};
 ghost use Prim.Native.Nat.{ℕ, suc, _+_, _*_, _<_, _≤_};
 ghost use lib.ListN.{length, getD};
-ghost use lib.Dec.{eqb, leb};
-ghost use Rattle.terms.specs.Signature.{Symbol, leastWeight};
+ghost use Rattle.terms.specs.Signature.{Symbol};
 ghost use Rattle.format.specs.Layout.{maxBytes};
 ghost use Rattle.format.specs.Reading.{bitSource, give};
 ghost use Rattle.format.specs.Format.{symbolReader, symbolsReader};
@@ -26,26 +24,6 @@ pub enum Step {
     Fault(u8, usize),
 }
 
-// Whether a symbol of that arity may have that AC mark.
-fn ac_allowed(arity: u16, ac: u16) -> bool
-    ensures { λ r. ⌜ r ≡ (eqb ac 0 || eqb arity 2) ⌝ }
-{
-    if ac == 0 { true } else { arity == 2 }
-}
-
-// Whether a symbol of that arity weighs enough.
-fn weighs_enough(w0: u16, arity: u16, weight: u16) -> bool
-    ensures { λ r. ⌜ r ≡ leb (leastWeight w0 arity) weight ⌝ }
-{
-    if arity == 0 {
-        w0 <= weight
-    } else if arity == 1 {
-        1 <= weight
-    } else {
-        true
-    }
-}
-
 // The symbol here, after symbols whose ranks are taken.
 fn read_symbol(book: &[u8], w0: u16, taken: &[bool], cursor: BitCursor) -> Entry
     requires { ⌜ (length (now book) ≤ maxBytes) × (length (now taken) ≡ 256) ⌝ }
@@ -62,13 +40,13 @@ fn read_symbol(book: &[u8], w0: u16, taken: &[bool], cursor: BitCursor) -> Entry
     let Field::Got(ac, weight_cursor) = ac_cursor.field(book, 1) else {
         return Entry::Fault(2, ac_cursor.at);
     };
-    if !ac_allowed(arity, ac) {
+    if !symbols::binary_if_ac(arity, ac) {
         return Entry::Fault(6, cursor.at);
     }
     let Field::Got(weight, rank_cursor) = weight_cursor.field(book, 16) else {
         return Entry::Fault(2, weight_cursor.at);
     };
-    if !weighs_enough(w0, arity, weight) {
+    if weight < symbols::least_weight(w0, arity) {
         return Entry::Fault(7, weight_cursor.at);
     }
     let Field::Got(rank, next) = rank_cursor.field(book, 8) else {

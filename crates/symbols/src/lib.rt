@@ -1,9 +1,10 @@
 // The decoded symbol table: access to a symbol by its number. Only these functions know how the words lie.
 ghost use mathlib.Core.Path.{_≡_};
+ghost use mathlib.Core.Bool.{_||_};
 ghost use Prim.Native.Nat.{_+_, _*_, _^_, _≤_, _<_};
-ghost use lib.Dec.{ltb};
+ghost use lib.Dec.{eqb, ltb};
 ghost use lib.ListN.{length, getD};
-ghost use Rattle.terms.specs.Signature.{symbolOf};
+ghost use Rattle.terms.specs.Signature.{symbolOf, leastWeight};
 ghost use Rattle.symbols.specs.Table.{signatureOf};
 ghost use Rattle.symbols.specs.Arities.{cellOf, Arities, Between};
 
@@ -57,6 +58,26 @@ pub fn variable_weight(table: &[u16]) -> u64
     ensures { λ r. ⌜ (r ≡ signatureOf (now (table .entry)) .w0) × (r < 65536) ⌝ }
 {
     long(word_at(table, 0))
+}
+
+// Whether a symbol that is AC has two arguments.
+pub fn binary_if_ac(arity: u16, ac: u16) -> bool
+    ensures { λ r. ⌜ r ≡ (eqb ac 0 || eqb arity 2) ⌝ }
+{
+    if ac == 0 { true } else { arity == 2 }
+}
+
+// The least weight of a symbol of that arity.
+pub fn least_weight(w0: u16, arity: u16) -> u16
+    ensures { λ r. ⌜ r ≡ leastWeight w0 arity ⌝ }
+{
+    if arity == 0 {
+        w0
+    } else if arity == 1 {
+        1
+    } else {
+        0
+    }
 }
 
 // Whether the table has a symbol of that number.

@@ -1,7 +1,7 @@
 use mathlib.Core.Path.{_≡_}
 use mathlib.Core.Bool.{true, false}
 use lib.ListN.{getD}
-use borrow.Author.Tests.{not-true, not-false}
+use borrow.Author.Tests.{not-true, not-false, le-leb, lt-leb}
 use native.Mathlib.Omega.{arith}
 use mathlib.Core.Path.{sym, ap, _∙_}
 use Rattle.format.specs.Format.{symbolReader}
@@ -49,8 +49,8 @@ returns-2 c = (
   tt,
 )
 
-ac-allowed-requires : tie.Need-ac-allowed-requires
-ac-allowed-requires c κs = search needs
+binary-if-ac-requires : tie.Need-binary-if-ac-requires
+binary-if-ac-requires c κs = search needs
 
 returns-3 : tie.Need-returns-3
 unfolding symbolReader
@@ -61,7 +61,7 @@ returns-3 c = (
             (fieldReading _) (c .before .before .before .before .before .before .before .arity .given .1),
         sym (c .before .before .before .before .before .field2 .ensures) ∙ ap (fieldReading _) (c .before .before
             .before .ac .given .1),
-        sym (c .before .ac-allowed .ensures) ∙ not-true _ (c .if1 .taken),
+        sym (c .before .binary-if-ac .ensures) ∙ not-true _ (c .if1 .taken),
       )),
   tt,
 )
@@ -85,15 +85,15 @@ returns-4 c = (
             .before .arity .given .1),
         sym (c .before .before .before .before .before .before .before .before .field2 .ensures) ∙ ap (fieldReading _)
             (c .before .before .before .before .before .before .ac .given .1),
-        sym (c .before .before .before .before .ac-allowed .ensures) ∙ not-false _ (c .before .before .before .if1
+        sym (c .before .before .before .before .binary-if-ac .ensures) ∙ not-false _ (c .before .before .before .if1
             .left),
         sym (c .before .before .field3 .ensures) ∙ ap (fieldReading _) (c .enum-told3 .given .1),
       )),
   tt,
 )
 
-weighs-enough-requires : tie.Need-weighs-enough-requires
-weighs-enough-requires c κs = search needs
+least-weight-requires : tie.Need-least-weight-requires
+least-weight-requires c κs = search needs
 
 returns-5 : tie.Need-returns-5
 unfolding symbolReader
@@ -106,11 +106,11 @@ returns-5 c = (
         sym (c .before .before .before .before .before .before .before .before .before .before .before .field2 .ensures)
             ∙ ap (fieldReading _) (c .before .before .before .before .before .before .before .before .before .ac
             .given .1),
-        sym (c .before .before .before .before .before .before .before .ac-allowed .ensures) ∙ not-false _ (c .before
+        sym (c .before .before .before .before .before .before .before .binary-if-ac .ensures) ∙ not-false _ (c .before
             .before .before .before .before .before .if1 .left),
         sym (c .before .before .before .before .before .field3 .ensures) ∙ ap (fieldReading _) (c .before .before
             .before .weight .given .1),
-        sym (c .before .weighs-enough .ensures) ∙ not-true _ (c .if2 .taken),
+        lt-leb _ _ (rw (c .before .least-weight .ensures) at (c .if2 .taken)),
       )),
   tt,
 )
@@ -137,12 +137,12 @@ returns-6 c = (
         sym (c .before .before .before .before .before .before .before .before .before .before .before .before .before
             .before .field2 .ensures) ∙ ap (fieldReading _) (c .before .before .before .before .before .before .before
             .before .before .before .before .before .ac .given .1),
-        sym (c .before .before .before .before .before .before .before .before .before .before .ac-allowed .ensures) ∙
+        sym (c .before .before .before .before .before .before .before .before .before .before .binary-if-ac .ensures) ∙
             not-false _ (c .before .before .before .before .before .before .before .before .before .if1 .left),
         sym (c .before .before .before .before .before .before .before .before .field3 .ensures) ∙ ap (fieldReading _)
             (c .before .before .before .before .before .before .weight .given .1),
-        sym (c .before .before .before .before .weighs-enough .ensures) ∙ not-false _ (c .before .before .before .if2
-            .left),
+        le-leb _ _ (rw (c .before .before .before .before .least-weight .ensures) at (c .before .before .before .if2
+            .left)),
         sym (c .before .before .field4 .ensures) ∙ ap (fieldReading _) (c .enum-told4 .given .1),
       )),
   tt,
@@ -184,14 +184,14 @@ returns-7 c = (
             .before .before .before .before .before .before .before .before .before .before .before .before .before .ac
             .given .1),
         sym (c .before .before .before .before .before .before .before .before .before .before .before .before .before
-            .before .ac-allowed .ensures) ∙ not-false _ (c .before .before .before .before .before .before
+            .before .binary-if-ac .ensures) ∙ not-false _ (c .before .before .before .before .before .before
             .before .before
             .before .before .before .before .before .if1 .left),
         sym (c .before .before .before .before .before .before .before .before .before .before .before .before .field3
             .ensures) ∙ ap (fieldReading _) (c .before .before .before .before .before .before .before .before .before
             .before .weight .given .1),
-        sym (c .before .before .before .before .before .before .before .before .weighs-enough .ensures) ∙ not-false _ (c
-            .before .before .before .before .before .before .before .if2 .left),
+        le-leb _ _ (rw (c .before .before .before .before .before .before .before .before .least-weight .ensures) at (c
+            .before .before .before .before .before .before .before .if2 .left)),
         sym (c .before .before .before .before .before .before .field4 .ensures) ∙ ap (fieldReading _) (c .before
             .before .before .before .rank .given .1),
         sym (h (c .before .before .before .before .rank .given .0 .0) (omega (
@@ -225,14 +225,14 @@ returns-8 c = (
             .before .before .before .before .before .before .before .before .before .before .before .before .before .ac
             .given .1),
         sym (c .before .before .before .before .before .before .before .before .before .before .before .before .before
-            .before .ac-allowed .ensures) ∙ not-false _ (c .before .before .before .before .before .before
+            .before .binary-if-ac .ensures) ∙ not-false _ (c .before .before .before .before .before .before
             .before .before
             .before .before .before .before .before .if1 .left),
         sym (c .before .before .before .before .before .before .before .before .before .before .before .before .field3
             .ensures) ∙ ap (fieldReading _) (c .before .before .before .before .before .before .before .before .before
             .before .weight .given .1),
-        sym (c .before .before .before .before .before .before .before .before .weighs-enough .ensures) ∙ not-false _ (c
-            .before .before .before .before .before .before .before .if2 .left),
+        le-leb _ _ (rw (c .before .before .before .before .before .before .before .before .least-weight .ensures) at (c
+            .before .before .before .before .before .before .before .if2 .left)),
         sym (c .before .before .before .before .before .before .field4 .ensures) ∙ ap (fieldReading _) (c .before
             .before .before .before .rank .given .1),
         sym (h (c .before .before .before .before .rank .given .0 .0) (omega (
@@ -266,13 +266,13 @@ read-symbol-spec =
     enum-known-ac
     enum-told-2
     returns-2
-    ac-allowed-requires
+    binary-if-ac-requires
     returns-3
     field-requires-3
     enum-known-weight
     enum-told-3
     returns-4
-    weighs-enough-requires
+    least-weight-requires
     returns-5
     field-requires-4
     enum-known-rank

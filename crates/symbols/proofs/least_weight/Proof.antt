@@ -2,8 +2,8 @@ use native.Mathlib.Omega.{arith}
 use mathlib.Core.Path.{_≡_}
 use Prim.Native.Nat.{suc, _-_}
 use borrow.Author.Needs.{needs}
-use Rattle.files.proofs.symbol.least_weight.Statement.{statement}
-use Rattle.files.proofs.symbol.least_weight.Tie as tie
+use Rattle.symbols.proofs.least_weight.Statement.{statement}
+use Rattle.symbols.proofs.least_weight.Tie as tie
 
 returns : tie.Need-returns
 returns c = search needs

@@ -1,6 +1,6 @@
 use borrow.Author.Tests.{eq-eqb, ne-eqb}
-use Rattle.files.proofs.symbol.binary_if_ac.Statement.{statement}
-use Rattle.files.proofs.symbol.binary_if_ac.Tie as tie
+use Rattle.symbols.proofs.binary_if_ac.Statement.{statement}
+use Rattle.symbols.proofs.binary_if_ac.Tie as tie
 
 returns : tie.Need-returns
 returns c = rw (eq-eqb (c .before .args .ac) 0 (c .if1 .taken))

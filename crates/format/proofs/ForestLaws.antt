@@ -1,15 +1,12 @@
 -- Laws of `forestReader`, over any source and signature.
 --     nothing-owed, none-allowed                               its ends
 --     node-fault, unknown-symbol, variable-read, symbol-read   its step, by what the source gives as a node
---     forest-add                                               m + n terms are m terms and then n terms
---     one-fault, one-unknown, one-variable, one-symbol         one term: a node, then its arguments
---     row-more                                                 some terms: one, then the others
---     forest-short, forest-long                                how many nodes were read
+--     forest-short                                             how many nodes were read
 use mathlib.Core.Path.{_≡_, refl, sym, ap, _∙_}
-use mathlib.Core.List.{List, [], _∷_, _++_}
+use mathlib.Core.List.{List, [], _∷_}
 use mathlib.Core.Bool.{Bool, true, false, cond, _||_}
 use Prim.Native.Nat.{ℕ, suc, zero, _+_, _-_, _≤_, _<_}
-use native.Mathlib.Nat.{zero-add, suc-add, add-zero, add-assoc, sub-zero}
+use native.Mathlib.Nat.{zero-add}
 use native.Mathlib.Omega.{arith}
 use lib.ListN.{length}
 use lib.Dec.{ltb, leb}
@@ -21,7 +18,7 @@ use Rattle.format.specs.Errors.{noSuchSymbol, tooManyNodes}
 use Rattle.format.specs.Reading.{Reading, Reader, andThen, give, require, Node, Source}
 use Rattle.format.specs.Reading.Reading.{got, fault}
 use Rattle.format.specs.Format.{forestReader}
-use Rattle.format.proofs.ReadingLaws.{andThen-give, andThen-assoc, andThen-same}
+use Rattle.format.proofs.ReadingLaws.{andThen-same}
 
 -- How many terms a node calls for.
 abbrev pub argumentCount : Signature → ℕ → ℕ
@@ -35,25 +32,14 @@ known σ w = leb firstVariable w || ltb w (length (σ .symbols))
 abbrev pub before : ℕ → Reading (List ℕ) → Reading (List ℕ)
 before w r = andThen r (λ ws. give (w ∷ ws))
 
--- The words of a second reading after those of the first.
-abbrev pub following : Reading (List ℕ) → (List ℕ → Reader (List ℕ)) → Reading (List ℕ)
-following r next = andThen r (λ xs at. andThen (next xs at) (λ ys. give (xs ++ ys)))
+-- No more than that many words.
+abbrev Within : ℕ → Reading (List ℕ) → Type 0
+Within a (got xs at) = length xs ≤ a
+Within a (fault code offset) = Unit {0}
 
-before-following : (w a : ℕ) (r : Reading (List ℕ)) (rest : ℕ → Reader (List ℕ)) →
-    before w (following r (λ xs. rest (a - length xs))) ≡ following (before w r) (λ xs. rest (suc a - length xs))
-before-following w a (got xs at) rest =
-    let e : suc a - suc (length xs) ≡ a - length xs = omega arith in
-    rw e (andThen-assoc (rest (a - length xs) at) (λ ys. give (xs ++ ys)) (λ ws. give (w ∷ ws)))
-before-following w a (fault code offset) rest = refl
-
--- No more than that many words, and no fewer than that.
-abbrev Between : ℕ → ℕ → Reading (List ℕ) → Type 0
-Between n a (got xs at) = (length xs ≤ a) × (n ≤ length xs)
-Between n a (fault code offset) = Unit {0}
-
-between-before : (w n k a : ℕ) (r : Reading (List ℕ)) → Between (k + n) a r → Between (suc n) (suc a) (before w r)
-between-before w n k a (got xs at) h = omega arith
-between-before w n k a (fault code offset) h = tt
+within-before : (w a : ℕ) (r : Reading (List ℕ)) → Within a r → Within (suc a) (before w r)
+within-before w a (got xs at) h = omega arith
+within-before w a (fault code offset) h = tt
 
 -- ---- what follows a node, for any reader of so many terms
 
@@ -69,21 +55,12 @@ module _ (σ : Signature) (terms : ℕ → Reader (List ℕ)) where
   required true offset next r = refl
   required false offset next r = refl
 
-  followed : (a n m : ℕ) (rest : ℕ → Reader (List ℕ)) →
-      ((k at : ℕ) → terms (k + n) at ≡ following (terms k at) (λ xs. rest (a - length xs))) → (v : Node) (at : ℕ) →
-      afterNode (m + n) v at ≡ following (afterNode m v at) (λ xs. rest (suc a - length xs))
-  followed a n m rest add v at =
+  within-node : (a n : ℕ) → ((k at : ℕ) → Within a (terms k at)) → (r : Reading Node) →
+      Within (suc a) (andThen r (afterNode n))
+  within-node a n h (got v at) =
       let k = argumentCount σ (v .word) in
-      byTest (known σ (v .word))
-      (λ e. rw (e, ← add-assoc k m n, add (k + m) at) (before-following (v .word) a (terms (k + m) at) rest))
-      λ e. rw e
-
-  between-node : (a n : ℕ) → ((k at : ℕ) → Between (k + n) a (terms (k + n) at)) → (r : Reading Node) →
-      Between (suc n) (suc a) (andThen r (afterNode n))
-  between-node a n h (got v at) =
-      let k = argumentCount σ (v .word) in
-      byTest (known σ (v .word)) (λ e. rw e (between-before (v .word) n k a (terms (k + n) at) (h k at))) λ e. rw e tt
-  between-node a n h (fault code offset) = tt
+      byTest (known σ (v .word)) (λ e. rw e (within-before (v .word) a (terms (k + n) at) (h (k + n) at))) λ e. rw e tt
+  within-node a n h (fault code offset) = tt
 
 module _ (source : Source) (σ : Signature) where
   pub nothing-owed : (a at : ℕ) → forestReader source σ a 0 at ≡ got [] at
@@ -113,24 +90,6 @@ module _ (source : Source) (σ : Signature) where
       ap (λ (x : ℕ). forestReader source σ x n at) ea ∙ ap (λ (x : ℕ). forestReader source σ (suc (a - 1)) x at) en
       ∙ step (a - 1) (n - 1) at
 
-  -- ---- m + n terms
-
-  pub forest-add : (a m n at : ℕ) →
-      forestReader source σ a (m + n) at ≡
-      following (forestReader source σ a m at) (λ xs. forestReader source σ (a - length xs) n)
-  forest-add zero zero n at = rw (zero-add, nothing-owed zero at) (sym (andThen-give (forestReader source σ zero n at)))
-  forest-add zero (suc m) n at =
-      rw (suc-add, none-allowed (suc (m + n)) at (omega arith), none-allowed (suc m) at (omega arith))
-  forest-add (suc a) zero n at =
-      rw (zero-add, nothing-owed (suc a) at, sub-zero) (sym (andThen-give (forestReader source σ (suc a) n at)))
-  forest-add (suc a) (suc m) n at =
-      let terms = forestReader source σ a in
-      let rest : ℕ → Reader (List ℕ) = λ k. forestReader source σ k n in
-      rw (suc-add, step a (m + n) at, step a m at)
-      (andThen-same (source .node at) (afterNode σ terms (m + n)) _
-      (followed σ terms a n m rest (λ k next. forest-add a k n next))
-      ∙ sym (andThen-assoc (source .node at) (afterNode σ terms m) _))
-
   -- ---- the step by what the source gives
 
   module _ (a n at : ℕ) (ha : 0 < a) (hn : 0 < n) where
@@ -156,48 +115,14 @@ module _ (source : Source) (σ : Signature) where
           step-at a n at ha hn ∙
           rw (e, lt-leb firstVariable (v .word) hv, lt-ltb (v .word) (length (σ .symbols)) hs)
 
-  -- ---- one term
-
-  module _ (a at : ℕ) (ha : 0 < a) where
-    pub one-fault : (code offset : ℕ) → source .node at ≡ fault code offset →
-        forestReader source σ a 1 at ≡ fault code offset
-    one-fault = node-fault a 1 at ha (omega arith)
-
-    module _ (v : Node) (next : ℕ) (e : source .node at ≡ got v next) where
-      pub one-unknown : v .word < firstVariable → length (σ .symbols) ≤ v .word →
-          forestReader source σ a 1 at ≡ fault noSuchSymbol (v .offset)
-      one-unknown = unknown-symbol a 1 at ha (omega arith) v next e
-
-      pub one-variable : firstVariable ≤ v .word → forestReader source σ a 1 at ≡ got (v .word ∷ []) next
-      one-variable hv =
-          variable-read a 1 at ha (omega arith) v next e hv ∙ rw (nothing-owed (a - 1) next)
-
-      pub one-symbol : v .word < firstVariable → v .word < length (σ .symbols) → forestReader source σ a 1 at ≡
-          before (v .word) (forestReader source σ (a - 1) (symbolOf σ (v .word) .arity) next)
-      one-symbol hv hs =
-          symbol-read a 1 at ha (omega arith) v next e hv hs ∙ rw add-zero
-
-  -- ---- some terms
-
-  pub row-more : (a n at : ℕ) → 0 < n → forestReader source σ a n at ≡
-      following (forestReader source σ a 1 at) (λ xs. forestReader source σ (a - length xs) (n - 1))
-  row-more a n at hn =
-      let e : n ≡ 1 + (n - 1) = omega arith in
-      ap (λ (k : ℕ). forestReader source σ a k at) e ∙ forest-add a 1 (n - 1) at
-
   -- ---- how many nodes
 
-  between : (a n at : ℕ) → Between n a (forestReader source σ a n at)
-  between zero zero at = rw (nothing-owed zero at) (omega arith)
-  between zero (suc n) at = rw (none-allowed (suc n) at (omega arith)) tt
-  between (suc a) zero at = rw (nothing-owed (suc a) at) (omega arith)
-  between (suc a) (suc n) at =
-      rw (step a n at)
-      (between-node σ (forestReader source σ a) a n (λ k next. between a (k + n) next) (source .node at))
+  within : (a n at : ℕ) → Within a (forestReader source σ a n at)
+  within zero zero at = rw (nothing-owed zero at) (omega arith)
+  within zero (suc n) at = rw (none-allowed (suc n) at (omega arith)) tt
+  within (suc a) zero at = rw (nothing-owed (suc a) at) (omega arith)
+  within (suc a) (suc n) at =
+      rw (step a n at) (within-node σ (forestReader source σ a) a n (λ k next. within a k next) (source .node at))
 
-  module _ (a n at : ℕ) (xs : List ℕ) (next : ℕ) (e : forestReader source σ a n at ≡ got xs next) where
-    pub forest-short : length xs ≤ a
-    forest-short = (rw e at (between a n at)) .0
-
-    pub forest-long : n ≤ length xs
-    forest-long = (rw e at (between a n at)) .1
+  pub forest-short : (a n at : ℕ) (xs : List ℕ) (next : ℕ) → forestReader source σ a n at ≡ got xs next → length xs ≤ a
+  forest-short a n at xs next e = rw e at (within a n at)

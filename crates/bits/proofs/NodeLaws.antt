@@ -5,7 +5,6 @@
 --     node-got, node-cut, node-none a node from nine bits, one whose number does not fit, one that has no tag
 --     word-by-tag, width-by-tag     a node's word and width by its tag, with no test
 --     word-lt, tag-first            a node's word is below 272; its tag is the first of its bits
---     node-lt                       a node that was read begins before the end
 use mathlib.Core.Path.{_≡_, refl, sym, _∙_}
 use mathlib.Core.List.{List}
 use mathlib.Core.Bool.{Bool, true, false, cond}
@@ -17,7 +16,7 @@ use lib.Dec.{leb}
 use borrow.Author.Tests.{leb-true, le-leb, lt-leb, lt-ltb, le-ltb}
 use Rattle.format.specs.Errors.{fieldMissing}
 use Rattle.multisets.proofs.Relations.{byOrder}
-use Rattle.format.specs.Reading.{Node, spelt, bitAt, bitField, bitSource}
+use Rattle.format.specs.Reading.{spelt, bitAt, bitField, bitSource}
 use Rattle.format.specs.Reading.Reading.{got, fault}
 use Rattle.bits.specs.Cursor.{nodeWidth, nodeWord}
 use Rattle.bits.proofs.BitLaws.{spelt-lt, spelt-add}
@@ -128,13 +127,3 @@ module _ (bytes : List ℕ) where
 
   pub node-none : (at : ℕ) → 8 * length bytes ≤ at → bitSource bytes .node at ≡ fault fieldMissing at
   node-none at h = rw (field-missing 1 at (omega arith))
-
-  missing-node : (at : ℕ) → 8 * length bytes < at + 1 → (v : Node) (next : ℕ) → bitSource bytes .node at ≡ got v next →
-      _≡_ {A = ℕ} 0 1
-  missing-node at h v next e = let f = rw (field-missing 1 at h) at e in cc
-
-  pub node-lt : (at : ℕ) (v : Node) (next : ℕ) → bitSource bytes .node at ≡ got v next → at < 8 * length bytes
-  node-lt at v next e =
-      byOrder (8 * length bytes) (at + 1)
-      (λ h. let z : _≡_ {A = ℕ} 0 1 = missing-node at h v next e in absurd (omega arith))
-      λ h. omega arith

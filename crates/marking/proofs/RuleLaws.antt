@@ -1,9 +1,9 @@
 -- Rules read one after another, and their marks.
---     then-got, fault-unread, got-same                 what a reading gave
+--     fault-unread, got-same                           what a reading gave
 --     MarkedSoFar, marked-none, marked-fault, marked-more, marked-all     what a loop has counted and stored
 --     decreasing-one, decreasing-append, length-choose     how many marks are those of the order
 use mathlib.Core.List.{List, [], _∷_, _++_, map}
-use mathlib.Core.Path.{_≡_, refl, sym, ap, _∙_}
+use mathlib.Core.Path.{_≡_, refl, ap, _∙_}
 use mathlib.Core.Bool.{Bool, true, false, false≢true}
 use Prim.Native.Nat.{ℕ, _+_, _≤_, _<_}
 use native.Mathlib.Omega.{arith}
@@ -17,7 +17,7 @@ use Rattle.terms.specs.Signature.{Signature}
 use Rattle.terms.specs.Words.{termOf}
 use Rattle.terms.specs.Order.{mark}
 use Rattle.text.proofs.TextLaws.{sets-append}
-use Rattle.format.specs.Reading.{Reading, Reader, andThen, Source}
+use Rattle.format.specs.Reading.{Reading, Reader, Source}
 use Rattle.format.specs.Reading.Reading.{got, fault}
 use Rattle.format.specs.Format.{Sides, rulesReader}
 use Rattle.reader.specs.Rule.{ruleReader}
@@ -38,12 +38,6 @@ sidesThemselves sides = sides
 abbrev isGot : {A : Type 0} → Reading A → Bool
 isGot (got a at) = true
 isGot (fault code offset) = false
-
--- What each of two readings gave, one after the other.
-pub then-got : {A B : Type 0} (r : Reading A) (k : A → Reader B) (b : B) (end : ℕ) → andThen r k ≡ got b end →
-    (a : A) × (next : ℕ) × (r ≡ got a next) × (k a next ≡ got b end)
-then-got (got a next) k b end e = (a, next, refl, e)
-then-got (fault code offset) k b end e = absurd (false≢true (ap isGot e))
 
 pub fault-unread : {A : Type 0} (code offset : ℕ) {a : A} {at : ℕ} → fault code offset ≡ got a at → ⊥
 fault-unread code offset e = false≢true (ap isGot e)

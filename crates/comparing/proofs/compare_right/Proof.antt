@@ -15,22 +15,27 @@ enum-told c = search needs
 
 compare-read-requires : tie.Need-compare-read-requires
 compare-read-requires c κs =
-    let a = c .before .before .before .before .before .before .args in
+    let c6 = c .before .before .before .before .before .before in
+    let a = c6 .args in
     let σ = signatureOf (a .table .now) in
-    let e = rw (c .enum-told .given .1) at (c .before .before .whole-term .ensures σ (c .before .before .before .before .before .before .pre .1 .1)) in
-    (c .before .before .before .before .before .before .pre .0, (c .before .before .before .before .before .before .pre .1 .0, read-whole σ (a .right .now) _ _ e .1))
+    let e = rw (c .enum-told .given .1) at (c .before .before .whole-term .ensures σ (c6 .pre .1 .1)) in
+    (c6 .pre .0, (c6 .pre .1 .0, read-whole σ (a .right .now) _ _ e .1))
 
 returns : tie.Need-returns
 returns c =
-    let a = c .before .before .before .before .before .before .before .args in
+    let c3 = c .before .before .before in
+    let c7 = c3 .before .before .before .before in
+    let a = c7 .args in
     let σ = signatureOf (a .table .now) in
-    right-fault σ _ (a .right .now) _ _ (rw (c .before .code .given .1) at (c .before .before .before .whole-term .ensures σ (c .before .before .before .before .before .before .before .pre .1 .1)))
+    right-fault σ _ (a .right .now) _ _ (rw (c .before .code .given .1) at (c3 .whole-term .ensures σ (c7 .pre .1 .1)))
 
 returns-2 : tie.Need-returns-2
 returns-2 c =
-    let a = c .before .before .before .before .before .before .before .args in
+    let c3 = c .before .before .before in
+    let c7 = c3 .before .before .before .before in
+    let a = c7 .args in
     let σ = signatureOf (a .table .now) in
-    let e = rw (c .before .enum-told .given .1) at (c .before .before .before .whole-term .ensures σ (c .before .before .before .before .before .before .before .pre .1 .1)) in
+    let e = rw (c .before .enum-told .given .1) at (c3 .whole-term .ensures σ (c7 .pre .1 .1)) in
     right-read σ _ (a .right .now) _ _ e _ (c .compare-read .ensures)
 
 pub compare-right-spec : {M : Type 1} → statement M

@@ -21,19 +21,24 @@ enum-known-symbol-count c = search needs
 
 mul-word-count : tie.Need-mul-word-count
 mul-word-count c =
-    let (file, end, read, parts) = (rw (c .before .symbol-count .given .1) at (c .before .before .before .before .before .before .read-file .ensures)) in
+    let c6 = c .before .before .before .before .before .before in
+    let (file, end, read, parts) = (rw (c .before .symbol-count .given .1) at (c6 .read-file .ensures)) in
     omega (arith, parts .head .fewSymbols)
 
 add-word-count : tie.Need-add-word-count
 add-word-count c =
-    let (file, end, read, parts) = (rw (c .before .symbol-count .given .1) at (c .before .before .before .before .before .before .read-file .ensures)) in
+    let c6 = c .before .before .before .before .before .before in
+    let (file, end, read, parts) = (rw (c .before .symbol-count .given .1) at (c6 .read-file .ensures)) in
     omega (arith, parts .head .fewSymbols)
 
 add-word-count-2 : tie.Need-add-word-count-2
 add-word-count-2 c =
-    let a = c .before .before .before .before .before .before .before .before .before .before .before .before .args in
-    let (file, end, read, parts) = (rw (c .before .symbol-count .given .1) at (c .before .before .before .before .before .before .read-file .ensures)) in
-    let few = nodes-few (a .book .now) (c .before .before .before .before .before .before .read-file .last .1 .0) (a .nodes .now) (c .before .before .before .before .before .before .read-file .last .1 .1 .0) file _ _ _ _ parts (c .before .before .before .before .before .before .before .before .before .before .before .before .pre) in
+    let c6 = c .before .before .before .before .before .before in
+    let c12 = c6 .before .before .before .before .before .before in
+    let a = c12 .args in
+    let (file, end, read, parts) = (rw (c .before .symbol-count .given .1) at (c6 .read-file .ensures)) in
+    let few = nodes-few (a .book .now) (c6 .read-file .last .1 .0) (a .nodes .now) (c6 .read-file .last .1 .1 .0) file
+    _ _ _ _ parts (c12 .pre) in
     omega (arith, parts .head .fewSymbols, few)
 
 same-length : tie.Need-same-length
@@ -41,9 +46,15 @@ same-length c = search needs
 
 returns : tie.Need-returns
 returns c =
-    let a = c .before .before .before .before .before .before .before .before .before .before .before .before .before .args in
-    let (file, end, read, parts) = (rw (c .before .before .symbol-count .given .1) at (c .before .before .before .before .before .before .before .read-file .ensures)) in
-    decode-short (a .book .now) (a .words .now) file end read (omega (arith, word-count (a .book .now) (c .before .before .before .before .before .before .before .read-file .last .1 .0) (a .nodes .now) (c .before .before .before .before .before .before .before .read-file .last .1 .1 .0) file _ _ _ _ parts))
+    let c7 = c .before .before .before .before .before .before .before in
+    let c13 = c7 .before .before .before .before .before .before in
+    let a = c13 .args in
+    let (file, end, read, parts) = (rw (c .before .before .symbol-count .given .1) at (c7 .read-file .ensures)) in
+    decode-short (a .book .now) (a .words .now) file end read (omega (
+      arith,
+      word-count (a .book .now) (c7 .read-file
+          .last .1 .0) (a .nodes .now) (c7 .read-file .last .1 .1 .0) file _ _ _ _ parts,
+    ))
 
 mul-front : tie.Need-mul-front
 mul-front c = search needs
@@ -53,43 +64,76 @@ add-front c = search needs
 
 array-share-prefix-table : tie.Need-array-share-prefix-table
 array-share-prefix-table c =
-    let (file, end, read, parts) = (rw (c .before .before .symbol-count .given .1) at (c .before .before .before .before .before .before .before .read-file .ensures)) in
-    omega (arith, parts .head .fewSymbols, c .before .before .before .before .before .before .before .read-file .kept .1 .0)
+    let c7 = c .before .before .before .before .before .before .before in
+    let (file, end, read, parts) = (rw (c .before .before .symbol-count .given .1) at (c7 .read-file .ensures)) in
+    omega (arith, parts .head .fewSymbols, c7 .read-file .kept .1 .0)
 
 slice-aggregate-put-file : tie.Need-slice-aggregate-put-file
 slice-aggregate-put-file c =
-    let (file, end, read, parts) = (rw (c .before .before .before .symbol-count .given .1) at (c .before .before .before .before .before .before .before .before .read-file .ensures)) in
-    sym (length-take-le _ (c .before .before .before .before .before .before .before .before .read-file .last .1 .0) (omega (arith, parts .head .fewSymbols, c .before .before .before .before .before .before .before .before .read-file .kept .1 .0)))
+    let c3 = c .before .before .before in
+    let c8 = c3 .before .before .before .before .before in
+    let (file, end, read, parts) = (rw (c3 .symbol-count .given .1) at (c8 .read-file .ensures)) in
+    sym (length-take-le _ (c8 .read-file .last .1 .0) (omega (
+      arith,
+      parts .head .fewSymbols,
+      c8 .read-file .kept .1
+          .0,
+    )))
 
 slice-reshare-prefix-put-file : tie.Need-slice-reshare-prefix-put-file
 slice-reshare-prefix-put-file c =
-    let a = c .before .before .before .before .before .before .before .before .before .before .before .before .before .before .before .args in
-    let (file, end, read, parts) = (rw (c .before .before .before .before .symbol-count .given .1) at (c .before .before .before .before .before .before .before .before .before .read-file .ensures)) in
-    let few = nodes-few (a .book .now) (c .before .before .before .before .before .before .before .before .before .read-file .last .1 .0) (a .nodes .now) (c .before .before .before .before .before .before .before .before .before .read-file .last .1 .1 .0) file _ _ _ _ parts (c .before .before .before .before .before .before .before .before .before .before .before .before .before .before .before .pre) in
-    omega (arith, few, c .before .before .before .before .before .before .before .before .before .read-file .kept .1 .1 .0)
+    let c4 = c .before .before .before .before in
+    let c9 = c4 .before .before .before .before .before in
+    let c15 = c9 .before .before .before .before .before .before in
+    let a = c15 .args in
+    let (file, end, read, parts) = (rw (c4 .symbol-count .given .1) at (c9 .read-file .ensures)) in
+    let few = nodes-few (a .book .now) (c9 .read-file .last .1 .0) (a .nodes .now) (c9 .read-file .last .1 .1 .0) file
+    _ _ _ _ parts (c15 .pre) in
+    omega (arith, few, c9 .read-file .kept .1 .1 .0)
 
 slice-aggregate-put-file-2 : tie.Need-slice-aggregate-put-file-2
 slice-aggregate-put-file-2 c =
-    let a = c .before .before .before .before .before .before .before .before .before .before .before .before .before .before .before .before .args in
-    let (file, end, read, parts) = (rw (c .before .before .before .before .before .symbol-count .given .1) at (c .before .before .before .before .before .before .before .before .before .before .read-file .ensures)) in
-    let few = nodes-few (a .book .now) (c .before .before .before .before .before .before .before .before .before .before .read-file .last .1 .0) (a .nodes .now) (c .before .before .before .before .before .before .before .before .before .before .read-file .last .1 .1 .0) file _ _ _ _ parts (c .before .before .before .before .before .before .before .before .before .before .before .before .before .before .before .before .pre) in
-    sym (length-take-le _ (c .before .before .before .before .before .before .before .before .before .before .read-file .last .1 .1 .0) (omega (arith, few, c .before .before .before .before .before .before .before .before .before .before .read-file .kept .1 .1 .0)))
+    let c5 = c .before .before .before .before .before in
+    let c10 = c5 .before .before .before .before .before in
+    let c16 = c10 .before .before .before .before .before .before in
+    let a = c16 .args in
+    let (file, end, read, parts) = (rw (c5 .symbol-count .given .1) at (c10 .read-file .ensures)) in
+    let few = nodes-few (a .book .now) (c10 .read-file .last .1 .0) (a .nodes .now) (c10 .read-file .last .1 .1 .0)
+    file _ _ _ _ parts (c16 .pre) in
+    sym (length-take-le _ (c10 .read-file .last .1 .1 .0) (omega (arith, few, c10 .read-file .kept .1 .1 .0)))
 
 put-file-requires : tie.Need-put-file-requires
 put-file-requires c κs =
-    let a = c .before .before .before .before .before .before .before .before .before .before .before .before .before .before .before .before .args in
-    let (file, end, read, parts) = (rw (c .before .before .before .before .before .symbol-count .given .1) at (c .before .before .before .before .before .before .before .before .before .before .read-file .ensures)) in
-    let few = nodes-few (a .book .now) (c .before .before .before .before .before .before .before .before .before .before .read-file .last .1 .0) (a .nodes .now) (c .before .before .before .before .before .before .before .before .before .before .read-file .last .1 .1 .0) file _ _ _ _ parts (c .before .before .before .before .before .before .before .before .before .before .before .before .before .before .before .before .pre) in
-    let long = length-take-le (c .before .before .before .before .before .symbol-count .given .0 .1 .1 .0) (c .before .before .before .before .before .before .before .before .before .before .read-file .last .1 .1 .0) (omega (arith, few, c .before .before .before .before .before .before .before .before .before .before .read-file .kept .1 .1 .0)) in
-    ((symbol-count (a .book .now) (c .before .before .before .before .before .before .before .before .before .before .read-file .last .1 .0) (a .nodes .now) (c .before .before .before .before .before .before .before .before .before .before .read-file .last .1 .1 .0) file _ _ _ _ parts, parts .head .fewSymbols, parts .head .fewRules), omega (arith, long))
+    let c5 = c .before .before .before .before .before in
+    let c10 = c5 .before .before .before .before .before in
+    let c16 = c10 .before .before .before .before .before .before in
+    let a = c16 .args in
+    let (file, end, read, parts) = (rw (c5 .symbol-count .given .1) at (c10 .read-file .ensures)) in
+    let few = nodes-few (a .book .now) (c10 .read-file .last .1 .0) (a .nodes .now) (c10 .read-file .last .1 .1 .0)
+    file _ _ _ _ parts (c16 .pre) in
+    let long = length-take-le (c5 .symbol-count .given .0 .1 .1 .0) (c10 .read-file .last .1 .1 .0) (omega (
+      arith,
+      few,
+      c10 .read-file .kept .1 .1 .0,
+    )) in (
+      (
+        symbol-count (a .book .now) (c10 .read-file .last .1 .0) (a .nodes .now) (c10 .read-file .last .1 .1 .0) file _ _
+            _ _ parts,
+        parts .head .fewSymbols,
+        parts .head .fewRules,
+      ),
+      omega (arith, long),
+    )
 
 same-length-2 : tie.Need-same-length-2
 same-length-2 c = search needs
 
 returns-2 : tie.Need-returns-2
 returns-2 c =
-    let a = c .before .before .before .before .before .before .before .before .before .before .before .before .args in
-    decode-fault (a .book .now) (a .words .now) _ _ (rw (c .before .code .given .1) at (c .before .before .before .before .before .before .read-file .ensures))
+    let c6 = c .before .before .before .before .before .before in
+    let c12 = c6 .before .before .before .before .before .before in
+    let a = c12 .args in
+    decode-fault (a .book .now) (a .words .now) _ _ (rw (c .before .code .given .1) at (c6 .read-file .ensures))
 
 same-length-3 : tie.Need-same-length-3
 same-length-3 c = search needs
@@ -99,10 +143,15 @@ same-length-4 c = search needs
 
 returns-3 : tie.Need-returns-3
 returns-3 c =
-    let a = c .before .before .before .before .before .before .before .before .before .before .before .before .before .before .before .before .before .before .before .args in
-    let (file, end, read, parts) = (rw (c .before .before .before .before .before .before .before .before .symbol-count .given .1) at (c .before .before .before .before .before .before .before .before .before .before .before .before .before .read-file .ensures)) in
-    let count = word-count (a .book .now) (c .before .before .before .before .before .before .before .before .before .before .before .before .before .read-file .last .1 .0) (a .nodes .now) (c .before .before .before .before .before .before .before .before .before .before .before .before .before .read-file .last .1 .1 .0) file _ _ _ _ parts in
-    let written = c .before .before .put-file .ensures (file .rules) (nodes-front (a .book .now) (c .before .before .before .before .before .before .before .before .before .before .before .before .before .read-file .last .1 .0) (a .nodes .now) (c .before .before .before .before .before .before .before .before .before .before .before .before .before .read-file .last .1 .1 .0) file _ _ _ _ parts (c .before .before .before .before .before .before .before .before .before .before .before .before .before .before .before .before .before .before .before .pre)) (parts .ruleCount) in
+    let c8 = c .before .before .before .before .before .before .before .before in
+    let c13 = c8 .before .before .before .before .before in
+    let c19 = c13 .before .before .before .before .before .before in
+    let a = c19 .args in
+    let (file, end, read, parts) = (rw (c8 .symbol-count .given .1) at (c13 .read-file .ensures)) in
+    let count = word-count (a .book .now) (c13 .read-file .last .1 .0) (a .nodes .now) (c13 .read-file .last .1 .1 .0)
+    file _ _ _ _ parts in
+    let written = c .before .before .put-file .ensures (file .rules) (nodes-front (a .book .now) (c13 .read-file .last
+    .1 .0) (a .nodes .now) (c13 .read-file .last .1 .1 .0) file _ _ _ _ parts (c19 .pre)) (parts .ruleCount) in
     let (reply, output) = decode-written (a .book .now) (a .words .now) file end read (omega (arith, count)) in
     (rw count reply, (rw (parts .signature) at written) ∙ output)
 

@@ -18,7 +18,12 @@ widest-requires : tie.Need-widest-requires
 widest-requires c κs = search needs
 
 returns : tie.Need-returns
-returns c = (c .widest .ensures .0 ∙ ap (λ (i : ℕ). getD (c .before .before .before .args .cells .now) i 0) (c .before .before .wide .ensures .0), c .widest .ensures .1)
+returns c =
+    let c3 = c .before .before .before in (
+      c .widest .ensures .0 ∙ ap (λ (i : ℕ). getD (c3 .args .cells .now) i 0) (c .before .before .wide .ensures .0),
+      c
+          .widest .ensures .1,
+    )
 
 pub cell-at-spec : {M : Type 1} → statement M
 cell-at-spec =

@@ -20,12 +20,15 @@ same-length c = search needs
 
 returns : tie.Need-returns
 returns c =
+    let c6 = c .before .before .before .before .before .before in
+    let c10 = c6 .before .before .before .before in
+    let c14 = c10 .before .before .before .before in
     let a =
-    c .before .before .before .before .before .before .before .before .before .before .before .before .before .before .args in
+    c14 .args in
     let w = a .word .now in
     let first = put-append (a .out .now) (a .at) w (32 ∷ []) _ _ _ _
-    (c .before .before .before .before .before .before .before .before .before .before .put-bytes .ensures)
-    (c .before .before .before .before .before .before .put-byte .ensures) in
+    (c10 .put-bytes .ensures)
+    (c6 .put-byte .ensures) in
     let n = c .before .before .put-number .ensures in
     let p = put-line2 (a .out .now) (a .at) w (decimal (a .n)) _ _ _ _ first (n .0, n .1 .0) in (
       p .0,
@@ -33,8 +36,8 @@ returns c =
         p .1,
         omega (
           arith,
-          c .before .before .before .before .before .before .before .before .before .before .put-bytes .ensures .0,
-          c .before .before .before .before .before .before .put-byte .ensures .0,
+          c10 .put-bytes .ensures .0,
+          c6 .put-byte .ensures .0,
           n .1 .1,
         ),
       ),

@@ -23,13 +23,16 @@ same-length c = search needs
 
 returns : tie.Need-returns
 returns c =
+    let c6 = c .before .before .before .before .before .before in
+    let c10 = c6 .before .before .before .before in
+    let c14 = c10 .before .before .before .before in
     let a =
-    c .before .before .before .before .before .before .before .before .before .before .before .before .before .before .args in
+    c14 .args in
     let p = put-first (a .out .now) (line (ascii "refusal" ∷ decimal (a .code) ∷ decimal (a .offset) ∷ [])) _ _
     (put-line3 (a .out .now) 0 (ascii "refusal") (decimal (a .code)) (decimal (a .offset)) _ _ _ _ _ _
-    (c .before .before .before .before .before .before .before .before .before .before .put-bytes .ensures) (
-      c .before .before .before .before .before .before .put-number .ensures .0,
-      c .before .before .before .before .before .before .put-number .ensures .1 .0,
+    (c10 .put-bytes .ensures) (
+      c6 .put-number .ensures .0,
+      c6 .put-number .ensures .1 .0,
     )
     (c .before .before .put-number2 .ensures .0, c .before .before .put-number2 .ensures .1 .0)) in (
       p .0,
@@ -37,8 +40,8 @@ returns c =
         p .1,
         omega (
           arith,
-          c .before .before .before .before .before .before .before .before .before .before .put-bytes .ensures .0,
-          c .before .before .before .before .before .before .put-number .ensures .1 .1,
+          c10 .put-bytes .ensures .0,
+          c6 .put-number .ensures .1 .1,
           c .before .before .put-number2 .ensures .1 .1,
         ),
       ),

@@ -24,20 +24,28 @@ same-length c = search needs
 
 returns : tie.Need-returns
 returns c =
+    let c6 = c .before .before .before .before .before .before in
+    let c10 = c6 .before .before .before .before in
+    let c14 = c10 .before .before .before .before in
+    let c17 = c14 .before .before .before in
     let a =
-    c .before .before .before .before .before .before .before .before .before .before .before .before .before .before .before .before .before .args in
+    c17 .args in
     let d = signedDecimal (subℕ (a .left) (a .right)) in
-    let e = c .before .before .before .before .before .before .put-difference .ensures in
+    let e = c6 .put-difference .ensures in
     let t = put-append _ _ d (10 ∷ []) _ _ _ _ (e .0, e .1 .0) (c .before .before .put-byte .ensures) in
     let p = put-line3 (a .out .now) (a .at) (decimal (a .number)) (decimal (a .mark)) d _ _ _ _ _ _
-    (c .before .before .before .before .before .before .before .before .before .before .before .before .before .before .put-number .ensures .0, c .before .before .before .before .before .before .before .before .before .before .before .before .before .before .put-number .ensures .1 .0) (c .before .before .before .before .before .before .before .before .before .before .put-number2 .ensures .0, c .before .before .before .before .before .before .before .before .before .before .put-number2 .ensures .1 .0) t in (
+    (c14 .put-number .ensures .0, c14 .put-number .ensures .1 .0) (
+      c10 .put-number2 .ensures .0,
+      c10 .put-number2
+          .ensures .1 .0,
+    ) t in (
       p .0,
       (
         p .1,
         omega (
           arith,
-          c .before .before .before .before .before .before .before .before .before .before .before .before .before .before .put-number .ensures .1 .1,
-          c .before .before .before .before .before .before .before .before .before .before .put-number2 .ensures .1 .1,
+          c14 .put-number .ensures .1 .1,
+          c10 .put-number2 .ensures .1 .1,
           e .1 .1,
           c .before .before .put-byte .ensures .0,
         ),

@@ -33,23 +33,37 @@ add-front c =
 
 array-share-prefix-table : tie.Need-array-share-prefix-table
 array-share-prefix-table c =
-    let head = rw (c .before .symbols .given .1) at (c .before .before .before .before .read-head .ensures) in
-    omega (arith, head .1 .fewSymbols, c .before .before .before .before .read-head .kept .1 .0)
+    let c4 = c .before .before .before .before in
+    let head = rw (c .before .symbols .given .1) at (c4 .read-head .ensures) in
+    omega (arith, head .1 .fewSymbols, c4 .read-head .kept .1 .0)
 
 slice-aggregate-mark-under : tie.Need-slice-aggregate-mark-under
 slice-aggregate-mark-under c =
-    let head = rw (c .before .before .symbols .given .1) at (c .before .before .before .before .before .read-head .ensures) in
-    sym (length-take-le _ (c .before .before .before .before .before .read-head .last .1 .0) (omega (arith, head .1 .fewSymbols, c .before .before .before .before .before .read-head .kept .1 .0)))
+    let c5 = c .before .before .before .before .before in
+    let head = rw (c .before .before .symbols .given .1) at (c5 .read-head .ensures) in
+    sym (length-take-le _ (c5 .read-head .last .1 .0) (omega (arith, head .1 .fewSymbols, c5 .read-head .kept .1 .0)))
 
 mark-under-requires : tie.Need-mark-under-requires
 mark-under-requires c κs =
-    let head = rw (c .before .before .before .symbols .given .1) at (c .before .before .before .before .before .before .read-head .ensures) in
-    ((head .1 .short, head .1 .within), (is-table (c .before .before .before .before .before .before .before .before .before .before .args .book .now) _ _ _ _ (sym (c .before .before .before .before .before .before .read-head .kept .1 .0)) (head .1), head .1 .fewRules))
+    let c3 = c .before .before .before in
+    let c6 = c3 .before .before .before in
+    let c10 = c6 .before .before .before .before in
+    let head = rw (c3 .symbols .given .1) at (c6 .read-head .ensures) in (
+      (head .1 .short, head .1 .within),
+      (
+        is-table (c10 .args .book .now) _ _ _ _ (sym (c6 .read-head .kept .1 .0))
+            (head .1),
+        head .1 .fewRules,
+      ),
+    )
 
 returns : tie.Need-returns
 returns c =
-    let a = c .before .before .before .before .before .before .before .before .before .args in
-    let (reply, output) = mark-fault (a .book .now) (a .marks .now) _ _ (rw (c .before .before .code .given .1) at (c .before .before .before .before .before .read-head .ensures)) in
+    let c5 = c .before .before .before .before .before in
+    let c9 = c5 .before .before .before .before in
+    let a = c9 .args in
+    let (reply, output) = mark-fault (a .book .now) (a .marks .now) _ _ (rw (c .before .before .code .given .1) at (c5
+    .read-head .ensures)) in
     (c .refused .ensures ∙ reply, output)
 
 same-length : tie.Need-same-length
@@ -57,7 +71,9 @@ same-length c = search needs
 
 returns-2 : tie.Need-returns-2
 returns-2 c =
-    let head = rw (c .before .before .before .before .before .before .symbols .given .1) at (c .before .before .before .before .before .before .before .before .before .read-head .ensures) in
+    let c6 = c .before .before .before .before .before .before in
+    let c9 = c6 .before .before .before in
+    let head = rw (c6 .symbols .given .1) at (c9 .read-head .ensures) in
     c .before .before .mark-under .ensures (head .0)
 
 pub mark-spec : {M : Type 1} → statement M

@@ -17,7 +17,9 @@ slice-aggregate-mark-rules : tie.Need-slice-aggregate-mark-rules
 slice-aggregate-mark-rules c = search needs
 
 mark-rules-requires : tie.Need-mark-rules-requires
-mark-rules-requires c κs = (c .before .before .before .before .before .before .pre .0, ((c .before .before .before .before .before .before .pre .1 .0, c .before .before .arities .ensures), (omega arith, c .before .before .before .before .before .before .pre .1 .1)))
+mark-rules-requires c κs =
+    let c6 = c .before .before .before .before .before .before in
+    (c6 .pre .0, ((c6 .pre .1 .0, c .before .before .arities .ensures), (omega arith, c6 .pre .1 .1)))
 
 enum-known-code : tie.Need-enum-known-code
 enum-known-code c = search needs
@@ -35,63 +37,100 @@ refused-requires-2 : tie.Need-refused-requires-2
 refused-requires-2 c κs = search needs
 
 returns : tie.Need-returns
-returns c = λ whole.
-    let a = c .before .before .before .before .before .before .before .before .before .before .before .before .before .before .args in
-    let read = rw (c .before .before .before .before .decreasing .given .1) at (c .before .before .before .before .before .before .before .mark-rules .ensures .0) in
+returns c =
+    let c4 = c .before .before .before .before in
+    let c7 = c4 .before .before .before in
+    let c14 = c7 .before .before .before .before .before .before .before in
+    λ whole.
+    let a = c14 .args in
+    let read = rw (c4 .decreasing .given .1) at (c7 .mark-rules .ensures .0) in
     let (reply, output) = mark-fault (a .book .now) (a .marks .now) _ _
-    (whole ∙ rest-unpadded (a .book .now) (signatureOf (a .table .now)) (a .count) (a .cursor .at) (read .0) _ (read .1) (sym (c .before .before .is-padding .ensures) ∙ not-true _ (c .before .if1 .taken))) in
+    (whole ∙ rest-unpadded (a .book .now) (signatureOf (a .table .now)) (a .count) (a .cursor .at) (read .0) _ (read
+    .1) (sym (c .before .before .is-padding .ensures) ∙ not-true _ (c .before .if1 .taken))) in
     (c .refused2 .ensures ∙ reply, output)
 
 refused-requires-3 : tie.Need-refused-requires-3
 refused-requires-3 c κs = search needs
 
 returns-2 : tie.Need-returns-2
-returns-2 c = λ whole.
-    let a = c .before .before .before .before .before .before .before .before .before .before .before .before .before .before .before .args in
-    let read = rw (c .before .before .before .before .before .decreasing .given .1) at (c .before .before .before .before .before .before .before .before .mark-rules .ensures .0) in
-    let pad = sym (c .before .before .before .is-padding .ensures) ∙ not-false _ (c .before .before .if1 .left) in
-    let long = rules-length (bitSource (a .book .now)) (signatureOf (a .table .now)) (a .count) (a .cursor .at) (read .0) _ (read .1) in
+returns-2 c =
+    let c3 = c .before .before .before in
+    let c5 = c3 .before .before in
+    let c8 = c5 .before .before .before in
+    let c15 = c8 .before .before .before .before .before .before .before in
+    λ whole.
+    let a = c15 .args in
+    let read = rw (c5 .decreasing .given .1) at (c8 .mark-rules .ensures .0) in
+    let pad = sym (c3 .is-padding .ensures) ∙ not-false _ (c .before .before .if1 .left) in
+    let long = rules-length (bitSource (a .book .now)) (signatureOf (a .table .now)) (a .count) (a .cursor .at) (read
+    .0) _ (read .1) in
     let (reply, output) = mark-short (a .book .now) (a .marks .now) (signatureOf (a .table .now)) (read .0) _
-    (whole ∙ rest-padded (a .book .now) (signatureOf (a .table .now)) (a .count) (a .cursor .at) (read .0) _ (read .1) pad) (a .count) long (c .before .if2 .taken) in
+    (whole ∙ rest-padded (a .book .now) (signatureOf (a .table .now)) (a .count) (a .cursor .at) (read .0) _ (read .1)
+    pad) (a .count) long (c .before .if2 .taken) in
     (c .refused3 .ensures ∙ reply, output)
 
 array-share-prefix-found : tie.Need-array-share-prefix-found
 array-share-prefix-found c = search needs
 
 slice-aggregate-put-marks : tie.Need-slice-aggregate-put-marks
-slice-aggregate-put-marks c = sym (length-take-le _ (c .before .before .before .before .before .before .before .before .before .mark-rules .last .1 .1 .1 .0) (omega (arith, c .before .before .before .before .before .before .before .before .before .mark-rules .kept .1 .1 .1 .0)))
+slice-aggregate-put-marks c =
+    let c9 = c .before .before .before .before .before .before .before .before .before in
+    sym (length-take-le _ (c9 .mark-rules .last .1 .1 .1 .0) (omega (arith, c9 .mark-rules .kept .1 .1 .1 .0)))
 
 put-marks-requires : tie.Need-put-marks-requires
 put-marks-requires c κs =
-    let long = length-take-le (c .before .before .before .before .before .before .before .before .before .before .before .before .before .before .before .before .args .count) (c .before .before .before .before .before .before .before .before .before .mark-rules .last .1 .1 .1 .0) (omega (arith, c .before .before .before .before .before .before .before .before .before .mark-rules .kept .1 .1 .1 .0)) in
+    let c9 = c .before .before .before .before .before .before .before .before .before in
+    let c16 = c9 .before .before .before .before .before .before .before in
+    let long = length-take-le (c16 .args .count) (c9 .mark-rules .last .1 .1 .1 .0) (omega (
+      arith,
+      c9 .mark-rules .kept
+          .1 .1 .1 .0,
+    )) in
     omega (arith, long)
 
 score-requires : tie.Need-score-requires
 score-requires c κs =
-    let within = rw (c .before .before .before .before .before .before .before .before .before .decreasing .given .1) at (c .before .before .before .before .before .before .before .before .before .before .before .before .mark-rules .ensures .1) in
+    let c9 = c .before .before .before .before .before .before .before .before .before in
+    let c12 = c9 .before .before .before in
+    let within = rw (c9 .decreasing .given .1) at (c12 .mark-rules .ensures .1) in
     omega (arith, within .0)
 
 returns-3 : tie.Need-returns-3
-returns-3 c = λ whole.
-    let a = c .before .before .before .before .before .before .before .before .before .before .before .before .args in
+returns-3 c =
+    let c5 = c .before .before .before .before .before in
+    let c12 = c5 .before .before .before .before .before .before .before in
+    λ whole.
+    let a = c12 .args in
     let (reply, output) = mark-fault (a .book .now) (a .marks .now) _ _
-    (whole ∙ rest-unread (a .book .now) (signatureOf (a .table .now)) (a .count) (a .cursor .at) _ _ (rw (c .before .before .code .given .1) at (c .before .before .before .before .before .mark-rules .ensures .0))) in
+    (whole ∙ rest-unread (a .book .now) (signatureOf (a .table .now)) (a .count) (a .cursor .at) _ _ (rw (c .before
+    .before .code .given .1) at (c5 .mark-rules .ensures .0))) in
     (c .refused .ensures ∙ reply, output)
 
 same-length : tie.Need-same-length
 same-length c = search needs
 
 returns-4 : tie.Need-returns-4
-returns-4 c = λ whole.
-    let a = c .before .before .before .before .before .before .before .before .before .before .before .before .before .before .before .before .before .before .before .before .args in
-    let read = rw (c .before .before .before .before .before .before .before .before .before .before .decreasing .given .1) at (c .before .before .before .before .before .before .before .before .before .before .before .before .before .mark-rules .ensures .0) in
-    let pad = sym (c .before .before .before .before .before .before .before .before .is-padding .ensures) ∙ not-false _ (c .before .before .before .before .before .before .before .if1 .left) in
-    let long = rules-length (bitSource (a .book .now)) (signatureOf (a .table .now)) (a .count) (a .cursor .at) (read .0) _ (read .1) in
-    let front = front-stored (signatureOf (a .table .now)) (read .0) _ (c .before .before .before .before .before .before .before .before .before .before .before .before .before .mark-rules .last .1 .1 .1 .0) (a .count) long
+returns-4 c =
+    let c3 = c .before .before .before in
+    let c6 = c3 .before .before .before in
+    let c7 = c6 .before in
+    let c8 = c7 .before in
+    let c10 = c8 .before .before in
+    let c13 = c10 .before .before .before in
+    let c20 = c13 .before .before .before .before .before .before .before in
+    λ whole.
+    let a = c20 .args in
+    let read = rw (c10 .decreasing .given .1) at (c13 .mark-rules .ensures .0) in
+    let pad = sym (c8 .is-padding .ensures) ∙ not-false _ (c7 .if1 .left) in
+    let long = rules-length (bitSource (a .book .now)) (signatureOf (a .table .now)) (a .count) (a .cursor .at) (read
+    .0) _ (read .1) in
+    let front = front-stored (signatureOf (a .table .now)) (read .0) _ (c13 .mark-rules .last .1 .1 .1 .0) (a .count)
+    long
     (omega arith) (read .3) in
     mark-written (a .book .now) (a .marks .now) (signatureOf (a .table .now)) (read .0) _
-    (whole ∙ rest-padded (a .book .now) (signatureOf (a .table .now)) (a .count) (a .cursor .at) (read .0) _ (read .1) pad) (a .count) long _ _ _ (c .before .before .before .before .before .before .if2 .left) (read .2) (c .score .ensures .0)
-    (c .before .before .before .put-marks .ensures ∙ ap (sets (a .marks .now) 0) front)
+    (whole ∙ rest-padded (a .book .now) (signatureOf (a .table .now)) (a .count) (a .cursor .at) (read .0) _ (read .1)
+    pad) (a .count) long _ _ _ (c6 .if2 .left) (read .2) (c .score .ensures .0)
+    (c3 .put-marks .ensures ∙ ap (sets (a .marks .now) 0) front)
 
 pub mark-under-spec : {M : Type 1} → statement M
 mark-under-spec =

@@ -23,10 +23,13 @@ long-requires : tie.Need-long-requires
 long-requires c κs = search needs
 
 put-refusal-requires : tie.Need-put-refusal-requires
-put-refusal-requires c κs = (
-  omega (arith, c .long .ensures .1),
-  fault-small (c .before .before .before .before .before .before .before .before .before .before .before .before .args .book .now) _ _ (rw (c .before .before .before .code .given .1) at (c .before .before .before .before .before .before .before .read-file .ensures)),
-)
+put-refusal-requires c κs =
+    let c3 = c .before .before .before in
+    let c7 = c3 .before .before .before .before in
+    let c12 = c7 .before .before .before .before .before in (
+      omega (arith, c .long .ensures .1),
+      fault-small (c12 .args .book .now) _ _ (rw (c3 .code .given .1) at (c7 .read-file .ensures)),
+    )
 
 enum-known-symbol-count : tie.Need-enum-known-symbol-count
 enum-known-symbol-count c = search needs
@@ -36,58 +39,94 @@ slice-aggregate-put-count c = search needs
 
 put-count-requires : tie.Need-put-count-requires
 put-count-requires c κs =
-    let (file, end, read, parts) = (rw (c .before .before .before .symbol-count .given .1) at (c .before .before .before .before .before .before .before .read-file .ensures)) in
+    let c3 = c .before .before .before in
+    let c7 = c3 .before .before .before .before in
+    let (file, end, read, parts) = (rw (c3 .symbol-count .given .1) at (c7 .read-file .ensures)) in
     (omega arith, omega (arith, parts .head .fewRules))
 
 mul-front : tie.Need-mul-front
 mul-front c =
-    let (file, end, read, parts) = (rw (c .before .before .before .before .before .before .symbol-count .given .1) at (c .before .before .before .before .before .before .before .before .before .before .read-file .ensures)) in
+    let c6 = c .before .before .before .before .before .before in
+    let c10 = c6 .before .before .before .before in
+    let (file, end, read, parts) = (rw (c6 .symbol-count .given .1) at (c10 .read-file .ensures)) in
     omega (arith, parts .head .fewSymbols)
 
 add-front : tie.Need-add-front
 add-front c =
-    let (file, end, read, parts) = (rw (c .before .before .before .before .before .before .symbol-count .given .1) at (c .before .before .before .before .before .before .before .before .before .before .read-file .ensures)) in
+    let c6 = c .before .before .before .before .before .before in
+    let c10 = c6 .before .before .before .before in
+    let (file, end, read, parts) = (rw (c6 .symbol-count .given .1) at (c10 .read-file .ensures)) in
     omega (arith, parts .head .fewSymbols)
 
 array-share-prefix-table : tie.Need-array-share-prefix-table
 array-share-prefix-table c =
-    let (file, end, read, parts) = (rw (c .before .before .before .before .before .before .symbol-count .given .1) at (c .before .before .before .before .before .before .before .before .before .before .read-file .ensures)) in
-    omega (arith, parts .head .fewSymbols, c .before .before .before .before .before .before .before .before .before .before .read-file .kept .1 .0)
+    let c6 = c .before .before .before .before .before .before in
+    let c10 = c6 .before .before .before .before in
+    let (file, end, read, parts) = (rw (c6 .symbol-count .given .1) at (c10 .read-file .ensures)) in
+    omega (arith, parts .head .fewSymbols, c10 .read-file .kept .1 .0)
 
 slice-aggregate-arities : tie.Need-slice-aggregate-arities
 slice-aggregate-arities c =
-    let (file, end, read, parts) = (rw (c .before .before .before .before .before .before .before .symbol-count .given .1) at (c .before .before .before .before .before .before .before .before .before .before .before .read-file .ensures)) in
-    sym (length-take-le _ (c .before .before .before .before .before .before .before .before .before .before .before .read-file .last .1 .0) (omega (arith, parts .head .fewSymbols, c .before .before .before .before .before .before .before .before .before .before .before .read-file .kept .1 .0)))
+    let c7 = c .before .before .before .before .before .before .before in
+    let c11 = c7 .before .before .before .before in
+    let (file, end, read, parts) = (rw (c7 .symbol-count .given .1) at (c11 .read-file .ensures)) in
+    sym (length-take-le _ (c11 .read-file .last .1 .0) (omega (
+      arith,
+      parts .head .fewSymbols,
+      c11 .read-file .kept .1
+          .0,
+    )))
 
 arities-requires : tie.Need-arities-requires
 arities-requires c κs =
-    let (file, end, read, parts) = (rw (c .before .before .before .before .before .before .before .symbol-count .given .1) at (c .before .before .before .before .before .before .before .before .before .before .before .read-file .ensures)) in
-    let T = is-table (c .before .before .before .before .before .before .before .before .before .before .before .before .before .before .before .before .args .book .now) _ _ _ _ (sym (c .before .before .before .before .before .before .before .before .before .before .before .read-file .kept .1 .0)) (parts .head) in
+    let c7 = c .before .before .before .before .before .before .before in
+    let c11 = c7 .before .before .before .before in
+    let c16 = c11 .before .before .before .before .before in
+    let (file, end, read, parts) = (rw (c7 .symbol-count .given .1) at (c11 .read-file .ensures)) in
+    let T = is-table (c16 .args .book .now) _ _ _ _ (sym (c11 .read-file .kept .1 .0)) (parts .head) in
     omega (arith, T .short)
 
 array-share-prefix-table-2 : tie.Need-array-share-prefix-table-2
 array-share-prefix-table-2 c =
-    let (file, end, read, parts) = (rw (c .before .before .before .before .before .before .before .before .symbol-count .given .1) at (c .before .before .before .before .before .before .before .before .before .before .before .before .read-file .ensures)) in
-    omega (arith, parts .head .fewSymbols, c .before .before .before .before .before .before .before .before .before .before .before .before .read-file .kept .1 .0)
+    let c8 = c .before .before .before .before .before .before .before .before in
+    let c12 = c8 .before .before .before .before in
+    let (file, end, read, parts) = (rw (c8 .symbol-count .given .1) at (c12 .read-file .ensures)) in
+    omega (arith, parts .head .fewSymbols, c12 .read-file .kept .1 .0)
 
 slice-aggregate-put-rules : tie.Need-slice-aggregate-put-rules
 slice-aggregate-put-rules c =
-    let (file, end, read, parts) = (rw (c .before .before .before .before .before .before .before .before .before .symbol-count .given .1) at (c .before .before .before .before .before .before .before .before .before .before .before .before .before .read-file .ensures)) in
-    sym (length-take-le _ (c .before .before .before .before .before .before .before .before .before .before .before .before .before .read-file .last .1 .0) (omega (arith, parts .head .fewSymbols, c .before .before .before .before .before .before .before .before .before .before .before .before .before .read-file .kept .1 .0)))
+    let c9 = c .before .before .before .before .before .before .before .before .before in
+    let c13 = c9 .before .before .before .before in
+    let (file, end, read, parts) = (rw (c9 .symbol-count .given .1) at (c13 .read-file .ensures)) in
+    sym (length-take-le _ (c13 .read-file .last .1 .0) (omega (
+      arith,
+      parts .head .fewSymbols,
+      c13 .read-file .kept .1
+          .0,
+    )))
 
 put-rules-requires : tie.Need-put-rules-requires
 put-rules-requires c κs =
-    let (file, end, read, parts) = (rw (c .before .before .before .before .before .before .before .before .before .before .before .symbol-count .given .1) at (c .before .before .before .before .before .before .before .before .before .before .before .before .before .before .before .read-file .ensures)) in
-    let T = is-table (c .before .before .before .before .before .before .before .before .before .before .before .before .before .before .before .before .before .before .before .before .args .book .now) _ _ _ _ (sym (c .before .before .before .before .before .before .before .before .before .before .before .before .before .before .before .read-file .kept .1 .0)) (parts .head) in (
+    let c3 = c .before .before .before in
+    let c7 = c3 .before .before .before .before in
+    let c11 = c7 .before .before .before .before in
+    let c15 = c11 .before .before .before .before in
+    let c20 = c15 .before .before .before .before .before in
+    let (file, end, read, parts) = (rw (c11 .symbol-count .given .1) at (c15 .read-file .ensures)) in
+    let T = is-table (c20 .args .book .now) _ _ _ _ (sym (c15 .read-file .kept .1 .0)) (parts .head) in (
       (parts .head .short, parts .head .within),
-      ((T, c .before .before .before .arities .ensures), (omega (arith, c .before .before .before .before .before .before .before .put-count .ensures .1 .1), parts .head .fewRules)),
+      ((T, c3 .arities .ensures), (omega (arith, c7 .put-count .ensures .1 .1), parts .head .fewRules)),
     )
 
 put-summary-requires : tie.Need-put-summary-requires
 put-summary-requires c κs =
-    let (file, end, read, parts) = (rw (c .before .before .before .before .before .before .before .before .before .before .before .before .before .before .before .symbol-count .given .1) at (c .before .before .before .before .before .before .before .before .before .before .before .before .before .before .before .before .before .before .before .read-file .ensures)) in (
-      omega (arith, parts .head .fewRules, c .before .before .before .before .before .before .before .before .before .before .before .put-count .ensures .1 .1, c .before .before .before .put-rules .ensures .1 .1),
-      omega (arith, parts .head .fewRules, c .before .before .before .put-rules .ensures .1 .0),
+    let c3 = c .before .before .before in
+    let c11 = c3 .before .before .before .before .before .before .before .before in
+    let c15 = c11 .before .before .before .before in
+    let c19 = c15 .before .before .before .before in
+    let (file, end, read, parts) = (rw (c15 .symbol-count .given .1) at (c19 .read-file .ensures)) in (
+      omega (arith, parts .head .fewRules, c11 .put-count .ensures .1 .1, c3 .put-rules .ensures .1 .1),
+      omega (arith, parts .head .fewRules, c3 .put-rules .ensures .1 .0),
     )
 
 same-length : tie.Need-same-length
@@ -95,10 +134,14 @@ same-length c = search needs
 
 returns : tie.Need-returns
 returns c =
-    let a = c .before .before .before .before .before .before .before .before .before .before .before .before .before .before .before .args in
+    let c3 = c .before .before .before in
+    let c6 = c3 .before .before .before in
+    let c10 = c6 .before .before .before .before in
+    let c15 = c10 .before .before .before .before .before in
+    let a = c15 .args in
     let p = c .before .before .put-refusal .ensures in (
-      report-refusal (a .book .now) _ _ _ (a .out .now) _ (rw (c .before .before .before .before .before .before .code .given .1) at (c .before .before .before .before .before .before .before .before .before .before .read-file .ensures))
-          (p .0 ∙ rw (c .before .before .before .long .ensures .0)) (p .1 .0 ∙ rw (c .before .before .before .long .ensures .0)) (omega (arith, p .1 .1)),
+      report-refusal (a .book .now) _ _ _ (a .out .now) _ (rw (c6 .code .given .1) at (c10 .read-file .ensures))
+          (p .0 ∙ rw (c3 .long .ensures .0)) (p .1 .0 ∙ rw (c3 .long .ensures .0)) (omega (arith, p .1 .1)),
       omega (arith, p .1 .1),
     )
 
@@ -107,15 +150,20 @@ same-length-2 c = search needs
 
 returns-2 : tie.Need-returns-2
 returns-2 c =
-    let a = c .before .before .before .before .before .before .before .before .before .before .before .before .before .before .before .before .before .before .before .before .before .before .before .before .before .before .before .args in
-    let (file, end, read, parts) = (rw (c .before .before .before .before .before .before .before .before .before .before .before .before .before .before .before .before .before .before .symbol-count .given .1) at (c .before .before .before .before .before .before .before .before .before .before .before .before .before .before .before .before .before .before .before .before .before .before .read-file .ensures)) in
-    let (d, w) = c .before .before .before .before .before .before .put-rules .ensures .0 (file .rules) (parts .end) (rw (parts .signature) (parts .rulesRead)) in
-    let k = c .before .before .before .before .before .before .before .before .before .before .before .before .before .before .put-count .ensures in
+    let c6 = c .before .before .before .before .before .before in
+    let c14 = c6 .before .before .before .before .before .before .before .before in
+    let c18 = c14 .before .before .before .before in
+    let c22 = c18 .before .before .before .before in
+    let c27 = c22 .before .before .before .before .before in
+    let a = c27 .args in
+    let (file, end, read, parts) = (rw (c18 .symbol-count .given .1) at (c22 .read-file .ensures)) in
+    let (d, w) = c6 .put-rules .ensures .0 (file .rules) (parts .end) (rw (parts .signature) (parts .rulesRead)) in
+    let k = c14 .put-count .ensures in
     let t = c .before .before .put-summary .ensures in (
       report-marks (a .book .now) file end read _ _ _ (a .out .now) _ _ _ _ _ (parts .ruleCount)
           (d ∙ rw (parts .signature)) (k .0, k .1 .0) (rw (parts .signature) at w) (t .0)
-          (omega (arith, parts .head .fewRules, k .1 .1, c .before .before .before .before .before .before .put-rules .ensures .1 .1, t .1, c .before .before .before .before .before .before .before .before .before .before .before .before .before .before .before .before .before .before .before .before .before .before .before .before .before .before .before .pre)),
-      omega (arith, parts .head .fewRules, k .1 .1, c .before .before .before .before .before .before .put-rules .ensures .1 .1, t .1),
+          (omega (arith, parts .head .fewRules, k .1 .1, c6 .put-rules .ensures .1 .1, t .1, c27 .pre)),
+      omega (arith, parts .head .fewRules, k .1 .1, c6 .put-rules .ensures .1 .1, t .1),
     )
 
 pub report-spec : {M : Type 1} → statement M

@@ -19,34 +19,47 @@ enum-known-count c = search needs
 
 array-share-prefix-left : tie.Need-array-share-prefix-left
 array-share-prefix-left c =
-    let within = rw (c .before .count .given .1) at (c .before .before .before .read-side .ensures .1 .0) in
-    omega (arith, within, c .before .before .before .read-side .ensures .1 .1)
+    let c3 = c .before .before .before in
+    let within = rw (c .before .count .given .1) at (c3 .read-side .ensures .1 .0) in
+    omega (arith, within, c3 .read-side .ensures .1 .1)
 
 slice-aggregate-orient-right : tie.Need-slice-aggregate-orient-right
 slice-aggregate-orient-right c =
-    let within = rw (c .before .before .count .given .1) at (c .before .before .before .before .read-side .ensures .1 .0) in
-    sym (length-take-le _ (c .before .before .before .before .read-side .last .1 .1 .0) (omega (arith, within, c .before .before .before .before .read-side .ensures .1 .1)))
+    let c4 = c .before .before .before .before in
+    let within = rw (c .before .before .count .given .1) at (c4 .read-side .ensures .1 .0) in
+    sym (length-take-le _ (c4 .read-side .last .1 .1 .0) (omega (arith, within, c4 .read-side .ensures .1 .1)))
 
 orient-right-requires : tie.Need-orient-right-requires
 orient-right-requires c κs =
-    let a = c .before .before .before .before .before .before .before .before .args in
+    let c4 = c .before .before .before .before in
+    let c8 = c4 .before .before .before .before in
+    let a = c8 .args in
     let σ = signatureOf (a .table .now) in
-    let e = rw (c .before .before .count .given .1) at (c .before .before .before .before .read-side .ensures .0 σ (c .before .before .before .before .before .before .before .before .pre .1 .1)) in
-    let within = rw (c .before .before .count .given .1) at (c .before .before .before .before .read-side .ensures .1 .0) in
-    ((c .before .before .before .before .before .before .before .before .pre .0 .0, within .1), (c .before .before .before .before .before .before .before .before .pre .1 .0, c .before .before .before .before .before .before .before .before .pre .1 .1, side-term (a .book .now) σ (a .cursor .at) _ _ (sym e)))
+    let e = rw (c .before .before .count .given .1) at (c4 .read-side .ensures .0 σ (c8 .pre .1 .1)) in
+    let within = rw (c .before .before .count .given .1) at (c4 .read-side .ensures .1 .0) in
+    ((c8 .pre .0 .0, within .1), (c8 .pre .1 .0, c8 .pre .1 .1, side-term (a .book .now) σ (a .cursor .at) _ _ (sym e)))
 
 returns : tie.Need-returns
 returns c =
-    let a = c .before .before .before .before .before .before .before .args in
-    let σ = signatureOf (a .table .now) in
-    (left-unread σ (bitSource (a .book .now)) (a .cursor .at) _ _ (rw (c .before .code .given .1) at (c .before .before .before .read-side .ensures .0 σ (c .before .before .before .before .before .before .before .pre .1 .1))), tt)
+    let c3 = c .before .before .before in
+    let c7 = c3 .before .before .before .before in
+    let a = c7 .args in
+    let σ = signatureOf (a .table .now) in (
+      left-unread σ (bitSource (a .book .now)) (a .cursor .at) _ _ (rw (c .before .code .given .1) at (c3 .read-side
+          .ensures .0 σ (c7 .pre .1 .1))),
+      tt,
+    )
 
 returns-2 : tie.Need-returns-2
 returns-2 c =
-    let a = c .before .before .before .before .before .before .before .before .before .args in
+    let c3 = c .before .before .before in
+    let c5 = c3 .before .before in
+    let c9 = c5 .before .before .before .before in
+    let a = c9 .args in
     let σ = signatureOf (a .table .now) in
-    let e = rw (c .before .before .before .count .given .1) at (c .before .before .before .before .before .read-side .ensures .0 σ (c .before .before .before .before .before .before .before .before .before .pre .1 .1)) in (
-      rule-oriented σ (bitSource (a .book .now)) (a .cursor .at) _ _ e (c .orient-right .result) (c .orient-right .ensures .0),
+    let e = rw (c3 .count .given .1) at (c5 .read-side .ensures .0 σ (c9 .pre .1 .1)) in (
+      rule-oriented σ (bitSource (a .book .now)) (a .cursor .at) _ _ e (c .orient-right .result) (c .orient-right
+          .ensures .0),
       c .orient-right .ensures .1,
     )
 

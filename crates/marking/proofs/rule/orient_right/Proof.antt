@@ -18,35 +18,51 @@ enum-known-count c = search needs
 
 array-share-prefix-right : tie.Need-array-share-prefix-right
 array-share-prefix-right c =
-    let within = rw (c .before .count .given .1) at (c .before .before .before .read-side .ensures .1 .0) in
-    omega (arith, within, c .before .before .before .read-side .ensures .1 .1)
+    let c3 = c .before .before .before in
+    let within = rw (c .before .count .given .1) at (c3 .read-side .ensures .1 .0) in
+    omega (arith, within, c3 .read-side .ensures .1 .1)
 
 slice-aggregate-orient-sides : tie.Need-slice-aggregate-orient-sides
 slice-aggregate-orient-sides c =
-    let within = rw (c .before .before .count .given .1) at (c .before .before .before .before .read-side .ensures .1 .0) in
-    sym (length-take-le _ (c .before .before .before .before .read-side .last .1 .1 .0) (omega (arith, within, c .before .before .before .before .read-side .ensures .1 .1)))
+    let c4 = c .before .before .before .before in
+    let within = rw (c .before .before .count .given .1) at (c4 .read-side .ensures .1 .0) in
+    sym (length-take-le _ (c4 .read-side .last .1 .1 .0) (omega (arith, within, c4 .read-side .ensures .1 .1)))
 
 orient-sides-requires : tie.Need-orient-sides-requires
 orient-sides-requires c κs =
-    let a = c .before .before .before .before .before .before .before .before .before .args in
+    let c4 = c .before .before .before .before in
+    let c9 = c4 .before .before .before .before .before in
+    let a = c9 .args in
     let σ = signatureOf (a .table .now) in
-    let e = rw (c .before .before .count .given .1) at (c .before .before .before .before .read-side .ensures .0 σ (c .before .before .before .before .before .before .before .before .before .pre .1 .1)) in
-    (c .before .before .before .before .before .before .before .before .before .pre .1 .0, c .before .before .before .before .before .before .before .before .before .pre .1 .2, side-term (a .book .now) σ (a .cursor .at) _ _ (sym e))
+    let e = rw (c .before .before .count .given .1) at (c4 .read-side .ensures .0 σ (c9 .pre .1 .1)) in
+    (c9 .pre .1 .0, c9 .pre .1 .2, side-term (a .book .now) σ (a .cursor .at) _ _ (sym e))
 
 returns : tie.Need-returns
 returns c =
-    let a = c .before .before .before .before .before .before .before .before .args in
+    let c3 = c .before .before .before in
+    let c8 = c3 .before .before .before .before .before in
+    let a = c8 .args in
     let σ = signatureOf (a .table .now) in
-    (sym (rw (c .before .code .given .1) at (c .before .before .before .read-side .ensures .0 σ (c .before .before .before .before .before .before .before .before .pre .1 .1))), tt)
+    (sym (rw (c .before .code .given .1) at (c3 .read-side .ensures .0 σ (c8 .pre .1 .1))), tt)
 
 returns-2 : tie.Need-returns-2
 returns-2 c =
-    let a = c .before .before .before .before .before .before .before .before .before .before .args in
+    let c3 = c .before .before .before in
+    let c5 = c3 .before .before in
+    let c10 = c5 .before .before .before .before .before in
+    let a = c10 .args in
     let σ = signatureOf (a .table .now) in
-    let e = rw (c .before .before .before .count .given .1) at (c .before .before .before .before .before .read-side .ensures .0 σ (c .before .before .before .before .before .before .before .before .before .before .pre .1 .1)) in
-    let within = rw (c .before .before .before .count .given .1) at (c .before .before .before .before .before .read-side .ensures .1 .0) in
-    let (x, small) = c .orient-sides .ensures in
-    (right-oriented σ _ (a .left .now) _ _ (c .orient-sides .result) e (small .2) x, (small .0, small .1, rw (small .2) (within .1)))
+    let e = rw (c3 .count .given .1) at (c5 .read-side .ensures .0 σ (c10 .pre .1 .1)) in
+    let within = rw (c3 .count .given .1) at (c5 .read-side .ensures .1 .0) in
+    let (x, small) = c .orient-sides .ensures in (
+      right-oriented σ _ (a .left .now) _ _ (c .orient-sides .result) e (small .2) x,
+      (
+        small .0,
+        small .1,
+        rw (small .2)
+            (within .1),
+      ),
+    )
 
 pub orient-right-spec : {M : Type 1} → statement M
 orient-right-spec =

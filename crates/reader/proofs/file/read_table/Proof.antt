@@ -18,17 +18,22 @@ same-length c = search needs
 
 returns : tie.Need-returns
 returns c =
-    symbols-fault (c .before .before .before .before .before .before .before .before .before .args .book .now) (c .before .before .before .before .before .before .before .before .before .args .w0) (c .before .before .before .before .before .before .before .before .before .args .symbols) (c .before .before .before .before .before .before .before .before .before .args .rules) (c .before .before .before .before .before .before .before .before .before .args .cursor .at) _ _
-    (rw (c .before .code .given .1) at (c .before .before .before .before .before .read-symbols .ensures .0))
+    let c5 = c .before .before .before .before .before in
+    let c9 = c5 .before .before .before .before in
+    symbols-fault (c9 .args .book .now) (c9 .args .w0) (c9 .args .symbols) (c9 .args .rules) (c9 .args .cursor .at) _ _
+    (rw (c .before .code .given .1) at (c5 .read-symbols .ensures .0))
 
 same-length-2 : tie.Need-same-length-2
 same-length-2 c = search needs
 
 returns-2 : tie.Need-returns-2
 returns-2 c =
-    head-read (c .before .before .before .before .before .before .before .before .before .args .book .now) (c .before .before .before .before .before .before .before .before .before .args .w0) (c .before .before .before .before .before .before .before .before .before .args .symbols) (c .before .before .before .before .before .before .before .before .before .args .rules) (c .before .before .before .before .before .before .before .before .before .args .cursor .at) (c .before .before .before .before .before .read-symbols .last .1 .0) _
-    (rw (c .before .start .given .1) at (c .before .before .before .before .before .read-symbols .ensures .0)) (c .before .before .before .before .before .read-symbols .ensures .1)
-    (omega (arith, c .before .before .before .before .before .read-symbols .kept .1 .0)) (omega arith) (omega arith) (omega arith) (omega arith) (omega arith)
+    let c5 = c .before .before .before .before .before in
+    let c9 = c5 .before .before .before .before in
+    head-read (c9 .args .book .now) (c9 .args .w0) (c9 .args .symbols) (c9 .args .rules) (c9 .args .cursor .at) (c5
+    .read-symbols .last .1 .0) _
+    (rw (c .before .start .given .1) at (c5 .read-symbols .ensures .0)) (c5 .read-symbols .ensures .1)
+    (omega (arith, c5 .read-symbols .kept .1 .0)) (omega arith) (omega arith) (omega arith) (omega arith) (omega arith)
 
 pub read-table-spec : {M : Type 1} → statement M
 read-table-spec =

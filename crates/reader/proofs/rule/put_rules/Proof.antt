@@ -21,8 +21,14 @@ abbrev μ-loop : tie.MeasureT-loop
 
 loop-holds : tie.Need-loop-holds Inv-loop μ-loop
 loop-holds c =
-    let a = c .before .before .args in
-    (omega arith, refl, omega arith, c .before .before .pre .1, λ σ k. so-far-none (bitSource (a .book .now)) σ (a .count) (a .cursor .at) (a .index) (a .words .now))
+    let a = c .before .before .args in (
+      omega arith,
+      refl,
+      omega arith,
+      c .before .before .pre .1,
+      λ σ k. so-far-none (bitSource (a .book .now)) σ (a
+          .count) (a .cursor .at) (a .index) (a .words .now),
+    )
 
 put-rule-requires : tie.Need-put-rule-requires Inv-loop μ-loop
 put-rule-requires c κs =
@@ -33,13 +39,20 @@ enum-known-code : tie.Need-enum-known-code Inv-loop μ-loop
 enum-known-code c = search needs
 
 same-length : tie.Need-same-length Inv-loop μ-loop
-same-length c = c .before .before .before .before .before .put-rule .kept .1 .1 .0 ∙ c .before .before .before .before .before .before .before .before .loop .inv .1
+same-length c =
+    let c5 = c .before .before .before .before .before in
+    let c8 = c5 .before .before .before in
+    c5 .put-rule .kept .1 .1 .0 ∙ c8 .loop .inv .1
 
 returns : tie.Need-returns Inv-loop μ-loop
 returns c =
-    let a = c .before .before .before .before .before .before .before .before .before .before .before .args in (
-      λ σ k. so-far-fault (bitSource (a .book .now)) σ (a .count) (a .cursor .at) (a .index) (a .words .now) (c .before .before .before .before .before .before .before .before .loop .number) (c .before .before .before .before .before .before .before .before .loop .here .at) (c .before .before .before .before .before .before .before .before .loop .end) (c .before .before .before .before .before .before .before .before .loop .words) (omega arith) (c .before .before .before .before .before .before .before .before .loop .inv .4 σ k) _ _
-          (c .before .before .before .before .before .put-rule .last .1 .1 .0) (rw (c .before .code .given .1) at (c .before .before .before .before .before .put-rule .ensures .0 σ k)),
+    let c5 = c .before .before .before .before .before in
+    let c8 = c5 .before .before .before in
+    let c11 = c8 .before .before .before in
+    let a = c11 .args in (
+      λ σ k. so-far-fault (bitSource (a .book .now)) σ (a .count) (a .cursor .at) (a .index) (a .words .now) (c8 .loop
+          .number) (c8 .loop .here .at) (c8 .loop .end) (c8 .loop .words) (omega arith) (c8 .loop .inv .4 σ k) _ _
+          (c5 .put-rule .last .1 .1 .0) (rw (c .before .code .given .1) at (c5 .put-rule .ensures .0 σ k)),
       tt,
     )
 
@@ -54,15 +67,19 @@ loop-less c = search needs
 
 loop-again : tie.Need-loop-again Inv-loop μ-loop
 loop-again c =
-    let a = c .before .before .before .before .before .before .before .before .before .before .before .args in
-    let v = c .before .before .before .before .before .before .before .before .loop .inv in
-    let within = rw (c .before .next-end .given .1) at (c .before .before .before .before .before .put-rule .ensures .1) in (
+    let c5 = c .before .before .before .before .before in
+    let c8 = c5 .before .before .before in
+    let c11 = c8 .before .before .before in
+    let a = c11 .args in
+    let v = c8 .loop .inv in
+    let within = rw (c .before .next-end .given .1) at (c5 .put-rule .ensures .1) in (
       omega arith,
-      c .before .before .before .before .before .put-rule .kept .1 .1 .0 ∙ v .1,
+      c5 .put-rule .kept .1 .1 .0 ∙ v .1,
       omega (arith, within .0),
       within .1,
-      λ σ k. so-far-more (bitSource (a .book .now)) σ (a .count) (a .cursor .at) (a .index) (a .words .now) (c .before .before .before .before .before .before .before .before .loop .number) (c .before .before .before .before .before .before .before .before .loop .here .at) (c .before .before .before .before .before .before .before .before .loop .end) (c .before .before .before .before .before .before .before .before .loop .words) (omega arith) (c .before .before .before .before .before .before .before .before .loop .inv .4 σ k) _ _
-          (c .before .before .before .before .before .put-rule .last .1 .1 .0) (v .1) (rw (c .before .next-end .given .1) at (c .before .before .before .before .before .put-rule .ensures .0 σ k)),
+      λ σ k. so-far-more (bitSource (a .book .now)) σ (a .count) (a .cursor .at) (a .index) (a .words .now) (c8 .loop
+          .number) (c8 .loop .here .at) (c8 .loop .end) (c8 .loop .words) (omega arith) (c8 .loop .inv .4 σ k) _ _
+          (c5 .put-rule .last .1 .1 .0) (v .1) (rw (c .before .next-end .given .1) at (c5 .put-rule .ensures .0 σ k)),
     )
 
 same-length-2 : tie.Need-same-length-2 Inv-loop μ-loop
@@ -70,9 +87,12 @@ same-length-2 c = c .before .loop .inv .1
 
 returns-2 : tie.Need-returns-2 Inv-loop μ-loop
 returns-2 c =
-    let a = c .before .before .before .before .args in
+    let c4 = c .before .before .before .before in
+    let a = c4 .args in
     let v = c .before .loop .inv in (
-      λ σ k. so-far-done (bitSource (a .book .now)) σ (a .count) (a .cursor .at) (a .index) (a .words .now) (c .before .loop .end) (c .before .loop .here) (c .before .loop .words) (c .before .loop .number) (omega arith) (v .4 σ k),
+      λ σ k. so-far-done (bitSource (a .book .now)) σ (a .count) (a .cursor .at) (a .index) (a .words .now) (c .before
+          .loop .end) (c .before .loop .here) (c .before .loop .words) (c .before .loop .number) (omega arith) (v .4 σ
+          k),
       (omega arith, v .3),
     )
 

@@ -18,22 +18,42 @@ enum-known-count c = search needs
 
 array-share-prefix-side : tie.Need-array-share-prefix-side
 array-share-prefix-side c =
-    let within = rw (c .before .before .count .given .1) at (c .before .before .before .before .read-side .ensures .1 .0) in
-    omega (arith, within, c .before .before .before .before .read-side .ensures .1 .1)
+    let c4 = c .before .before .before .before in
+    let within = rw (c .before .before .count .given .1) at (c4 .read-side .ensures .1 .0) in
+    omega (arith, within, c4 .read-side .ensures .1 .1)
 
 slice-aggregate-put-words : tie.Need-slice-aggregate-put-words
 slice-aggregate-put-words c =
-    let within = rw (c .before .before .before .count .given .1) at (c .before .before .before .before .before .read-side .ensures .1 .0) in
-    sym (length-take-le (c .before .before .before .count .given .0 .0) (c .before .before .before .before .before .read-side .last .1 .1 .0) (omega (arith, within, c .before .before .before .before .before .read-side .ensures .1 .1)))
+    let c3 = c .before .before .before in
+    let c5 = c3 .before .before in
+    let within = rw (c3 .count .given .1) at (c5 .read-side .ensures .1 .0) in
+    sym (length-take-le (c3 .count .given .0 .0) (c5 .read-side .last .1 .1 .0) (omega (
+      arith,
+      within,
+      c5 .read-side
+          .ensures .1 .1,
+    )))
 
 put-words-requires : tie.Need-put-words-requires
 put-words-requires c κs =
-    let within = rw (c .before .before .before .count .given .1) at (c .before .before .before .before .before .read-side .ensures .1 .0) in
-    omega (arith, within, length-take-le (c .before .before .before .count .given .0 .0) (c .before .before .before .before .before .read-side .last .1 .1 .0) (omega (arith, within, c .before .before .before .before .before .read-side .ensures .1 .1)))
+    let c3 = c .before .before .before in
+    let c5 = c3 .before .before in
+    let within = rw (c3 .count .given .1) at (c5 .read-side .ensures .1 .0) in
+    omega (
+      arith,
+      within,
+      length-take-le (c3 .count .given .0 .0) (c5 .read-side .last .1 .1 .0) (omega (
+        arith,
+        within,
+        c5 .read-side .ensures .1 .1,
+      )),
+    )
 
 add-t19 : tie.Need-add-t19
 add-t19 c =
-    let within = rw (c .before .before .before .before .before .before .count .given .1) at (c .before .before .before .before .before .before .before .before .read-side .ensures .1 .0) in
+    let c6 = c .before .before .before .before .before .before in
+    let c8 = c6 .before .before in
+    let within = rw (c6 .count .given .1) at (c8 .read-side .ensures .1 .0) in
     omega (arith, within)
 
 returns : tie.Need-returns
@@ -44,11 +64,21 @@ same-length c = search needs
 
 returns-2 : tie.Need-returns-2
 returns-2 c =
-    let a = c .before .before .before .before .before .before .before .before .before .before .before .before .args in
-    let within = rw (c .before .before .before .before .before .before .count .given .1) at (c .before .before .before .before .before .before .before .before .read-side .ensures .1 .0) in
-    let long = length-take-le (c .before .before .before .before .before .before .count .given .0 .0) (c .before .before .before .before .before .before .before .before .read-side .last .1 .1 .0) (omega (arith, within, c .before .before .before .before .before .before .before .before .read-side .ensures .1 .1)) in (
-      λ σ k. side-stored _ (a .index) (a .words .now) (take (c .before .before .before .before .before .before .count .given .0 .0) (c .before .before .before .before .before .before .before .before .read-side .last .1 .1 .0)) _ _ _
-          (rw (c .before .before .before .before .before .before .count .given .1) at (c .before .before .before .before .before .before .before .before .read-side .ensures .0 σ k)) (omega (arith, long)) (c .before .before .put-words .ensures),
+    let c6 = c .before .before .before .before .before .before in
+    let c8 = c6 .before .before in
+    let c12 = c8 .before .before .before .before in
+    let a = c12 .args in
+    let within = rw (c6 .count .given .1) at (c8 .read-side .ensures .1 .0) in
+    let long = length-take-le (c6 .count .given .0 .0) (c8 .read-side .last .1 .1 .0) (omega (
+      arith,
+      within,
+      c8
+          .read-side .ensures .1 .1,
+    )) in (
+      λ σ k. side-stored _ (a .index) (a .words .now) (take (c6 .count .given .0 .0) (c8 .read-side .last .1 .1 .0)) _
+          _ _
+          (rw (c6 .count .given .1) at (c8 .read-side .ensures .0 σ k)) (omega (arith, long)) (c .before .before
+          .put-words .ensures),
       (omega (arith, within), within .1),
     )
 

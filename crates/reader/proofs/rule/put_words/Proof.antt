@@ -48,11 +48,14 @@ loop-less c = search needs
 
 loop-again : tie.Need-loop-again Inv-loop μ-loop
 loop-again c =
+    let c4 = c .before .before .before .before in
     let v = c .before .before .loop .inv in (
       omega arith,
       simp length-set (v .1),
-      ap (λ (l : List ℕ). set l (c .before .before .before .before .args .index + c .before .before .loop .i) (getD (c .before .before .before .before .args .nodes .now) (c .before .before .loop .i) 0)) (v .2)
-          ∙ words-more (c .before .before .before .before .args .words .now) (c .before .before .before .before .args .nodes .now) (c .before .before .before .before .args .index) (c .before .before .loop .i) (omega arith),
+      ap (λ (l : List ℕ). set l (c4 .args .index + c .before .before .loop .i) (getD (c4 .args .nodes .now) (c .before
+          .before .loop .i) 0)) (v .2)
+          ∙ words-more (c4 .args .words .now) (c4 .args .nodes .now) (c4 .args .index) (c .before .before .loop .i)
+          (omega arith),
     )
 
 same-length : tie.Need-same-length Inv-loop μ-loop
@@ -60,9 +63,11 @@ same-length c = c .before .loop .inv .1
 
 returns-2 : tie.Need-returns-2 Inv-loop μ-loop
 returns-2 c =
+    let c3 = c .before .before .before in
     let v = c .before .loop .inv in
-    let all : take (c .before .loop .i) (c .before .before .before .args .nodes .now) ≡ c .before .before .before .args .nodes .now = take-all (c .before .loop .i) (c .before .before .before .args .nodes .now) (omega arith) in
-    λ room. v .2 ∙ ap (sets (c .before .before .before .args .words .now) (c .before .before .before .args .index)) all
+    let all : take (c .before .loop .i) (c3 .args .nodes .now) ≡ c3 .args .nodes .now = take-all (c .before .loop .i)
+    (c3 .args .nodes .now) (omega arith) in
+    λ room. v .2 ∙ ap (sets (c3 .args .words .now) (c3 .args .index)) all
 
 pub put-words-spec : {M : Type 1} → statement M
 put-words-spec =

@@ -84,10 +84,11 @@ read-terms-returns-2 : (t : ℕ) → read-terms-lts.Need-returns-2 (
   read-terms.Post,
 ) (read-terms-at t) read-terms.Post
 read-terms-returns-2 t c =
-    let a = c .before .before .before .args in (
+    let c3 = c .before .before .before in
+    let a = c3 .args in (
       λ σ k. answers-many (bitSource (a .book .now .now)) σ (a .count) (a .owed) (a .cursor .at) (a .words .now) _ _
           (omega arith) (c .before .if2 .taken) (c .number2 .ensures),
-      (omega (arith, c .number2 .ensures), c .before .before .before .pre .1 .1 .2),
+      (omega (arith, c .number2 .ensures), c3 .pre .1 .1 .2),
     )
 
 read-terms-node-requires : (t : ℕ) → read-terms-lts.Need-node-requires (
@@ -125,10 +126,12 @@ read-terms-number-requires-3 : (t : ℕ) → read-terms-lts.Need-number-requires
   read-terms.Post,
 ) (read-terms-at t) read-terms.Post
 read-terms-number-requires-3 t c κs =
-    let a = c .before .before .before .before .before .before .before .args in
+    let c3 = c .before .before .before in
+    let c7 = c3 .before .before .before .before in
+    let a = c7 .args in
     let limit = 8 * length (a .book .now .now) in
-    let node = sym (rw (c .before .offset .given .1) at (c .before .before .before .node .ensures .0)) in
-    let end = node-within-fault limit _ _ _ (bits-node (a .book .now .now) (a .cursor .at) (c .before .before .before .before .before .before .before .pre .1 .0 .1)) node in
+    let node = sym (rw (c .before .offset .given .1) at (c3 .node .ensures .0)) in
+    let end = node-within-fault limit _ _ _ (bits-node (a .book .now .now) (a .cursor .at) (c7 .pre .1 .0 .1)) node in
     omega (arith, end)
 
 read-terms-enum-known-word : (t : ℕ) → read-terms-lts.Need-enum-known-word (
@@ -202,10 +205,13 @@ read-terms-number-requires-4 : (t : ℕ) → read-terms-lts.Need-number-requires
   read-terms.Post,
 ) (read-terms-at t) read-terms.Post
 read-terms-number-requires-4 t c κs =
-    let a = c .before .before .before .before .before .before .before .before .before .before .args in
+    let c4 = c .before .before .before .before in
+    let c6 = c4 .before .before in
+    let c10 = c6 .before .before .before .before in
+    let a = c10 .args in
     let limit = 8 * length (a .book .now .now) in
-    let node = sym (rw (c .before .before .before .before .word .given .1) at (c .before .before .before .before .before .before .node .ensures .0)) in
-    let end = node-within-got limit _ _ _ (bits-node (a .book .now .now) (a .cursor .at) (c .before .before .before .before .before .before .before .before .before .before .pre .1 .0 .1)) node in
+    let node = sym (rw (c4 .word .given .1) at (c6 .node .ensures .0)) in
+    let end = node-within-got limit _ _ _ (bits-node (a .book .now .now) (a .cursor .at) (c10 .pre .1 .0 .1)) node in
     omega (arith, end .0)
 
 read-terms-returns-3 : (t : ℕ) → read-terms-lts.Need-returns-3 (
@@ -219,17 +225,22 @@ read-terms-returns-3 : (t : ℕ) → read-terms-lts.Need-returns-3 (
   read-terms.Post,
 ) (read-terms-at t) read-terms.Post
 read-terms-returns-3 t c =
-    let a = c .before .before .before .before .before .before .before .before .before .before .before .args in
+    let c3 = c .before .before .before in
+    let c5 = c3 .before .before in
+    let c7 = c5 .before .before in
+    let c11 = c7 .before .before .before .before in
+    let a = c11 .args in
     let limit = 8 * length (a .book .now .now) in
-    let node = sym (rw (c .before .before .before .before .before .word .given .1) at (c .before .before .before .before .before .before .before .node .ensures .0)) in
-    let end = node-within-got limit _ _ _ (bits-node (a .book .now .now) (a .cursor .at) (c .before .before .before .before .before .before .before .before .before .before .before .pre .1 .0 .1)) node in
+    let node = sym (rw (c5 .word .given .1) at (c7 .node .ensures .0)) in
+    let end = node-within-got limit _ _ _ (bits-node (a .book .now .now) (a .cursor .at) (c11 .pre .1 .0 .1)) node in
     let source = bitSource (a .book .now .now) in
-    let fits = rw (c .before .before .before .before .before .word .given .1) at (c .before .before .before .before .before .before .before .node .ensures .1) in (
+    let fits = rw (c5 .word .given .1) at (c7 .node .ensures .1) in (
       λ σ k. answers-fault source σ (a .count) (a .owed) (a .cursor .at) (a .words .now) _ _ noSuchSymbol _
-          (node-unknown source σ (a .arities .now) k (128 - a .count) (a .owed) (a .cursor .at) (omega arith) (omega arith) _ _ node fits
-          (sym (c .before .before .before .cell-at .ensures .0) ∙ c .before .before .if3 .taken))
+          (node-unknown source σ (a .arities .now) k (128 - a .count) (a .owed) (a .cursor .at) (omega arith) (omega
+          arith) _ _ node fits
+          (sym (c3 .cell-at .ensures .0) ∙ c .before .before .if3 .taken))
           (omega arith) (omega arith) (c .number4 .ensures),
-      (omega (arith, c .number4 .ensures, end .0), simp length-set (c .before .before .before .before .before .before .before .before .before .before .before .pre .1 .1 .2)),
+      (omega (arith, c .number4 .ensures, end .0), simp length-set (c11 .pre .1 .1 .2)),
     )
 
 read-terms-add-read-terms : (t : ℕ) → read-terms-lts.Need-add-read-terms (
@@ -279,10 +290,12 @@ read-terms-add-read-terms-2 : (t : ℕ) → read-terms-lts.Need-add-read-terms-2
   read-terms.Post,
 ) (read-terms-at t) read-terms.Post
 read-terms-add-read-terms-2 t c =
+    let c10 = c .before .before .before .before .before .before .before .before .before .before in
     omega (
       arith,
-      owed-fits (c .before .before .cell-at .result) (c .before .before .before .before .before .before .before .before .before .before .args .owed) (c .before .before .before .before .before .before .before .before .before .before .args .count) (omega arith) (c .before .before .cell-at .ensures .1)
-          (omega arith) (omega arith) (c .before .before .before .before .before .before .before .before .before .before .pre .1 .1 .1) .0,
+      owed-fits (c .before .before .cell-at .result) (c10 .args .owed) (c10 .args .count) (omega arith) (c .before
+          .before .cell-at .ensures .1)
+          (omega arith) (omega arith) (c10 .pre .1 .1 .1) .0,
     )
 
 read-terms-read-terms-requires : (t : ℕ) → read-terms-lts.Need-read-terms-requires (
@@ -296,14 +309,19 @@ read-terms-read-terms-requires : (t : ℕ) → read-terms-lts.Need-read-terms-re
   read-terms.Post,
 ) (read-terms-at t) read-terms.Post
 read-terms-read-terms-requires t c κs =
-    let a = c .before .before .before .before .before .before .before .before .before .before .args in
+    let c4 = c .before .before .before .before in
+    let c6 = c4 .before .before in
+    let c8 = c6 .before .before in
+    let c10 = c8 .before .before in
+    let a = c10 .args in
     let limit = 8 * length (a .book .now .now) in
-    let node = sym (rw (c .before .before .before .before .word .given .1) at (c .before .before .before .before .before .before .node .ensures .0)) in
-    let end = node-within-got limit _ _ _ (bits-node (a .book .now .now) (a .cursor .at) (c .before .before .before .before .before .before .before .before .before .before .pre .1 .0 .1)) node in
-    let fits = owed-fits (c .before .before .cell-at .result) (c .before .before .before .before .before .before .before .before .before .before .args .owed) (c .before .before .before .before .before .before .before .before .before .before .args .count) (omega arith) (c .before .before .cell-at .ensures .1)
-    (omega arith) (omega arith) (c .before .before .before .before .before .before .before .before .before .before .pre .1 .1 .1) .1 in
-    let fewer = fewer-allowed (a .count) t (c .before .before .before .before .before .before .before .before .before .before .pre .1 .1 .0) (c .before .before .before .before .before .before .before .before .if2 .left) (c .before .before .before .before .before .before .before .before .before .before .pre .0) in
-    (fewer .0, ((c .before .before .before .before .before .before .before .before .before .before .pre .1 .0 .0, end .1), (fewer .1, fits, simp length-set (c .before .before .before .before .before .before .before .before .before .before .pre .1 .1 .2))))
+    let node = sym (rw (c4 .word .given .1) at (c6 .node .ensures .0)) in
+    let end = node-within-got limit _ _ _ (bits-node (a .book .now .now) (a .cursor .at) (c10 .pre .1 .0 .1)) node in
+    let fits = owed-fits (c .before .before .cell-at .result) (c10 .args .owed) (c10 .args .count) (omega arith) (c
+    .before .before .cell-at .ensures .1)
+    (omega arith) (omega arith) (c10 .pre .1 .1 .1) .1 in
+    let fewer = fewer-allowed (a .count) t (c10 .pre .1 .1 .0) (c8 .if2 .left) (c10 .pre .0) in
+    (fewer .0, ((c10 .pre .1 .0 .0, end .1), (fewer .1, fits, simp length-set (c10 .pre .1 .1 .2))))
 
 read-terms-returns-4 : (t : ℕ) → read-terms-lts.Need-returns-4 (
   number-reads.Asked,
@@ -316,15 +334,17 @@ read-terms-returns-4 : (t : ℕ) → read-terms-lts.Need-returns-4 (
   read-terms.Post,
 ) (read-terms-at t) read-terms.Post
 read-terms-returns-4 t c =
-    let a = c .before .before .before .before .before .before .before .before .args in
+    let c4 = c .before .before .before .before in
+    let c8 = c4 .before .before .before .before in
+    let a = c8 .args in
     let limit = 8 * length (a .book .now .now) in
-    let node = sym (rw (c .before .before .offset .given .1) at (c .before .before .before .before .node .ensures .0)) in
-    let end = node-within-fault limit _ _ _ (bits-node (a .book .now .now) (a .cursor .at) (c .before .before .before .before .before .before .before .before .pre .1 .0 .1)) node in
+    let node = sym (rw (c .before .before .offset .given .1) at (c4 .node .ensures .0)) in
+    let end = node-within-fault limit _ _ _ (bits-node (a .book .now .now) (a .cursor .at) (c8 .pre .1 .0 .1)) node in
     let source = bitSource (a .book .now .now) in (
       λ σ k. answers-fault source σ (a .count) (a .owed) (a .cursor .at) (a .words .now) _ _ fieldMissing _
           (node-fault source σ (128 - a .count) (a .owed) (a .cursor .at) (omega arith) (omega arith) _ _ node)
           (omega arith) (omega arith) (c .number3 .ensures),
-      (omega (arith, c .number3 .ensures, end), c .before .before .before .before .before .before .before .before .pre .1 .1 .2),
+      (omega (arith, c .number3 .ensures, end), c8 .pre .1 .1 .2),
     )
 
 read-terms-returns-5 : (t : ℕ) → read-terms-lts.Need-returns-5 (
@@ -338,17 +358,22 @@ read-terms-returns-5 : (t : ℕ) → read-terms-lts.Need-returns-5 (
   read-terms.Post,
 ) (read-terms-at t) read-terms.Post
 read-terms-returns-5 t c =
-    let a = c .before .before .before .before .before .before .before .before .before .before .before .args in
+    let c3 = c .before .before .before in
+    let c5 = c3 .before .before in
+    let c7 = c5 .before .before in
+    let c11 = c7 .before .before .before .before in
+    let a = c11 .args in
     let limit = 8 * length (a .book .now .now) in
-    let node = sym (rw (c .before .before .before .before .before .word .given .1) at (c .before .before .before .before .before .before .before .node .ensures .0)) in
-    let end = node-within-got limit _ _ _ (bits-node (a .book .now .now) (a .cursor .at) (c .before .before .before .before .before .before .before .before .before .before .before .pre .1 .0 .1)) node in
+    let node = sym (rw (c5 .word .given .1) at (c7 .node .ensures .0)) in
+    let end = node-within-got limit _ _ _ (bits-node (a .book .now .now) (a .cursor .at) (c11 .pre .1 .0 .1)) node in
     let source = bitSource (a .book .now .now) in
-    let fits = rw (c .before .before .before .before .before .word .given .1) at (c .before .before .before .before .before .before .before .node .ensures .1) in
-    let some : 0 < getD (a .arities .now) (c .before .before .before .before .before .word .given .0 .0) 0 = omega (arith, c .before .before .before .cell-at .ensures .0) in (
+    let fits = rw (c5 .word .given .1) at (c7 .node .ensures .1) in
+    let some : 0 < getD (a .arities .now) (c5 .word .given .0 .0) 0 = omega (arith, c3 .cell-at .ensures .0) in (
       λ σ k. answers-before source σ (a .count) (a .owed) (a .cursor .at) (a .words .now) _ _ _ _ _
-          (node-read source σ (a .arities .now) k (128 - a .count) (a .owed) (a .cursor .at) (omega arith) (omega arith) _ _ node fits
+          (node-read source σ (a .arities .now) k (128 - a .count) (a .owed) (a .cursor .at) (omega arith) (omega
+          arith) _ _ node fits
           some)
-          (rw (c .before .before .before .cell-at .ensures .0) at (c .read-terms .ensures .0 σ k)),
+          (rw (c3 .cell-at .ensures .0) at (c .read-terms .ensures .0 σ k)),
       c .read-terms .ensures .1,
     )
 

@@ -63,9 +63,8 @@ long-requires c κs = search needs
 
 put-rule-requires : tie.Need-put-rule-requires Inv-loop μ-loop
 put-rule-requires c κs =
-    let c3 = c .before .before .before in
-    let c5 = c3 .before .before in
-    let within = rw (c3 .rule .given .1) at (c5 .orient .ensures .1) in
+    let within = rw (c .before .before .before .rule .given .1) at (c .before .before .before .before .before .orient
+    .ensures .1) in
     omega (arith, within .0, within .1, c .long .ensures .1)
 
 decreases-requires : tie.Need-decreases-requires Inv-loop μ-loop

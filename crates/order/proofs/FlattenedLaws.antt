@@ -1,7 +1,8 @@
 -- The mark of two flattenings, by the verdicts on their high and on their low parts.
---     flat-four, flat-none, flat-five, flat-fewer, flat-six, flat-level   each way that it is decided
---     parted-few, joined-offsets                                          the joined high part
---     high-of, low-of, high-nodes, low-nodes                              the verdicts by offsets, and what falls
+--     flat-four, -none, -five, -fewer, -six, -level      each way that it is decided
+--     parted-few, joined-offsets                         the joined high part
+--     high-of, low-of, high-nodes, low-nodes             the verdicts by offsets, and what falls
+--     parts-four, -none, -five, -fewer, -six, -level     each way, by offsets
 use mathlib.Core.List.{List, _++_}
 use mathlib.Core.Path.{_≡_, refl, sym, ap₂, _∙_}
 use mathlib.Core.Bool.{Bool, true, false, cond, false≢true}
@@ -63,11 +64,11 @@ module _ (table : List ℕ) (f : ℕ) (ss ts : List Term) where
   abbrev lowE : Bool
   lowE = multisetEqual (isEquivalent σ) (lowPart σ f ss) (lowPart σ f ts)
 
-  pub flat-four : highVerdict table f ss ts ≡ 2 → 4 ≡ flat
+  flat-four : highVerdict table f ss ts ≡ 2 → 4 ≡ flat
   unfolding verdict flattenedMark
   flat-four h = rw (pick-two highG highE h)
 
-  pub flat-none : highVerdict table f ss ts ≡ 0 → 0 ≡ flat
+  flat-none : highVerdict table f ss ts ≡ 0 → 0 ≡ flat
   unfolding verdict flattenedMark
   flat-none h = let p = pick-none highG highE h in rw (p .0, p .1)
 
@@ -80,18 +81,18 @@ module _ (table : List ℕ) (f : ℕ) (ss ts : List Term) where
     unfolding verdict
     high-same = pick-one highG highE k high-less
 
-    pub flat-five : length ts < length ss → 5 ≡ flat
+    flat-five : length ts < length ss → 5 ≡ flat
     unfolding flattenedMark
     flat-five l = rw (high-less, high-same, lt-ltb (length ts) (length ss) l)
 
-    pub flat-fewer : length ss < length ts → 0 ≡ flat
+    flat-fewer : length ss < length ts → 0 ≡ flat
     unfolding flattenedMark
     flat-fewer l =
         let z : length ts ≡ length ss → ⊥ = λ e. omega arith in
         rw (high-less, high-same, le-ltb (length ts) (length ss) (omega arith), ne-eqb (length ts) (length ss) z)
 
     module _ (l : length ts ≡ length ss) where
-      pub flat-six : lowVerdict table f ss ts ≡ 2 → 6 ≡ flat
+      flat-six : lowVerdict table f ss ts ≡ 2 → 6 ≡ flat
       unfolding flattenedMark verdict
       flat-six v =
           rw (
@@ -102,7 +103,7 @@ module _ (table : List ℕ) (f : ℕ) (ss ts : List Term) where
             pick-two lowG lowE v,
           )
 
-      pub flat-level : (lowVerdict table f ss ts ≡ 2 → ⊥) → 0 ≡ flat
+      flat-level : (lowVerdict table f ss ts ≡ 2 → ⊥) → 0 ≡ flat
       unfolding flattenedMark verdict
       flat-level v =
           rw (
@@ -133,7 +134,7 @@ module _ (table : List ℕ) {f : ℕ} {s t : List ℕ} {ss ts : List Term} {sh s
   module _ {out : List ℕ} {r : ℕ}
       (J : Offsets (signatureOf table) t out r (joinedHigh (signatureOf table) (isEquivalent (signatureOf table)) f ss
       ts)) where
-    pub high-of : {c : ℕ} → c ≡ verdict table (termsAt table s sh a) (termsAt table t out r) → c ≡ highVerdict table f
+    high-of : {c : ℕ} → c ≡ verdict table (termsAt table s sh a) (termsAt table t out r) → c ≡ highVerdict table f
         ss ts
     high-of h = h ∙ ap₂ (verdict table) (A .high .there) (J .there)
 
@@ -142,7 +143,7 @@ module _ (table : List ℕ) {f : ℕ} {s t : List ℕ} {ss ts : List Term} {sh s
         rw (A .high .there, J .there)
         (omega (arith, choose-sum size (rootAbove (signatureOf table) f) ss, joined-sum (signatureOf table) f ss ts))
 
-  pub low-of : {c : ℕ} → c ≡ verdict table (termsAt table s sl b) (termsAt table t tl b') → c ≡ lowVerdict table f ss ts
+  low-of : {c : ℕ} → c ≡ verdict table (termsAt table s sl b) (termsAt table t tl b') → c ≡ lowVerdict table f ss ts
   low-of h = h ∙ ap₂ (verdict table) (A .low .there) (B .low .there)
 
   pub low-nodes : sum size (termsAt table s sl b) + sum size (termsAt table t tl b') ≤ sum size ss + sum size ts
@@ -153,3 +154,41 @@ module _ (table : List ℕ) {f : ℕ} {s t : List ℕ} {ss ts : List Term} {sh s
         choose-sum size (rootBelow (signatureOf table) f) ss,
         choose-sum size (rootBelow (signatureOf table) f) ts,
       ))
+
+-- ---- each way that the mark is decided, by the offsets
+
+module _ (table : List ℕ) {f : ℕ} {s t : List ℕ} {ss ts : List Term} {sh sl sv th tl tv : List ℕ}
+    {a b v m a' b' v' m' : ℕ}
+    (A : Parted (signatureOf table) f s ss sh sl sv a b v m)
+    (B : Parted (signatureOf table) f t ts th tl tv a' b' v' m') {out : List ℕ} {r : ℕ}
+    (J : Offsets (signatureOf table) t out r (termsAt table t th a' ++ leftAt table s sv v t tv v' .right))
+    {c : ℕ} (h : c ≡ verdict table (termsAt table s sh a) (termsAt table t out r)) where
+  high : c ≡ highVerdict table f ss ts
+  high = high-of table A B (joined-offsets table A B J) h
+
+  pub parts-four : c ≡ 2 → 4 ≡ flat table f ss ts
+  parts-four e = flat-four table f ss ts (sym high ∙ e)
+
+  pub parts-none : c ≡ 0 → 0 ≡ flat table f ss ts
+  parts-none e = flat-none table f ss ts (sym high ∙ e)
+
+  module _ (p : c ≡ 2 → ⊥) (q : c ≡ 0 → ⊥) where
+    pub parts-five : m' < m → 5 ≡ flat table f ss ts
+    parts-five l =
+        flat-five table f ss ts (λ z. p (high ∙ z)) (λ z. q (high ∙ z)) (omega (arith, A .whole, B .whole))
+
+    pub parts-fewer : m < m' → 0 ≡ flat table f ss ts
+    parts-fewer l =
+        flat-fewer table f ss ts (λ z. p (high ∙ z)) (λ z. q (high ∙ z)) (omega (arith, A .whole, B .whole))
+
+    module _ (l : m ≤ m') (k : m' ≤ m) {d : ℕ} (e : d ≡ verdict table (termsAt table s sl b) (termsAt table t tl b'))
+      where
+        pub parts-six : d ≡ 2 → 6 ≡ flat table f ss ts
+        parts-six g =
+            flat-six table f ss ts (λ z. p (high ∙ z)) (λ z. q (high ∙ z)) (omega (arith, A .whole, B .whole))
+            (sym (low-of table A B e) ∙ g)
+
+        pub parts-level : (d ≡ 2 → ⊥) → 0 ≡ flat table f ss ts
+        parts-level g =
+            flat-level table f ss ts (λ z. p (high ∙ z)) (λ z. q (high ∙ z)) (omega (arith, A .whole, B .whole))
+            (λ z. g (low-of table A B e ∙ z))

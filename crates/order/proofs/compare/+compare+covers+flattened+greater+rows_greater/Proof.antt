@@ -38,7 +38,7 @@ use borrow.Author.Count.{below-more}
 use lib.Dec.{ltb}
 use lib.ListN.{getD}
 use Rattle.symbols.specs.Table.{signatureOf}
-use Rattle.equivalence.specs.Parts.{partAt, elementsAt}
+use Rattle.equivalence.specs.Parts.{partAt}
 use Rattle.equivalence.specs.Offsets.{termsAt}
 use Rattle.equivalence.proofs.OffsetLaws.{offsets-own}
 use Rattle.equivalence.proofs.StepLaws.{step-next}
@@ -48,8 +48,8 @@ use Rattle.order.proofs.MeasureLaws.{elements-sum, offset-size, inner-t
 use Rattle.order.proofs.MeasureLaws.{partNodes, rowNodes, offsetNodes}
 use Rattle.order.proofs.CoverLaws.{someAbove, above-none, above-at, covered-all, covered-not, left-sum}
 use Rattle.order.proofs.CoverLaws.{verdict-equal, verdict-short, verdict-above, verdict-not}
-use Rattle.order.proofs.FlattenedLaws.{flat-four, flat-none, flat-five, flat-fewer, flat-six, flat-level}
-use Rattle.order.proofs.FlattenedLaws.{parted-few, joined-offsets, high-of, low-of, high-nodes, low-nodes}
+use Rattle.order.proofs.FlattenedLaws.{parts-four, parts-none, parts-five, parts-fewer, parts-six, parts-level}
+use Rattle.order.proofs.FlattenedLaws.{parted-few, joined-offsets, high-nodes, low-nodes}
 use Rattle.order.proofs.RootLaws.{RowsGoing, lex-none, lex-here, lex-more, positive, root-variable}
 use Rattle.order.proofs.RootLaws.{root-differing, root-elements, root-rows}
 use Rattle.order.proofs.GreaterLaws.{greater-oftener, greater-lighter, greater-heavier, greater-level}
@@ -300,65 +300,46 @@ flattened-compare-requires t c κs =
 
 flattened-returns : (t : ℕ) → flattened-lts.Need-returns (flattened-claims t) (flattened-at t) flattened.Post
 flattened-returns t c =
-    let a = c .before .before .before .before .before .before .before .before .before .before .before .before .before
-    .before .before .before .args in
-    let T = a .table .now .now in
-    let σ = signatureOf T in
-    let A = c .before .before .before .before .before .before .before .before .before .before .before .before .parts
-    .ensures in
-    let B = c .before .before .before .before .before .before .before .before .parts2 .ensures in
-    let J = joined-offsets T A B (c .before .before .before .before .join-surplus .ensures) in
-    flat-four T (a .f) (elementsAt σ (a .f) (a .s .now .now) (a .i) (a .n))
-    (elementsAt σ (a .f) (a .t .now .now) (a .j) (a .n))
-    (sym (high-of T A B J (c .before .compare .ensures)) ∙ c .if1 .taken)
+    parts-four
+    (c .before .before .before .before .before .before .before .before .before .before .before .before .before .before
+    .before .before .args .table .now .now)
+    (c .before .before .before .before .before .before .before .before .before .before .before .before .parts .ensures)
+    (c .before .before .before .before .before .before .before .before .parts2 .ensures)
+    (c .before .before .before .before .join-surplus .ensures)
+    (c .before .compare .ensures) (c .if1 .taken)
 
 flattened-returns-2 : (t : ℕ) → flattened-lts.Need-returns-2 (flattened-claims t) (flattened-at t) flattened.Post
 flattened-returns-2 t c =
-    let a = c .before .before .before .before .before .before .before .before .before .before .before .before .before
-    .before .before .before .before .args in
-    let T = a .table .now .now in
-    let σ = signatureOf T in
-    let A = c .before .before .before .before .before .before .before .before .before .before .before .before .before
-    .parts .ensures in
-    let B = c .before .before .before .before .before .before .before .before .before .parts2 .ensures in
-    let J = joined-offsets T A B (c .before .before .before .before .before .join-surplus .ensures) in
-    flat-none T (a .f) (elementsAt σ (a .f) (a .s .now .now) (a .i) (a .n))
-    (elementsAt σ (a .f) (a .t .now .now) (a .j) (a .n))
-    (sym (high-of T A B J (c .before .before .compare .ensures)) ∙ c .if2 .taken)
+    parts-none
+    (c .before .before .before .before .before .before .before .before .before .before .before .before .before .before
+    .before .before .before .args .table .now .now)
+    (c .before .before .before .before .before .before .before .before .before .before .before .before .before .parts
+    .ensures) (c .before .before .before .before .before .before .before .before .before .parts2 .ensures)
+    (c .before .before .before .before .before .join-surplus .ensures)
+    (c .before .before .compare .ensures) (c .if2 .taken)
 
 flattened-returns-3 : (t : ℕ) → flattened-lts.Need-returns-3 (flattened-claims t) (flattened-at t) flattened.Post
 flattened-returns-3 t c =
-    let a = c .before .before .before .before .before .before .before .before .before .before .before .before .before
-    .before .before .before .before .before .args in
-    let T = a .table .now .now in
-    let σ = signatureOf T in
-    let A = c .before .before .before .before .before .before .before .before .before .before .before .before .before
-    .before .parts .ensures in
-    let B = c .before .before .before .before .before .before .before .before .before .before .parts2 .ensures in
-    let v = high-of T A B (joined-offsets T A B
-    (c .before .before .before .before .before .before .join-surplus .ensures))
-    (c .before .before .before .compare .ensures) in
-    flat-five T (a .f) (elementsAt σ (a .f) (a .s .now .now) (a .i) (a .n))
-    (elementsAt σ (a .f) (a .t .now .now) (a .j) (a .n))
-    (λ z. c .before .before .if1 .left (v ∙ z)) (λ z. c .before .if2 .left (v ∙ z)) (omega (arith, A .whole, B .whole))
+    parts-five
+    (c .before .before .before .before .before .before .before .before .before .before .before .before .before .before
+    .before .before .before .before .args .table .now .now)
+    (c .before .before .before .before .before .before .before .before .before .before .before .before .before .before
+    .parts .ensures)
+    (c .before .before .before .before .before .before .before .before .before .before .parts2 .ensures)
+    (c .before .before .before .before .before .before .join-surplus .ensures)
+    (c .before .before .before .compare .ensures) (c .before .before .if1 .left) (c .before .if2 .left) (c .if3 .taken)
 
 flattened-returns-4 : (t : ℕ) → flattened-lts.Need-returns-4 (flattened-claims t) (flattened-at t) flattened.Post
 flattened-returns-4 t c =
-    let a = c .before .before .before .before .before .before .before .before .before .before .before .before .before
-    .before .before .before .before .before .before .args in
-    let T = a .table .now .now in
-    let σ = signatureOf T in
-    let A = c .before .before .before .before .before .before .before .before .before .before .before .before .before
-    .before .before .parts .ensures in
-    let B = c .before .before .before .before .before .before .before .before .before .before .before .parts2 .ensures
-    in
-    let v = high-of T A B (joined-offsets T A B
-    (c .before .before .before .before .before .before .before .join-surplus .ensures))
-    (c .before .before .before .before .compare .ensures) in
-    flat-fewer T (a .f) (elementsAt σ (a .f) (a .s .now .now) (a .i) (a .n))
-    (elementsAt σ (a .f) (a .t .now .now) (a .j) (a .n))
-    (λ z. c .before .before .before .if1 .left (v ∙ z)) (λ z. c .before .before .if2 .left (v ∙ z)) (omega
-    (arith, A .whole, B .whole))
+    parts-fewer
+    (c .before .before .before .before .before .before .before .before .before .before .before .before .before .before
+    .before .before .before .before .before .args .table .now .now)
+    (c .before .before .before .before .before .before .before .before .before .before .before .before .before .before
+    .before .parts .ensures)
+    (c .before .before .before .before .before .before .before .before .before .before .before .parts2 .ensures)
+    (c .before .before .before .before .before .before .before .join-surplus .ensures)
+    (c .before .before .before .before .compare .ensures) (c .before .before .before .if1 .left)
+    (c .before .before .if2 .left) (c .if4 .taken)
 
 flattened-compare-requires-2 : (t : ℕ) → flattened-lts.Need-compare-requires-2 (flattened-claims t) (flattened-at t)
     flattened.Post
@@ -381,41 +362,35 @@ flattened-compare-requires-2 t c κs =
 
 flattened-returns-5 : (t : ℕ) → flattened-lts.Need-returns-5 (flattened-claims t) (flattened-at t) flattened.Post
 flattened-returns-5 t c =
-    let a = c .before .before .before .before .before .before .before .before .before .before .before .before .before
-    .before .before .before .before .before .before .before .before .before .before .args in
-    let T = a .table .now .now in
-    let σ = signatureOf T in
-    let A = c .before .before .before .before .before .before .before .before .before .before .before .before .before
-    .before .before .before .before .before .before .parts .ensures in
-    let B = c .before .before .before .before .before .before .before .before .before .before .before .before .before
-    .before .before .parts2 .ensures in
-    let v = high-of T A B (joined-offsets T A B
-    (c .before .before .before .before .before .before .before .before .before .before .before .join-surplus .ensures))
-    (c .before .before .before .before .before .before .before .before .compare .ensures) in
-    flat-six T (a .f) (elementsAt σ (a .f) (a .s .now .now) (a .i) (a .n))
-    (elementsAt σ (a .f) (a .t .now .now) (a .j) (a .n))
-    (λ z. c .before .before .before .before .before .before .before .if1 .left (v ∙ z))
-    (λ z. c .before .before .before .before .before .before .if2 .left (v ∙ z)) (omega (arith, A .whole, B .whole))
-    (sym (low-of T A B (c .before .compare2 .ensures)) ∙ c .if5 .taken)
+    parts-six
+    (c .before .before .before .before .before .before .before .before .before .before .before .before .before .before
+    .before .before .before .before .before .before .before .before .before .args .table .now .now)
+    (c .before .before .before .before .before .before .before .before .before .before .before .before .before .before
+    .before .before .before .before .before .parts .ensures)
+    (c .before .before .before .before .before .before .before .before .before .before .before .before .before .before
+    .before .parts2 .ensures)
+    (c .before .before .before .before .before .before .before .before .before .before .before .join-surplus .ensures)
+    (c .before .before .before .before .before .before .before .before .compare .ensures)
+    (c .before .before .before .before .before .before .before .if1 .left)
+    (c .before .before .before .before .before .before .if2 .left)
+    (c .before .before .before .before .before .if3 .left) (c .before .before .before .before .if4 .left)
+    (c .before .compare2 .ensures) (c .if5 .taken)
 
 flattened-returns-6 : (t : ℕ) → flattened-lts.Need-returns-6 (flattened-claims t) (flattened-at t) flattened.Post
 flattened-returns-6 t c =
-    let a = c .before .before .before .before .before .before .before .before .before .before .before .before .before
-    .before .before .before .before .before .before .before .before .before .before .args in
-    let T = a .table .now .now in
-    let σ = signatureOf T in
-    let A = c .before .before .before .before .before .before .before .before .before .before .before .before .before
-    .before .before .before .before .before .before .parts .ensures in
-    let B = c .before .before .before .before .before .before .before .before .before .before .before .before .before
-    .before .before .parts2 .ensures in
-    let v = high-of T A B (joined-offsets T A B
-    (c .before .before .before .before .before .before .before .before .before .before .before .join-surplus .ensures))
-    (c .before .before .before .before .before .before .before .before .compare .ensures) in
-    flat-level T (a .f) (elementsAt σ (a .f) (a .s .now .now) (a .i) (a .n))
-    (elementsAt σ (a .f) (a .t .now .now) (a .j) (a .n))
-    (λ z. c .before .before .before .before .before .before .before .if1 .left (v ∙ z))
-    (λ z. c .before .before .before .before .before .before .if2 .left (v ∙ z)) (omega (arith, A .whole, B .whole))
-    (λ z. c .if5 .left (low-of T A B (c .before .compare2 .ensures) ∙ z))
+    parts-level
+    (c .before .before .before .before .before .before .before .before .before .before .before .before .before .before
+    .before .before .before .before .before .before .before .before .before .args .table .now .now)
+    (c .before .before .before .before .before .before .before .before .before .before .before .before .before .before
+    .before .before .before .before .before .parts .ensures)
+    (c .before .before .before .before .before .before .before .before .before .before .before .before .before .before
+    .before .parts2 .ensures)
+    (c .before .before .before .before .before .before .before .before .before .before .before .join-surplus .ensures)
+    (c .before .before .before .before .before .before .before .before .compare .ensures)
+    (c .before .before .before .before .before .before .before .if1 .left)
+    (c .before .before .before .before .before .before .if2 .left)
+    (c .before .before .before .before .before .if3 .left) (c .before .before .before .before .if4 .left)
+    (c .before .compare2 .ensures) (c .if5 .left)
 
 abbrev greater-claims : ℕ → greater-lts.Claims
 greater-claims t = (

@@ -123,9 +123,10 @@ cancels-loop-holds t c =
 cancels-loop-again : (t : ℕ) → cancels-lts.Need-loop-again (cancels-claims t) (cancels-at t) cancels.Post
     cancels-Inv-loop cancels-μ-loop
 cancels-loop-again t c =
-    let h = c .before .before .before .before .before .before .pre .1 in
-    let f = c .before .before .before .before .before .before .args .f in
-    let g = c .before .before .before .before .before .loop .inv in
+    let p = c .before .before .before .before .before in
+    let h = p .before .pre .1 in
+    let f = p .before .args .f in
+    let g = p .loop .inv in
     let own = c .before .before .if1 .taken in
     let n = c .arity .ensures .0 in
     record {
@@ -148,11 +149,10 @@ cancels-partner-requires t c κs = (
 cancels-returns : (t : ℕ) → cancels-lts.Need-returns (cancels-claims t) (cancels-at t) cancels.Post cancels-Inv-loop
     cancels-μ-loop
 cancels-returns t c =
-    let g = c .before .before .before .before .before .before .loop .inv in
-    cancelled-absent (c .before .before .before .before .before .before .before .pre .1 .0)
-    (c .before .before .before .before .before .before .before .args .f) (g .terms)
-    (g .rest) (omega arith) (c .before .before .before .if1 .left) (c .before .partner .ensures)
-    (c .if2 .taken) ∙ g .same
+    let p = c .before .before .before .before .before .before in
+    let g = p .loop .inv in
+    cancelled-absent (p .before .pre .1 .0) (p .before .args .f) (g .terms) (g .rest) (omega arith)
+    (c .before .before .before .if1 .left) (c .before .partner .ensures) (c .if2 .taken) ∙ g .same
 
 cancels-delete-requires : (t : ℕ) → cancels-lts.Need-delete-requires (cancels-claims t) (cancels-at t) cancels.Post
     cancels-Inv-loop cancels-μ-loop
@@ -165,17 +165,17 @@ cancels-delete-requires t c κs = (
 cancels-loop-less-2 : (t : ℕ) → cancels-lts.Need-loop-less-2 (cancels-claims t) (cancels-at t) cancels.Post
     cancels-Inv-loop cancels-μ-loop
 cancels-loop-less-2 t c =
-    let p = step-some
-    (c .before .before .before .before .before .before .before .before .before .before .pre .1 .0 .left)
-    (c .before .before .before .before .before .before .before .before .before .loop .inv .terms) (omega arith) in
+    let q = c .before .before .before .before .before .before .before .before .before in
+    let p = step-some (q .before .pre .1 .0 .left) (q .loop .inv .terms) (omega arith) in
     omega (arith, c .size-at .ensures .0)
 
 cancels-loop-again-2 : (t : ℕ) → cancels-lts.Need-loop-again-2 (cancels-claims t) (cancels-at t) cancels.Post
     cancels-Inv-loop cancels-μ-loop
 cancels-loop-again-2 t c =
-    let h = c .before .before .before .before .before .before .before .before .before .before .pre .1 in
-    let a = c .before .before .before .before .before .before .before .before .before .before .args in
-    let g = c .before .before .before .before .before .before .before .before .before .loop .inv in
+    let q = c .before .before .before .before .before .before in
+    let h = q .before .before .before .before .pre .1 in
+    let a = q .before .before .before .before .args in
+    let g = q .before .before .before .loop .inv in
     let p = c .before .before .before .before .partner .ensures in
     let d = c .before .delete .ensures in
     let w = c .size-at .ensures .0 in
@@ -184,8 +184,7 @@ cancels-loop-again-2 t c =
       terms = step-next (h .0 .left) (g .terms) (omega arith) w;
       rest = removed-offsets (a .table .now .now) _ (g .rest) p (c .before .before .before .if2 .left) _ (d .0) (d .1);
       same = cancelled-more (h .0) (a .f) (g .terms) (g .rest) (omega arith)
-          (c .before .before .before .before .before .before .if1 .left) p (c .before .before .before .if2 .left) _
-          (d .0) w
+          (q .if1 .left) p (c .before .before .before .if2 .left) _ (d .0) w
           refl ∙ g .same;
     }
 
@@ -193,8 +192,8 @@ cancels-returns-2 : (t : ℕ) → cancels-lts.Need-returns-2 (cancels-claims t) 
     cancels-μ-loop
 cancels-returns-2 t c =
     let g = c .before .loop .inv in
-    cancelled-none (c .before .before .pre .1 .0)
-    (c .before .before .args .f) (g .terms) (g .rest) (omega arith) ∙ g .same
+    cancelled-none (c .before .before .pre .1 .0) (c .before .before .args .f) (g .terms) (g .rest) (omega arith) ∙ g
+    .same
 
 abbrev equivalent-claims : ℕ → equivalent-lts.Claims
 equivalent-claims t = (
@@ -211,18 +210,18 @@ equivalent-claims t = (
 equivalent-returns : (t : ℕ) → equivalent-lts.Need-returns (equivalent-claims t) (equivalent-at t) equivalent.Post
 equivalent-returns t c =
     let h = c .before .before .before .pre .1 in
-    equivalent-keys (h .0) (c .before .before .before .args .i) (c .before .before .before .args .j) (h .1 .0)
-    (h .1 .1) (c .if1 .taken)
+    equivalent-keys (h .0) (c .before .before .before .args .i) (c .before .before .before .args .j) (h .1 .0) (h .1 .1)
+    (c .if1 .taken)
 
 equivalent-flattenings-equivalent-requires : (t : ℕ) → equivalent-lts.Need-flattenings-equivalent-requires
     (equivalent-claims t) (equivalent-at t) equivalent.Post
 equivalent-flattenings-equivalent-requires t c κs =
-    let a = c .before .before .before .before .before .before .before .before .before .args in
-    let h = c .before .before .before .before .before .before .before .before .before .pre .1 in
+    let p = c .before .before .before .before .before .before in
+    let a = p .before .before .before .args in
+    let h = p .before .before .before .pre .1 in
     let S = h .0 in
     let n = c .before .before .before .arity .ensures .0 in
-    let e = keys-roots S (a .i) (a .j) (h .1 .0) (h .1 .1)
-    (c .before .before .before .before .before .before .if1 .left) in
+    let e = keys-roots S (a .i) (a .j) (h .1 .0) (h .1 .1) (p .if1 .left) in
     let ac = sym (c .before .is-ac .ensures) ∙ c .if2 .taken in
     let v = ac-small (a .table .now .now) (S .small) _ ac in
     let few = elements-few (a .table .now .now) (S .right) (a .j) _ (S .small) (h .1 .1) (sym e) v (S .binary _ ac) n in
@@ -232,10 +231,10 @@ equivalent-flattenings-equivalent-requires t c κs =
 
 equivalent-returns-2 : (t : ℕ) → equivalent-lts.Need-returns-2 (equivalent-claims t) (equivalent-at t) equivalent.Post
 equivalent-returns-2 t c =
-    let a = c .before .before .before .before .before .before .before .before .before .before .args in
-    let h = c .before .before .before .before .before .before .before .before .before .before .pre .1 in
-    let e = keys-roots (h .0) (a .i) (a .j) (h .1 .0) (h .1 .1)
-    (c .before .before .before .before .before .before .before .if1 .left) in
+    let p = c .before .before .before .before .before .before .before in
+    let a = p .before .before .before .args in
+    let h = p .before .before .before .pre .1 in
+    let e = keys-roots (h .0) (a .i) (a .j) (h .1 .0) (h .1 .1) (p .if1 .left) in
     equivalent-elements (h .0) (a .i) (a .j) (h .1 .0) (h .1 .1) e
     (c .before .before .before .before .arity .ensures .0)
     (sym (c .before .before .is-ac .ensures) ∙ c .before .if2 .taken) (c .flattenings-equivalent .ensures)
@@ -243,20 +242,20 @@ equivalent-returns-2 t c =
 equivalent-rows-equivalent-requires : (t : ℕ) → equivalent-lts.Need-rows-equivalent-requires (equivalent-claims t)
     (equivalent-at t) equivalent.Post
 equivalent-rows-equivalent-requires t c κs =
-    let a = c .before .before .before .before .before .before .before .before .before .args in
-    let h = c .before .before .before .before .before .before .before .before .before .pre .1 in
+    let p = c .before .before .before .before .before .before in
+    let a = p .before .before .before .args in
+    let h = p .before .before .before .pre .1 in
     let n = c .before .before .before .arity .ensures .0 in
-    let e = keys-roots (h .0) (a .i) (a .j) (h .1 .0) (h .1 .1)
-    (c .before .before .before .before .before .before .if1 .left) in
+    let e = keys-roots (h .0) (a .i) (a .j) (h .1 .0) (h .1 .1) (p .if1 .left) in
     let left = inner-left (h .0) (a .i) (a .j) (h .1 .0) (h .1 .1) e n in
     (omega arith, (h .0, (left, inner-right (h .0) (a .i) (a .j) (h .1 .0) (h .1 .1) e n)))
 
 equivalent-returns-3 : (t : ℕ) → equivalent-lts.Need-returns-3 (equivalent-claims t) (equivalent-at t) equivalent.Post
 equivalent-returns-3 t c =
-    let a = c .before .before .before .before .before .before .before .before .before .before .args in
-    let h = c .before .before .before .before .before .before .before .before .before .before .pre .1 in
-    let e = keys-roots (h .0) (a .i) (a .j) (h .1 .0) (h .1 .1)
-    (c .before .before .before .before .before .before .before .if1 .left) in
+    let p = c .before .before .before .before .before .before .before in
+    let a = p .before .before .before .args in
+    let h = p .before .before .before .pre .1 in
+    let e = keys-roots (h .0) (a .i) (a .j) (h .1 .0) (h .1 .1) (p .if1 .left) in
     equivalent-rows (h .0) (a .i) (a .j) (h .1 .0) (h .1 .1) e (c .before .before .before .before .arity .ensures .0)
     (sym (c .before .before .is-ac .ensures) ∙ c .before .if2 .left) (c .rows-equivalent .ensures)
 
@@ -281,8 +280,7 @@ flattenings-equivalent-returns : (t : ℕ) → flattenings-equivalent-lts.Need-r
     (flattenings-equivalent-at t) flattenings-equivalent.Post
 flattenings-equivalent-returns t c =
     let a = c .before .before .before .before .args in
-    c .cancels .ensures
-    ∙ ap (elementsAlike (a .table .now .now) (a .f) (a .s .now .now) (a .i) (a .n))
+    c .cancels .ensures ∙ ap (elementsAlike (a .table .now .now) (a .f) (a .s .now .now) (a .i) (a .n))
     (c .before .before .elements .ensures .there)
 
 abbrev partner-claims : ℕ → partner-lts.Claims
@@ -312,12 +310,12 @@ partner-element-copy-out-if1 t c =
 partner-loop-again : (t : ℕ) → partner-lts.Need-loop-again (partner-claims t) (partner-at t) partner.Post
     partner-Inv-loop partner-μ-loop
 partner-loop-again t c =
-    let h = c .before .before .before .before .before .before .before .pre .1 in
+    let p = c .before .before .before .before .before in
+    let h = p .before .before .pre .1 in
     let e = c .before .before .wide-byte .ensures .0 in
-    let d = equivalent-keys (h .0) (c .before .before .before .before .before .before .before .args .i)
-    (c .before .before .wide-byte .result) (h .1 .0)
+    let d = equivalent-keys (h .0) (p .before .before .args .i) (c .before .before .wide-byte .result) (h .1 .0)
     (rw e (h .1 .1 .inside _ (omega arith))) (λ e. c .if1 .taken (sym e)) in
-    (omega arith, below-more _ _ (c .before .before .before .before .before .loop .inv .1) (rw e at (sym d)))
+    (omega arith, below-more _ _ (p .loop .inv .1) (rw e at (sym d)))
 
 partner-equivalent-requires : (t : ℕ) → partner-lts.Need-equivalent-requires (partner-claims t) (partner-at t)
     partner.Post partner-Inv-loop partner-μ-loop
@@ -383,8 +381,9 @@ rows-equivalent-equivalent-requires t c κs =
 rows-equivalent-loop-again : (t : ℕ) → rows-equivalent-lts.Need-loop-again (rows-equivalent-claims t)
     (rows-equivalent-at t) rows-equivalent.Post rows-equivalent-Inv-loop rows-equivalent-μ-loop
 rows-equivalent-loop-again t c =
-    let h = c .before .before .before .before .before .before .before .pre .1 in
-    let g = c .before .before .before .before .before .loop .inv .1 in
+    let p = c .before .before .before .before .before in
+    let h = p .before .before .pre .1 in
+    let g = p .loop .inv .1 in
     let w = c .before .size-at .ensures .0 in
     let v = c .size-at2 .ensures .0 in
     let e = sym (c .before .before .if2 .taken) ∙ c .before .before .before .equivalent .ensures in (
@@ -419,8 +418,8 @@ rows-equivalent-returns-3 : (t : ℕ) → rows-equivalent-lts.Need-returns-3 (ro
     (rows-equivalent-at t) rows-equivalent.Post rows-equivalent-Inv-loop rows-equivalent-μ-loop
 rows-equivalent-returns-3 t c =
     let g = c .before .before .loop .inv .1 in
-    rows-one (c .before .before .before .before .pre .1 .0) (g .here) (g .there) (omega arith)
-    (c .equivalent2 .ensures) ∙ g .same
+    rows-one (c .before .before .before .before .pre .1 .0) (g .here) (g .there) (omega arith) (c .equivalent2 .ensures)
+    ∙ g .same
 
 pub +cancels+equivalent+flattenings-equivalent+partner+rows-equivalent-spec : {M : Type 1} → statement M
 +cancels+equivalent+flattenings-equivalent+partner+rows-equivalent-spec =

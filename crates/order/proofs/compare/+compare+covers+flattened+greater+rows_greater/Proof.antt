@@ -31,11 +31,10 @@ use Rattle.order.proofs.compare.+compare+covers+flattened+greater+rows_
 use Rattle.order.proofs.compare.+compare+covers+flattened+greater+rows_greater.Tie.{close}
 use native.Mathlib.Omega.{arith}
 use mathlib.Core.Bool.{true, false}
-use mathlib.Core.Path.{_≡_, refl, sym, ap, _∙_}
+use mathlib.Core.Path.{_≡_, refl, sym, _∙_}
 use Prim.Native.Nat.{_+_, _-_, _*_, _≤_}
 use borrow.Author.Needs.{needs}
 use borrow.Author.Count.{below-more}
-use lib.Dec.{ltb}
 use lib.ListN.{getD}
 use Rattle.symbols.specs.Table.{signatureOf}
 use Rattle.equivalence.specs.Parts.{partAt}
@@ -50,10 +49,9 @@ use Rattle.order.proofs.CoverLaws.{someAbove, above-none, above-at, cov
 use Rattle.order.proofs.CoverLaws.{verdict-equal, verdict-short, verdict-above, verdict-not}
 use Rattle.order.proofs.FlattenedLaws.{parts-four, parts-none, parts-five, parts-fewer, parts-six, parts-level}
 use Rattle.order.proofs.FlattenedLaws.{parted-few, joined-offsets, high-nodes, low-nodes}
-use Rattle.order.proofs.RootLaws.{RowsGoing, lex-none, lex-here, lex-more, positive, root-variable}
-use Rattle.order.proofs.RootLaws.{root-differing, root-elements, root-rows}
-use Rattle.order.proofs.GreaterLaws.{greater-oftener, greater-lighter, greater-heavier, greater-level}
-use Rattle.order.proofs.GreaterLaws.{greater-none, greater-precedence}
+use Rattle.order.proofs.RootLaws.{RowsGoing, lex-none, lex-here, lex-more}
+use Rattle.order.proofs.GreaterLaws.{greater-oftener, at-lighter, at-heavier, at-higher, at-not-higher}
+use Rattle.order.proofs.GreaterLaws.{at-variable, at-elements, at-rows}
 
 abbrev μ-compare : Measures 12 compare-kinds.ps ℕ
 μ-compare κs a =
@@ -135,8 +133,9 @@ compare-returns-2 t c =
 
 compare-covers-requires : (t : ℕ) → compare-lts.Need-covers-requires (compare-claims t) (compare-at t) compare.Post
 compare-covers-requires t c κs =
-    let a = c .before .before .before .before .before .before .args in
-    let (m, h) = c .before .before .before .before .before .before .pre in
+    let p = c .before .before .before .before .before .before in
+    let a = p .args in
+    let (m, h) = p .pre in
     let e = c .before .before .before .cancel .ensures in
     let T = a .table .now .now in
     let S = a .s .now .now in
@@ -147,17 +146,19 @@ compare-covers-requires t c κs =
 
 compare-returns-3 : (t : ℕ) → compare-lts.Need-returns-3 (compare-claims t) (compare-at t) compare.Post
 compare-returns-3 t c =
-    let a = c .before .before .before .before .before .before .before .before .args in
+    let p = c .before .before .before .before .before in
+    let a = p .before .before .before .args in
     let T = a .table .now .now in
-    let e = c .before .before .before .before .before .cancel .ensures in
+    let e = p .cancel .ensures in
     verdict-above T (termsAt T (a .s .now .now) (a .ps .now) (a .n)) (termsAt T (a .t .now .now) (a .qs .now) (a .m))
     (e .0) (e .1) (c .before .before .before .before .if1 .left) (sym (c .if3 .taken) ∙ c .before .covers .ensures)
 
 compare-returns-4 : (t : ℕ) → compare-lts.Need-returns-4 (compare-claims t) (compare-at t) compare.Post
 compare-returns-4 t c =
-    let a = c .before .before .before .before .before .before .before .before .args in
+    let p = c .before .before .before .before .before in
+    let a = p .before .before .before .args in
     let T = a .table .now .now in
-    let e = c .before .before .before .before .before .cancel .ensures in
+    let e = p .cancel .ensures in
     verdict-not T (termsAt T (a .s .now .now) (a .ps .now) (a .n)) (termsAt T (a .t .now .now) (a .qs .now) (a .m))
     (e .0) (e .1) (c .before .before .before .before .if1 .left) (sym (c .if3 .left) ∙ c .before .covers .ensures)
 
@@ -189,21 +190,22 @@ covers-left-holds t c = (omega arith, λ y h. absurd (omega arith))
 covers-returns : (t : ℕ) → covers-lts.Need-returns (covers-claims t) (covers-at t) covers.Post covers-Inv-left
     covers-μ-left covers-Inv-right covers-μ-right
 covers-returns t c =
-    let a = c .before .before .before .before .before .before .args in
-    let h = c .before .before .before .before .before .before .pre .1 in
+    let p = c .before .before .before .before .before in
+    let a = p .before .args in
+    let h = p .before .pre .1 in
     let T = a .table .now .now in
     let none = above-none T (h .1 .0) (a .t .now .now) (c .before .before .wide-byte .result)
     (λ y l. c .before .left .inv .1 y (omega arith)) in
-    covered-not T (a .s .now .now) (a .ps .now) (a .n) (h .1 .1) (c .before .before .before .before .before .right .k)
-    (omega arith)
+    covered-not T (a .s .now .now) (a .ps .now) (a .n) (h .1 .1) (p .right .k) (omega arith)
     (rw (c .before .before .wide-byte .ensures .0) at none)
 
 covers-greater-requires : (t : ℕ) → covers-lts.Need-greater-requires (covers-claims t) (covers-at t) covers.Post
     covers-Inv-left covers-μ-left covers-Inv-right covers-μ-right
 covers-greater-requires t c κs =
-    let (m, h) = c .before .before .before .before .before .before .before .before .pre in
+    let p = c .before .before .before .before .before .before .before in
+    let (m, h) = p .before .pre in
     let x = c .before .before .before .left .x in
-    let k = c .before .before .before .before .before .before .before .right .k in
+    let k = p .right .k in
     rw (c .before .before .before .before .wide-byte .ensures .0, c .wide-byte2 .ensures .0) (
       omega (arith, m, offset-size (h .1 .0) x (omega arith), offset-size (h .1 .1) k (omega arith)),
       (h .0, (h .1 .0 .inside x (omega arith), h .1 .1 .inside k (omega arith))),
@@ -220,16 +222,16 @@ covers-left-again t c = (
 covers-right-again : (t : ℕ) → covers-lts.Need-right-again (covers-claims t) (covers-at t) covers.Post covers-Inv-left
     covers-μ-left covers-Inv-right covers-μ-right
 covers-right-again t c =
-    let a = c .before .before .before .before .before .before .before .before .before .before .args in
-    let h = c .before .before .before .before .before .before .before .before .before .before .pre .1 in
-    let j = c .before .before .before .before .before .before .wide-byte .result in
+    let p = c .before .before .before .before .before in
+    let q = p .before .before .before .before .before in
+    let a = q .args in
+    let h = q .pre .1 in
+    let j = p .before .wide-byte .result in
     let g = rw (c .before .before .wide-byte2 .ensures .0) at (sym (c .before .greater .ensures) ∙ c .if2 .taken) in
-    let above = above-at (a .table .now .now) (h .1 .0) (a .t .now .now) j
-    (c .before .before .before .before .before .left .x) (omega arith) g in (
+    let above = above-at (a .table .now .now) (h .1 .0) (a .t .now .now) j (p .left .x) (omega arith) g in (
       omega arith,
-      below-more _ _
-          (c .before .before .before .before .before .before .before .before .before .right .inv .1) (rw
-          (c .before .before .before .before .before .before .wide-byte .ensures .0) at above),
+      below-more _ _ (p .before .before .before .before .right .inv .1) (rw
+          (p .before .wide-byte .ensures .0) at above),
     )
 
 covers-returns-2 : (t : ℕ) → covers-lts.Need-returns-2 (covers-claims t) (covers-at t) covers.Post covers-Inv-left
@@ -264,11 +266,12 @@ flattened-parts-requires-2 t c κs =
 flattened-join-surplus-requires : (t : ℕ) → flattened-lts.Need-join-surplus-requires (flattened-claims t)
     (flattened-at t) flattened.Post
 flattened-join-surplus-requires t c κs =
-    let a = c .before .before .before .before .before .before .before .before .before .before .before .args in
-    let h = c .before .before .before .before .before .before .before .before .before .before .before .pre .1 in
+    let p = c .before .before .before .before .before .before .before in
+    let a = p .before .before .before .before .args in
+    let h = p .before .before .before .before .pre .1 in
     let σ = signatureOf (a .table .now .now) in
     let R = a .t .now .now in
-    let A = c .before .before .before .before .before .before .before .parts .ensures in
+    let A = p .parts .ensures in
     let B = c .before .before .before .parts2 .ensures in (
       h .0 .sides,
       (
@@ -283,16 +286,16 @@ flattened-join-surplus-requires t c κs =
 flattened-compare-requires : (t : ℕ) → flattened-lts.Need-compare-requires (flattened-claims t) (flattened-at t)
     flattened.Post
 flattened-compare-requires t c κs =
-    let a = c .before .before .before .before .before .before .before .before .before .before .before .before .before
-    .before .args in
-    let (m, h) = c .before .before .before .before .before .before .before .before .before .before .before .before
-    .before .before .pre in
+    let u = c .before .before .before .before .before .before in
+    let w = u .before .before .before .before .before .before .before .before in
+    let a = w .args in
+    let (m, h) = w .pre in
     let T = a .table .now .now in
     let S = a .s .now .now in
     let R = a .t .now .now in
     let σ = signatureOf T in
-    let A = c .before .before .before .before .before .before .before .before .before .before .parts .ensures in
-    let B = c .before .before .before .before .before .before .parts2 .ensures in
+    let A = u .before .before .before .before .parts .ensures in
+    let B = u .parts2 .ensures in
     let J = joined-offsets T A B (c .before .before .join-surplus .ensures) in
     let p = elements-sum σ (a .f) S (a .i) (a .n) in
     let q = elements-sum σ (a .f) R (a .j) (a .n) in
@@ -300,97 +303,72 @@ flattened-compare-requires t c κs =
 
 flattened-returns : (t : ℕ) → flattened-lts.Need-returns (flattened-claims t) (flattened-at t) flattened.Post
 flattened-returns t c =
-    parts-four
-    (c .before .before .before .before .before .before .before .before .before .before .before .before .before .before
-    .before .before .args .table .now .now)
-    (c .before .before .before .before .before .before .before .before .before .before .before .before .parts .ensures)
-    (c .before .before .before .before .before .before .before .before .parts2 .ensures)
-    (c .before .before .before .before .join-surplus .ensures)
-    (c .before .compare .ensures) (c .if1 .taken)
+    let p = c .before .before .before .before .before .before .before .before in
+    parts-four (p .before .before .before .before .before .before .before .before .args .table .now .now)
+    (p .before .before .before .before .parts .ensures) (p .parts2 .ensures)
+    (c .before .before .before .before .join-surplus .ensures) (c .before .compare .ensures) (c .if1 .taken)
 
 flattened-returns-2 : (t : ℕ) → flattened-lts.Need-returns-2 (flattened-claims t) (flattened-at t) flattened.Post
 flattened-returns-2 t c =
-    parts-none
-    (c .before .before .before .before .before .before .before .before .before .before .before .before .before .before
-    .before .before .before .args .table .now .now)
-    (c .before .before .before .before .before .before .before .before .before .before .before .before .before .parts
-    .ensures) (c .before .before .before .before .before .before .before .before .before .parts2 .ensures)
-    (c .before .before .before .before .before .join-surplus .ensures)
+    let p = c .before .before .before .before .before in
+    let q = p .before .before .before .before .before .before .before .before in
+    parts-none (q .before .before .before .before .args .table .now .now) (q .parts .ensures)
+    (p .before .before .before .before .parts2 .ensures) (p .join-surplus .ensures)
     (c .before .before .compare .ensures) (c .if2 .taken)
 
 flattened-returns-3 : (t : ℕ) → flattened-lts.Need-returns-3 (flattened-claims t) (flattened-at t) flattened.Post
 flattened-returns-3 t c =
-    parts-five
-    (c .before .before .before .before .before .before .before .before .before .before .before .before .before .before
-    .before .before .before .before .args .table .now .now)
-    (c .before .before .before .before .before .before .before .before .before .before .before .before .before .before
-    .parts .ensures)
-    (c .before .before .before .before .before .before .before .before .before .before .parts2 .ensures)
-    (c .before .before .before .before .before .before .join-surplus .ensures)
+    let p = c .before .before .before .before .before .before in
+    let q = p .before .before .before .before .before .before .before .before in
+    parts-five (q .before .before .before .before .args .table .now .now) (q .parts .ensures)
+    (p .before .before .before .before .parts2 .ensures) (p .join-surplus .ensures)
     (c .before .before .before .compare .ensures) (c .before .before .if1 .left) (c .before .if2 .left) (c .if3 .taken)
 
 flattened-returns-4 : (t : ℕ) → flattened-lts.Need-returns-4 (flattened-claims t) (flattened-at t) flattened.Post
 flattened-returns-4 t c =
-    parts-fewer
-    (c .before .before .before .before .before .before .before .before .before .before .before .before .before .before
-    .before .before .before .before .before .args .table .now .now)
-    (c .before .before .before .before .before .before .before .before .before .before .before .before .before .before
-    .before .parts .ensures)
-    (c .before .before .before .before .before .before .before .before .before .before .before .parts2 .ensures)
-    (c .before .before .before .before .before .before .before .join-surplus .ensures)
+    let p = c .before .before .before .before .before .before .before in
+    let q = p .before .before .before .before .before .before .before .before in
+    parts-fewer (q .before .before .before .before .args .table .now .now) (q .parts .ensures)
+    (p .before .before .before .before .parts2 .ensures) (p .join-surplus .ensures)
     (c .before .before .before .before .compare .ensures) (c .before .before .before .if1 .left)
     (c .before .before .if2 .left) (c .if4 .taken)
 
 flattened-compare-requires-2 : (t : ℕ) → flattened-lts.Need-compare-requires-2 (flattened-claims t) (flattened-at t)
     flattened.Post
 flattened-compare-requires-2 t c κs =
-    let a = c .before .before .before .before .before .before .before .before .before .before .before .before .before
-    .before .before .before .before .before .before .before .before .args in
-    let (m, h) = c .before .before .before .before .before .before .before .before .before .before .before .before
-    .before .before .before .before .before .before .before .before .before .pre in
+    let u = c .before .before .before .before .before .before .before .before .before .before .before .before .before in
+    let w = u .before .before .before .before .before .before .before .before in
+    let a = w .args in
+    let (m, h) = w .pre in
     let T = a .table .now .now in
     let S = a .s .now .now in
     let R = a .t .now .now in
     let σ = signatureOf T in
-    let A = c .before .before .before .before .before .before .before .before .before .before .before .before .before
-    .before .before .before .before .parts .ensures in
-    let B = c .before .before .before .before .before .before .before .before .before .before .before .before .before
-    .parts2 .ensures in
+    let A = u .before .before .before .before .parts .ensures in
+    let B = u .parts2 .ensures in
     let p = elements-sum σ (a .f) S (a .i) (a .n) in
     let q = elements-sum σ (a .f) R (a .j) (a .n) in
     (omega (arith, m, low-nodes T A B, p, q), (h .0, (offsets-own σ S _ _ _ (A .low), offsets-own σ R _ _ _ (B .low))))
 
 flattened-returns-5 : (t : ℕ) → flattened-lts.Need-returns-5 (flattened-claims t) (flattened-at t) flattened.Post
 flattened-returns-5 t c =
-    parts-six
-    (c .before .before .before .before .before .before .before .before .before .before .before .before .before .before
-    .before .before .before .before .before .before .before .before .before .args .table .now .now)
-    (c .before .before .before .before .before .before .before .before .before .before .before .before .before .before
-    .before .before .before .before .before .parts .ensures)
-    (c .before .before .before .before .before .before .before .before .before .before .before .before .before .before
-    .before .parts2 .ensures)
-    (c .before .before .before .before .before .before .before .before .before .before .before .join-surplus .ensures)
-    (c .before .before .before .before .before .before .before .before .compare .ensures)
-    (c .before .before .before .before .before .before .before .if1 .left)
-    (c .before .before .before .before .before .before .if2 .left)
-    (c .before .before .before .before .before .if3 .left) (c .before .before .before .before .if4 .left)
-    (c .before .compare2 .ensures) (c .if5 .taken)
+    let p = c .before .before .before .before .before in
+    let q = p .before .before .before .before .before .before in
+    let u = q .before .before .before .before .before .before .before .before in
+    parts-six (u .before .before .before .before .args .table .now .now) (u .parts .ensures)
+    (q .before .before .before .before .parts2 .ensures) (q .join-surplus .ensures)
+    (p .before .before .before .compare .ensures) (p .before .before .if1 .left) (p .before .if2 .left) (p .if3 .left)
+    (c .before .before .before .before .if4 .left) (c .before .compare2 .ensures) (c .if5 .taken)
 
 flattened-returns-6 : (t : ℕ) → flattened-lts.Need-returns-6 (flattened-claims t) (flattened-at t) flattened.Post
 flattened-returns-6 t c =
-    parts-level
-    (c .before .before .before .before .before .before .before .before .before .before .before .before .before .before
-    .before .before .before .before .before .before .before .before .before .args .table .now .now)
-    (c .before .before .before .before .before .before .before .before .before .before .before .before .before .before
-    .before .before .before .before .before .parts .ensures)
-    (c .before .before .before .before .before .before .before .before .before .before .before .before .before .before
-    .before .parts2 .ensures)
-    (c .before .before .before .before .before .before .before .before .before .before .before .join-surplus .ensures)
-    (c .before .before .before .before .before .before .before .before .compare .ensures)
-    (c .before .before .before .before .before .before .before .if1 .left)
-    (c .before .before .before .before .before .before .if2 .left)
-    (c .before .before .before .before .before .if3 .left) (c .before .before .before .before .if4 .left)
-    (c .before .compare2 .ensures) (c .if5 .left)
+    let p = c .before .before .before .before .before in
+    let q = p .before .before .before .before .before .before in
+    let u = q .before .before .before .before .before .before .before .before in
+    parts-level (u .before .before .before .before .args .table .now .now) (u .parts .ensures)
+    (q .before .before .before .before .parts2 .ensures) (q .join-surplus .ensures)
+    (p .before .before .before .compare .ensures) (p .before .before .if1 .left) (p .before .if2 .left) (p .if3 .left)
+    (c .before .before .before .before .if4 .left) (c .before .compare2 .ensures) (c .if5 .left)
 
 abbrev greater-claims : ℕ → greater-lts.Claims
 greater-claims t = (
@@ -426,10 +404,8 @@ greater-sum-at-requires-2 t c κs =
 
 greater-returns : (t : ℕ) → greater-lts.Need-returns (greater-claims t) (greater-at t) greater.Post
 greater-returns t c =
-    let a = c .before .before .before .before .before .before .before .args in
-    let σ = signatureOf (a .table .now .now) in
-    greater-lighter σ (partAt σ (a .s .now .now) (a .i)) (partAt σ (a .t .now .now) (a .j))
-    (c .before .before .before .before .sum-at .ensures)
+    let p = c .before .before .before .before .before .before .before in
+    at-lighter (p .pre .1 .0) (p .args .i) (p .args .j) (c .before .before .before .before .sum-at .ensures)
     (c .before .sum-at2 .ensures) (c .if1 .taken)
 
 greater-none-oftener-requires : (t : ℕ) → greater-lts.Need-none-oftener-requires (greater-claims t) (greater-at t)
@@ -438,11 +414,10 @@ greater-none-oftener-requires t c κs = c .before .before .before .before .befor
 
 greater-returns-2 : (t : ℕ) → greater-lts.Need-returns-2 (greater-claims t) (greater-at t) greater.Post
 greater-returns-2 t c =
-    let a = c .before .before .before .before .before .before .before .before .before .args in
-    let σ = signatureOf (a .table .now .now) in
-    greater-heavier σ (partAt σ (a .s .now .now) (a .i)) (partAt σ (a .t .now .now) (a .j))
-    (c .before .before .before .before .before .before .sum-at .ensures)
-    (c .before .before .before .sum-at2 .ensures) (c .before .if2 .taken) (c .none-oftener .ensures)
+    let p = c .before .before .before .before .before .before in
+    at-heavier (p .before .before .before .pre .1 .0) (p .before .before .before .args .i)
+    (p .before .before .before .args .j) (p .sum-at .ensures) (c .before .before .before .sum-at2 .ensures)
+    (c .before .if2 .taken) (c .none-oftener .ensures)
 
 greater-none-oftener-requires-2 : (t : ℕ) → greater-lts.Need-none-oftener-requires-2 (greater-claims t) (greater-at t)
     greater.Post
@@ -451,49 +426,31 @@ greater-none-oftener-requires-2 t c κs = c .before .before .before .before .bef
 
 greater-returns-3 : (t : ℕ) → greater-lts.Need-returns-3 (greater-claims t) (greater-at t) greater.Post
 greater-returns-3 t c =
-    let a = c .before .before .before .before .before .before .before .before .before .before .before .before .before
-    .before .before .args in
-    let h = c .before .before .before .before .before .before .before .before .before .before .before .before .before
-    .before .before .pre .1 in
-    let T = a .table .now .now in
-    let S = a .s .now .now in
-    let R = a .t .now .now in
-    let σ = signatureOf T in
-    let two = root-differing T S (a .i) R (a .j) (h .1 .0) (h .1 .1) (c .before .before .before .before .if3 .taken)
-    (sym (c .before .if4 .taken) ∙ c .before .before .higher .ensures) in
-    greater-precedence σ (partAt σ S (a .i)) (partAt σ R (a .j))
-    (c .before .before .before .before .before .before .before .before .before .before .before .before .sum-at .ensures)
-    (c .before .before .before .before .before .before .before .before .before .sum-at2 .ensures) (omega arith)
-    two (c .none-oftener2 .ensures)
+    let p = c .before .before .before .before .before .before .before in
+    let q = p .before .before .before .before .before in
+    let h = q .before .before .before .pre .1 in
+    at-higher (h .0) (q .before .before .before .args .i) (q .before .before .before .args .j) (q .sum-at .ensures)
+    (p .before .before .sum-at2 .ensures) (p .before .if1 .left) (p .if2 .left)
+    (h .1 .0) (h .1 .1) (c .before .before .before .before .if3 .taken) (sym (c .before .if4 .taken)
+    ∙ c .before .before .higher .ensures) (c .none-oftener2 .ensures)
 
 greater-returns-4 : (t : ℕ) → greater-lts.Need-returns-4 (greater-claims t) (greater-at t) greater.Post
 greater-returns-4 t c =
-    let a = c .before .before .before .before .before .before .before .before .before .before .before .before .before
-    .before .args in
-    let h = c .before .before .before .before .before .before .before .before .before .before .before .before .before
-    .before .pre .1 in
-    let T = a .table .now .now in
-    let S = a .s .now .now in
-    let R = a .t .now .now in
-    let σ = signatureOf T in
-    let none = root-differing T S (a .i) R (a .j) (h .1 .0) (h .1 .1) (c .before .before .before .if3 .taken)
-    (sym (c .if4 .left) ∙ c .before .higher .ensures) in
-    greater-none σ (partAt σ S (a .i)) (partAt σ R (a .j))
-    (c .before .before .before .before .before .before .before .before .before .before .before .sum-at .ensures)
-    (c .before .before .before .before .before .before .before .before .sum-at2 .ensures) (omega arith) none
+    let p = c .before .before .before .before .before .before in
+    let q = p .before .before .before .before .before in
+    let h = q .before .before .before .pre .1 in
+    at-not-higher (h .0) (q .before .before .before .args .i) (q .before .before .before .args .j) (q .sum-at .ensures)
+    (p .before .before .sum-at2 .ensures) (p .before .if1 .left) (p .if2 .left) (h .1 .0) (h .1 .1)
+    (c .before .before .before .if3 .taken) (sym (c .if4 .left) ∙ c .before .higher .ensures)
 
 greater-returns-5 : (t : ℕ) → greater-lts.Need-returns-5 (greater-claims t) (greater-at t) greater.Post
 greater-returns-5 t c =
-    let a = c .before .before .before .before .before .before .before .before .before .before .before .before .args in
-    let h = c .before .before .before .before .before .before .before .before .before .before .before .before .pre .1 in
-    let T = a .table .now .now in
-    let S = a .s .now .now in
-    let R = a .t .now .now in
-    let σ = signatureOf T in
-    greater-none σ (partAt σ S (a .i)) (partAt σ R (a .j))
-    (c .before .before .before .before .before .before .before .before .before .sum-at .ensures)
-    (c .before .before .before .before .before .before .sum-at2 .ensures) (omega arith)
-    (root-variable T S (a .i) R (a .j) (h .1 .0) (h .1 .1) (c .if5 .taken))
+    let p = c .before .before .before .before .before in
+    let q = p .before .before .before .before .before .before .before in
+    let h = q .pre .1 in
+    at-variable (h .0) (q .args .i) (q .args .j) (p .before .before .before .before .sum-at .ensures)
+    (p .before .sum-at2 .ensures) (p .if1 .left) (c .before .before .before .before .if2 .left) (h .1 .0) (h .1 .1)
+    (c .if5 .taken)
 
 greater-none-oftener-requires-3 : (t : ℕ) → greater-lts.Need-none-oftener-requires-3 (greater-claims t) (greater-at t)
     greater.Post
@@ -513,14 +470,14 @@ greater-add-flattened-2 t c = let h = c .before .before .before .before .before 
 greater-flattened-requires : (t : ℕ) → greater-lts.Need-flattened-requires (greater-claims t) (greater-at t)
     greater.Post
 greater-flattened-requires t c κs =
-    let a = c .before .before .before .before .before .before .before .before .before .before .before .before .before
-    .before .before .before .before .before .before .args in
-    let (m, h) = c .before .before .before .before .before .before .before .before .before .before .before .before
-    .before .before .before .before .before .before .before .pre in
+    let u = c .before .before .before .before .before .before .before in
+    let w = u .before .before .before .before .before .before .before .before .before .before .before .before in
+    let a = w .args in
+    let (m, h) = w .pre in
     let S = h .0 .sides in
     let T = a .table .now .now in
-    let v = c .before .before .before .before .before .before .before .if5 .left in
-    let e = c .before .before .before .before .before .before .before .before .if3 .left in
+    let v = u .if5 .left in
+    let e = u .before .if3 .left in
     let n = c .before .before .before .arity .ensures .0 in
     let d = rw e at n in
     let ac = sym (c .before .is-ac .ensures) ∙ c .if7 .taken in
@@ -534,26 +491,16 @@ greater-flattened-requires t c κs =
 
 greater-returns-6 : (t : ℕ) → greater-lts.Need-returns-6 (greater-claims t) (greater-at t) greater.Post
 greater-returns-6 t c =
-    let a = c .before .before .before .before .before .before .before .before .before .before .before .before .before
-    .before .before .before .before .before .before .before .args in
-    let h = c .before .before .before .before .before .before .before .before .before .before .before .before .before
-    .before .before .before .before .before .before .before .pre .1 in
-    let T = a .table .now .now in
-    let S = a .s .now .now in
-    let R = a .t .now .now in
-    let σ = signatureOf T in
-    let m = root-elements T S (a .i) R (a .j) (h .1 .0) (h .1 .1)
-    (c .before .before .before .before .before .before .before .before .before .if3 .left)
-    (c .before .before .before .before .before .before .before .before .if5 .left)
-    (c .before .before .before .before .arity .ensures .0)
-    (sym (c .before .before .is-ac .ensures) ∙ c .before .if7 .taken) (c .flattened .ensures) in
-    greater-level σ (partAt σ S (a .i)) (partAt σ R (a .j))
-    (c .before .before .before .before .before .before .before .before .before .before .before .before .before .before
-    .before .before .before .sum-at .ensures)
-    (c .before .before .before .before .before .before .before .before .before .before .before .before .before .before
-    .sum-at2 .ensures) (omega arith)
-    (sym (c .before .before .before .before .before .before .if6 .taken)
-    ∙ c .before .before .before .before .before .before .before .none-oftener3 .ensures) (ap (ltb 0) m)
+    let p = c .before .before .before .before .before .before in
+    let q = p .before .before .before .before .before .before in
+    let u = q .before .before .before .before .before in
+    let h = u .before .before .before .pre .1 in
+    at-elements (h .0) (u .before .before .before .args .i) (u .before .before .before .args .j) (u .sum-at .ensures)
+    (q .before .before .sum-at2 .ensures) (q .before .if1 .left) (q .if2 .left) (h .1 .0) (h .1 .1)
+    (sym (p .if6 .taken) ∙ p .before .none-oftener3 .ensures) (p .before .before .before .if3 .left)
+    (p .before .before .if5 .left)
+    (c .before .before .before .before .arity .ensures .0) (sym (c .before .before .is-ac .ensures)
+    ∙ c .before .if7 .taken) (c .flattened .ensures)
 
 greater-add-rows-greater : (t : ℕ) → greater-lts.Need-add-rows-greater (greater-claims t) (greater-at t) greater.Post
 greater-add-rows-greater t c = let h = c .before .before .before .before .before .before .before .before .before .before
@@ -569,13 +516,13 @@ greater-add-rows-greater-2 t c = let h = c .before .before .before .before .befo
 greater-rows-greater-requires : (t : ℕ) → greater-lts.Need-rows-greater-requires (greater-claims t) (greater-at t)
     greater.Post
 greater-rows-greater-requires t c κs =
-    let a = c .before .before .before .before .before .before .before .before .before .before .before .before .before
-    .before .before .before .before .before .before .args in
-    let (m, h) = c .before .before .before .before .before .before .before .before .before .before .before .before
-    .before .before .before .before .before .before .before .pre in
+    let u = c .before .before .before .before .before .before .before in
+    let w = u .before .before .before .before .before .before .before .before .before .before .before .before in
+    let a = w .args in
+    let (m, h) = w .pre in
     let S = h .0 .sides in
-    let v = c .before .before .before .before .before .before .before .if5 .left in
-    let e = c .before .before .before .before .before .before .before .before .if3 .left in
+    let v = u .if5 .left in
+    let e = u .before .if3 .left in
     let n = c .before .before .before .arity .ensures .0 in
     let d = rw e at n in
     let p = inner-total (S .left) (a .i) (c .before .before .before .arity .result) (h .1 .0) v n in
@@ -586,27 +533,16 @@ greater-rows-greater-requires t c κs =
 
 greater-returns-7 : (t : ℕ) → greater-lts.Need-returns-7 (greater-claims t) (greater-at t) greater.Post
 greater-returns-7 t c =
-    let a = c .before .before .before .before .before .before .before .before .before .before .before .before .before
-    .before .before .before .before .before .before .before .args in
-    let h = c .before .before .before .before .before .before .before .before .before .before .before .before .before
-    .before .before .before .before .before .before .before .pre .1 in
-    let T = a .table .now .now in
-    let S = a .s .now .now in
-    let R = a .t .now .now in
-    let σ = signatureOf T in
-    let m = root-rows T S (a .i) R (a .j) (h .1 .0) (h .1 .1)
-    (c .before .before .before .before .before .before .before .before .before .if3 .left)
-    (c .before .before .before .before .before .before .before .before .if5 .left)
-    (c .before .before .before .before .arity .ensures .0)
-    (sym (c .before .before .is-ac .ensures) ∙ c .before .if7 .left) (c .rows-greater .ensures) in
-    greater-level σ (partAt σ S (a .i)) (partAt σ R (a .j))
-    (c .before .before .before .before .before .before .before .before .before .before .before .before .before .before
-    .before .before .before .sum-at .ensures)
-    (c .before .before .before .before .before .before .before .before .before .before .before .before .before .before
-    .sum-at2 .ensures) (omega arith)
-    (sym (c .before .before .before .before .before .before .if6 .taken)
-    ∙ c .before .before .before .before .before .before .before .none-oftener3 .ensures) (positive
-    (c .rows-greater .result) ∙ ap (ltb 0) m)
+    let p = c .before .before .before .before .before .before in
+    let q = p .before .before .before .before .before .before in
+    let u = q .before .before .before .before .before in
+    let h = u .before .before .before .pre .1 in
+    at-rows (h .0) (u .before .before .before .args .i) (u .before .before .before .args .j) (u .sum-at .ensures)
+    (q .before .before .sum-at2 .ensures) (q .before .if1 .left) (q .if2 .left) (h .1 .0) (h .1 .1)
+    (sym (p .if6 .taken) ∙ p .before .none-oftener3 .ensures) (p .before .before .before .if3 .left)
+    (p .before .before .if5 .left)
+    (c .before .before .before .before .arity .ensures .0) (sym (c .before .before .is-ac .ensures)
+    ∙ c .before .if7 .left) (c .rows-greater .ensures)
 
 greater-returns-8 : (t : ℕ) → greater-lts.Need-returns-8 (greater-claims t) (greater-at t) greater.Post
 greater-returns-8 t c =
@@ -646,8 +582,9 @@ rows-greater-equivalent-by-keys-requires t c κs = (c .before .before .pre .1 .0
 rows-greater-loop-again : (t : ℕ) → rows-greater-lts.Need-loop-again (rows-greater-claims t) (rows-greater-at t)
     rows-greater.Post rows-greater-Inv-loop rows-greater-μ-loop
 rows-greater-loop-again t c =
-    let S = c .before .before .before .before .before .before .pre .1 .0 .sides in
-    let g = c .before .before .before .before .before .loop .inv in
+    let p = c .before .before .before .before .before in
+    let S = p .before .pre .1 .0 .sides in
+    let g = p .loop .inv in
     let x = c .before .size-at .ensures .0 in
     let y = c .size-at2 .ensures .0 in
     let e = sym (c .before .before .if1 .taken) ∙ c .before .before .before .equivalent-by-keys .ensures in
@@ -679,8 +616,8 @@ rows-greater-returns t c =
 rows-greater-returns-2 : (t : ℕ) → rows-greater-lts.Need-returns-2 (rows-greater-claims t) (rows-greater-at t)
     rows-greater.Post rows-greater-Inv-loop rows-greater-μ-loop
 rows-greater-returns-2 t c =
-    let g = c .before .loop .inv in lex-none (c .before .before .pre .1 .0 .sides) (g .here)
-    (g .there) (omega arith) ∙ g .same
+    let g = c .before .loop .inv in lex-none (c .before .before .pre .1 .0 .sides) (g .here) (g .there) (omega arith)
+    ∙ g .same
 
 pub +compare+covers+flattened+greater+rows-greater-spec : {M : Type 1} → statement M
 +compare+covers+flattened+greater+rows-greater-spec =

@@ -3,7 +3,6 @@ ghost use mathlib.Core.Path.{_≡_};
 ghost use mathlib.Core.List.{[], _∷_};
 ghost use Prim.Native.Nat.{_*_, _≤_, _<_};
 ghost use lib.ListN.{length};
-ghost use lib.Seq.{sets};
 ghost use Rattle.format.specs.Layout.{maxBytes};
 ghost use Rattle.format.specs.Reading.{bitSource};
 ghost use Rattle.format.specs.Format.{rulesReader};
@@ -107,18 +106,6 @@ fn mark_rules(
     RulesMarked::Marked(decreasing, here)
 }
 
-// Stores the marks at the front.
-fn put_marks(marks: &mut [u8], found: &[u8])
-    requires { ⌜ length (now found) ≤ length (now marks) ⌝ }
-    ensures { λ _. ⌜ now (marks .exit) ≡ sets (now (marks .entry)) 0 (now (found .entry)) ⌝ }
-{
-    let mut i = 0;
-    while i < found.len() {
-        marks[i] = found[i];
-        i += 1;
-    }
-}
-
 // Marks the rules under a symbol table. The marks are kept elsewhere until the last fault is known.
 fn mark_under(
     book: &[u8],
@@ -147,7 +134,7 @@ fn mark_under(
             if marks.len() < count {
                 return refused(12, 1, 0);
             }
-            put_marks(marks, &found[..count]);
+            text::put_bytes(marks, 0, &found[..count]);
             MarkReply::Accepted(count, decreasing, score(decreasing, count))
         }
     }

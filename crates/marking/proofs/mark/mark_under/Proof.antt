@@ -72,13 +72,13 @@ returns-2 c =
 array-share-prefix-found : tie.Need-array-share-prefix-found
 array-share-prefix-found c = search needs
 
-slice-aggregate-put-marks : tie.Need-slice-aggregate-put-marks
-slice-aggregate-put-marks c =
+slice-aggregate-put-bytes : tie.Need-slice-aggregate-put-bytes
+slice-aggregate-put-bytes c =
     let c9 = c .before .before .before .before .before .before .before .before .before in
     sym (length-take-le _ (c9 .mark-rules .last .1 .1 .1 .0) (omega (arith, c9 .mark-rules .kept .1 .1 .1 .0)))
 
-put-marks-requires : tie.Need-put-marks-requires
-put-marks-requires c κs =
+put-bytes-requires : tie.Need-put-bytes-requires
+put-bytes-requires c κs =
     let c9 = c .before .before .before .before .before .before .before .before .before in
     let c16 = c9 .before .before .before .before .before .before .before in
     let long = length-take-le (c16 .args .count) (c9 .mark-rules .last .1 .1 .1 .0) (omega (
@@ -130,7 +130,7 @@ returns-4 c =
     mark-written (a .book .now) (a .marks .now) (signatureOf (a .table .now)) (read .0) _
     (whole ∙ rest-padded (a .book .now) (signatureOf (a .table .now)) (a .count) (a .cursor .at) (read .0) _ (read .1)
     pad) (a .count) long _ _ _ (c6 .if2 .left) (read .2) (c .score .ensures .0)
-    (c3 .put-marks .ensures ∙ ap (sets (a .marks .now) 0) front)
+    (c3 .put-bytes .ensures .1 ∙ ap (sets (a .marks .now) 0) front)
 
 pub mark-under-spec : {M : Type 1} → statement M
 mark-under-spec =
@@ -148,8 +148,8 @@ mark-under-spec =
     refused-requires-3
     returns-2
     array-share-prefix-found
-    slice-aggregate-put-marks
-    put-marks-requires
+    slice-aggregate-put-bytes
+    put-bytes-requires
     score-requires
     returns-3
     same-length

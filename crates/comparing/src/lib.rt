@@ -9,7 +9,7 @@ ghost use Rattle.symbols.specs.Table.{signatureOf};
 ghost use Rattle.symbols.specs.Arities.{Arities};
 ghost use Rattle.comparing.specs.Comparing.{comparison, comparedRight, comparedTerms, compared};
 ghost use Rattle.comparing.specs.Reply.{relationNumbered, replyOf, comparisonOf};
-use decoder::Error;
+use format::Error;
 use order::mark::margin;
 use order::mark::relation;
 use order::sums::total;

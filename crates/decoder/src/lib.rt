@@ -14,17 +14,11 @@ ghost use Rattle.symbols.specs.Table.{signatureOf};
 ghost use Rattle.reader.specs.Rule.{rulesWords};
 ghost use Rattle.reader.specs.File.{symbolsWords};
 ghost use Rattle.decoder.specs.Decode.{replyOf};
+use format::Error;
 use reader::file::File;
 use reader::file::TABLE_WORDS;
 use reader::file::read_file;
 use reader::rule::put_words;
-
-// An error's code, the input at fault, and the offset in it.
-pub struct Error {
-    pub code: u8,
-    pub input: u8,
-    pub offset: usize,
-}
 
 // How many words were written, or why none was.
 pub enum DecodeReply {

@@ -6,15 +6,9 @@ use crate::items::packed_bits;
 use crate::items::write_items;
 use files::file::FileReading;
 use files::file::read_file;
+use format::Error;
 
 const MAX_BYTES: usize = 32768;
-
-// An error's code, the input at fault and the offset in it.
-pub struct Error {
-    pub code: u8,
-    pub input: u8,
-    pub offset: usize,
-}
 
 // How many bytes were written, or why none was.
 pub enum EncodeReply {

@@ -17,7 +17,7 @@ ghost use Rattle.marking.specs.Reply.{replyOf};
 use crate::rule::RuleReading;
 use crate::rule::orient;
 use bits::BitCursor;
-use decoder::Error;
+use format::Error;
 use reader::file::Head;
 use reader::file::TABLE_WORDS;
 use reader::file::read_head;

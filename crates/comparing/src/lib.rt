@@ -12,7 +12,7 @@ ghost use Rattle.comparing.specs.Reply.{relationNumbered, replyOf, compa
 use format::Error;
 use order::mark::margin;
 use order::mark::relation;
-use order::sums::total;
+use order::sums::sum_up;
 use reader::file::File;
 use reader::file::TABLE_WORDS;
 use reader::file::read_file;
@@ -65,10 +65,12 @@ fn compare_read(table: &[u16], left: &[u16], right: &[u16]) -> Comparison
         (termOf (signatureOf (now (table .entry))) (now (right .entry)))
         ⌝ }
 {
-    let s = total(table, left);
-    let t = total(table, right);
+    let mut sw = [0u64; 387];
+    let mut tw = [0u64; 387];
+    let s = sum_up(table, left, &mut sw);
+    let t = sum_up(table, right, &mut tw);
     Comparison {
-        relation: numbered(relation(table, left, s, right, t)),
+        relation: numbered(relation(table, left, s, &sw, right, t, &tw)),
         margin: margin(s, t),
     }
 }

@@ -2,7 +2,7 @@
 use mathlib.Core.List.{List, [], _∷_}
 use mathlib.Core.Bool.{Bool, true, cond, _&&_}
 use mathlib.Core.Path.{_≡_}
-use Prim.Native.Nat.{ℕ, suc, zero, _+_, _-_, _*_, _/_, _%_, _≤_}
+use Prim.Native.Nat.{ℕ, suc, zero, _+_, _-_, _*_, _/_, _%_, _≤_, _<_}
 use lib.Dec.{ltb, eqb, leb}
 use lib.ListN.{length, getD, drop}
 use Rattle.terms.specs.Signature.{Signature, symbolOf}
@@ -75,3 +75,7 @@ module _ (σ : Signature) where
   pub record Summed (kind : ℕ) (ws sums : List ℕ) : Type 0 where
     pub room : length sums ≡ 387
     pub sum : (k : ℕ) → k ≤ length ws → getD sums (129 * kind + k) 0 ≡ wordSum kind (drop k ws)
+
+  -- The same for all kinds.
+  abbrev pub SummedUp : List ℕ → List ℕ → Type 0
+  SummedUp ws sums = (kind : ℕ) → kind < 3 → Summed kind ws sums

@@ -19,8 +19,8 @@ ghost use Rattle.terms.specs.Order.{mark as markOf};
 ghost use Rattle.symbols.specs.Table.{signatureOf};
 ghost use Rattle.equivalence.specs.Keys.{Sides};
 ghost use Rattle.equivalence.specs.Offsets.{alikeAt};
-ghost use Rattle.order.specs.Sums.{Totalled, totalsWithin};
-ghost use Rattle.order.specs.Compared.{Whole, SameRoot, noneOftenerAt, weightAt, rootAt};
+ghost use Rattle.order.specs.Sums.{Totalled, SummedUp, totalsWithin};
+ghost use Rattle.order.specs.Compared.{Whole, Scales, SameRoot, noneOftenerAt, weightAt, rootAt};
 ghost use Rattle.order.specs.Compared.{relation as relationOf};
 
 // Does no variable occur oftener in the term with the right totals?
@@ -125,8 +125,16 @@ pub fn mark(table: &[u16], s: &[u16], st: Totals, t: &[u16], tt: Totals) -> u8
 }
 
 // How two whole terms that are prepared and not equivalent are related: 1 greater, 2 less, 4 unrelated.
-fn relation_unlike(table: &[u16], s: &[u16], sk: &[u64; 128], t: &[u16], tk: &[u64; 128]) -> u8
-    requires { ⌜ Sides (now table) (now s) (now sk) (now t) (now tk) ⌝ }
+fn relation_unlike(
+    table: &[u16],
+    s: &[u16],
+    sk: &[u64; 128],
+    sw: &[u64; 387],
+    t: &[u16],
+    tk: &[u64; 128],
+    tw: &[u64; 387],
+) -> u8
+    requires { ⌜ Scales (now table) (now s) (now sk) (now sw) (now t) (now tk) (now tw) ⌝ }
     requires { ⌜ (0 < length (now s)) × (0 < length (now t)) × (false ≡ alikeAt (now table) (now s) 0 (now t) 0) ⌝ }
     ensures { λ r. ⌜
         r
@@ -134,22 +142,21 @@ fn relation_unlike(table: &[u16], s: &[u16], sk: &[u64; 128], t: &[u16], tk: &[u
         (termOf (signatureOf (now (table .entry))) (now (t .entry)))
         ⌝ }
 {
-    let mut sw = [0u64; 387];
-    let mut tw = [0u64; 387];
-    sum_up(table, s, &mut sw);
-    sum_up(table, t, &mut tw);
-    if greater(&table, &s, sk, &sw, 0, &t, tk, &tw, 0) {
+    if greater(&table, &s, sk, sw, 0, &t, tk, tw, 0) {
         return 1;
     }
-    if greater(&table, &t, tk, &tw, 0, &s, sk, &sw, 0) {
+    if greater(&table, &t, tk, tw, 0, &s, sk, sw, 0) {
         return 2;
     }
     4
 }
 
-// How two terms are related, by their arguments.
-fn relation_prepared(table: &[u16], s: &[u16], t: &[u16]) -> u8
+// How two terms with these sums are related, by their arguments.
+fn relation_prepared(table: &[u16], s: &[u16], sw: &[u64; 387], t: &[u16], tw: &[u64; 387]) -> u8
     requires { ⌜ Whole (now table) (now s) (now t) ⌝ }
+    requires { ⌜
+        SummedUp (signatureOf (now table)) (now s) (now sw) × SummedUp (signatureOf (now table)) (now t) (now tw)
+        ⌝ }
     ensures { λ r. ⌜
         r
         ≡ relationOf (signatureOf (now (table .entry))) (termOf (signatureOf (now (table .entry))) (now (s .entry)))
@@ -163,7 +170,7 @@ fn relation_prepared(table: &[u16], s: &[u16], t: &[u16]) -> u8
     if equivalent(&table, &s, &sk, 0, &t, &tk, 0) {
         return 3;
     }
-    relation_unlike(table, s, &sk, t, &tk)
+    relation_unlike(table, s, &sk, sw, t, &tk, tw)
 }
 
 // How two terms with these totals are related, by their marks both ways.
@@ -190,10 +197,21 @@ fn relation_marked(table: &[u16], s: &[u16], st: Totals, t: &[u16], tt: Totals) 
     4
 }
 
-// How two terms with these totals are related: 1 greater, 2 less, 3 AC-equivalent, 4 unrelated.
-pub fn relation(table: &[u16], s: &[u16], st: Totals, t: &[u16], tt: Totals) -> u8
+// How two terms with these totals and sums are related: 1 greater, 2 less, 3 AC-equivalent, 4 unrelated.
+pub fn relation(
+    table: &[u16],
+    s: &[u16],
+    st: Totals,
+    sw: &[u64; 387],
+    t: &[u16],
+    tt: Totals,
+    tw: &[u64; 387],
+) -> u8
     requires { ⌜ Whole (now table) (now s) (now t) ⌝ }
     requires { ⌜ Totalled (signatureOf (now table)) (now s) st × Totalled (signatureOf (now table)) (now t) tt ⌝ }
+    requires { ⌜
+        SummedUp (signatureOf (now table)) (now s) (now sw) × SummedUp (signatureOf (now table)) (now t) (now tw)
+        ⌝ }
     ensures { λ r. ⌜
         r
         ≡ relationOf (signatureOf (now (table .entry))) (termOf (signatureOf (now (table .entry))) (now (s .entry)))
@@ -202,7 +220,7 @@ pub fn relation(table: &[u16], s: &[u16], st: Totals, t: &[u16], tt: Totals) -> 
 {
     if st.weight == tt.weight {
         if s[0] == t[0] {
-            return relation_prepared(table, s, t);
+            return relation_prepared(table, s, sw, t, tw);
         }
     }
     relation_marked(table, s, st, t, tt)

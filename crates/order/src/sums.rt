@@ -11,7 +11,7 @@ ghost use lib.ListN.{length, set};
 ghost use Rattle.symbols.specs.Table.{signatureOf};
 ghost use Rattle.equivalence.specs.Parts.{partAt};
 ghost use Rattle.equivalence.specs.Keys.{Prepared};
-ghost use Rattle.order.specs.Sums.{digitsWithin, nodeSum, termSum, Bounded, Added, Totalled, Summed};
+ghost use Rattle.order.specs.Sums.{digitsWithin, nodeSum, termSum, Bounded, Added, Totalled, Summed, SummedUp};
 
 // The sums over the words of a term: weights, and the occurrences of the variables 0 to 7 and 8 to 15 as digits.
 pub struct Totals {
@@ -87,11 +87,11 @@ fn put_sums(sums: &mut [u64; 387], i: usize, here: Totals)
     sums[258 + i] = here.high;
 }
 
-// Writes the sums of all kinds over all words from each offset on.
-pub fn sum_up(table: &[u16], words: &[u16], sums: &mut [u64; 387])
+// Writes the sums of all kinds over all words from each offset on, and gives those over all words.
+pub fn sum_up(table: &[u16], words: &[u16], sums: &mut [u64; 387]) -> Totals
     requires { ⌜ (length (now words) ≤ 128) × (length (now sums) ≡ 387) ⌝ }
-    ensures { λ r. ⌜ ((kind : ℕ) → kind < 3 →
-        Summed (signatureOf (now (table .entry))) kind (now (words .entry)) (now (sums .exit))) ⌝ }
+    ensures { λ r. ⌜ SummedUp (signatureOf (now (table .entry))) (now (words .entry)) (now (sums .exit)) ⌝ }
+    ensures { λ r. ⌜ Totalled (signatureOf (now (table .entry))) (now (words .entry)) r × (r .weight ≤ 8388608) ⌝ }
 {
     let mut i = words.len();
     let mut here = Totals {
@@ -105,6 +105,7 @@ pub fn sum_up(table: &[u16], words: &[u16], sums: &mut [u64; 387])
         here = with_node(table, words[i], here);
         put_sums(sums, i, here);
     }
+    here
 }
 
 // The sum of one kind over the term at i.

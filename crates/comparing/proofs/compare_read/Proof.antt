@@ -9,16 +9,27 @@ use borrow.Author.Needs.{needs}
 use Rattle.comparing.proofs.compare_read.Statement.{statement}
 use Rattle.comparing.proofs.compare_read.Tie as tie
 
-total-requires : tie.Need-total-requires
-total-requires c κs = search needs
+sum-up-requires : tie.Need-sum-up-requires
+sum-up-requires c κs = search needs
 
-total-requires-2 : tie.Need-total-requires-2
-total-requires-2 c κs = search needs
+sum-up-requires-2 : tie.Need-sum-up-requires-2
+sum-up-requires-2 c κs = search needs
 
 relation-requires : tie.Need-relation-requires
 relation-requires c κs =
-    let ((small, admissible), (left, right)) = c .before .before .before .before .before .pre in
-    (whole-terms small admissible left right, (c .before .total .ensures .0, c .total2 .ensures .0))
+    let c4 = c .before .before .before .before in
+    let c9 = c4 .before .before .before .before .before in
+    let ((small, admissible), (left, right)) = c9 .pre in (
+      whole-terms small admissible left right,
+      (
+        (c4 .sum-up .ensures .1 .0, c .before .before .sum-up2 .ensures .1 .0),
+        (
+          c4 .sum-up .ensures .0,
+          c .before
+              .before .sum-up2 .ensures .0,
+        ),
+      ),
+    )
 
 numbered-requires : tie.Need-numbered-requires
 numbered-requires c κs = search needs
@@ -28,12 +39,14 @@ margin-requires c κs = search needs
 
 returns : tie.Need-returns
 returns c =
-    let a = c .before .before .before .before .before .before .before .before .args in
+    let c5 = c .before .before .before .before .before in
+    let c7 = c5 .before .before in
+    let c12 = c7 .before .before .before .before .before in
+    let a = c12 .args in
     let σ = signatureOf (a .table .now) in
-    let ((small, admissible), (left, right)) = c .before .before .before .before .before .before .before .before .pre in
+    let ((small, admissible), (left, right)) = c12 .pre in
     let S = whole-terms small admissible left right in
-    let margin = c .margin .ensures ∙ totals-margin S (c .before .before .before .before .total .ensures .0)
-    (c .before .before .before .total2 .ensures .0) in
+    let margin = c .margin .ensures ∙ totals-margin S (c7 .sum-up .ensures .1 .0) (c5 .sum-up2 .ensures .1 .0) in
     rw (toZ-ofZ w64 (c .margin .result) (record { sfits = c .margin .ok }))
     (terms-read σ (termOf σ (a .left .now)) (termOf σ (a .right .now)) _ _ _ (c .before .numbered .ensures)
     (c .before .before .relation .ensures) margin)
@@ -42,8 +55,8 @@ pub compare-read-spec : {M : Type 1} → statement M
 compare-read-spec =
     tie.close
     (tie.spec
-    total-requires
-    total-requires-2
+    sum-up-requires
+    sum-up-requires-2
     relation-requires
     numbered-requires
     margin-requires

@@ -39,9 +39,9 @@ flattened-requires c κs =
       record {
         sides = S;
         left = c .before .before .before .before .before .before .before .before .before .before
-            .before .sum-up .ensures;
+            .before .sum-up .ensures .0;
         right = c .before .before .before .before .before .before .before .before .before .sum-up2
-            .ensures;
+            .ensures .0;
       },
       ((inner-left S 0 0 p q e n, inner-right S 0 0 p q e n), (v, x, y)),
     )

@@ -11,44 +11,49 @@ use Rattle.order.proofs.mark.relation_prepared.Tie as tie
 
 prepare-requires : tie.Need-prepare-requires
 prepare-requires c κs =
-    let S = c .before .before .before .before .pre in (left-complete S, (S .small, S .leftShort, refl))
+    let S = c .before .before .before .before .pre .0 in
+    (left-complete S, (S .small, S .leftShort, refl))
 
 prepare-requires-2 : tie.Need-prepare-requires-2
 prepare-requires-2 c κs =
-    let S = c .before .before .before .before .before .before .pre in (
-      right-complete S,
-      (S .small, S .rightShort, refl),
-    )
+    let S = c .before .before .before .before .before .before .pre .0 in
+    (right-complete S, (S .small, S .rightShort, refl))
 
 equivalent-requires : tie.Need-equivalent-requires
 equivalent-requires c κs =
-    let S = c .before .before .before .before .before .before .before .before .before .before .before .before .pre in (
-      whole-sides S (c .before .before .before .before .before .before .before .prepare .ensures)
-          (c .before .before .before .before .before .prepare2 .ensures),
-      (left-some S, right-some S),
-    )
+    let c5 = c .before .before .before .before .before in
+    let c7 = c5 .before .before in
+    let c12 = c7 .before .before .before .before .before in
+    let S = c12 .pre .0 in
+    (whole-sides S (c7 .prepare .ensures) (c5 .prepare2 .ensures), (left-some S, right-some S))
 
 returns : tie.Need-returns
 returns c =
-    let a = c .before .before .before .before .before .before .before .before .before .before .before .before .before
-    .before .args in
-    let S = c .before .before .before .before .before .before .before .before .before .before .before .before .before
-    .before .pre in
+    let c14 = c .before .before .before .before .before .before .before .before .before .before .before .before .before
+    .before in
+    let a = c14 .args in
+    let S = c14 .pre .0 in
     let σ = signatureOf (a .t1 .now) in
     let s = termOf σ (a .t2 .now) in
-    let t = termOf σ (a .t3 .now) in
+    let t = termOf σ (a .t4 .now) in
     let like = sym (c .before .equivalent .ensures) ∙ c .if1 .taken in
     let nine = mark-of-equivalent σ (S .binary) s t (left-formed S) (right-formed S) like in
     relation-equivalent σ s t nine (S .binary) (left-formed S) (right-formed S) refl
 
 relation-unlike-requires : tie.Need-relation-unlike-requires
 relation-unlike-requires c κs =
-    let S = c .before .before .before .before .before .before .before .before .before .before .before .before .before
-    .before .before .before .pre in
-    let unlike = sym (c .before .before .if1 .left) ∙ c .before .before .before .equivalent .ensures in (
-      whole-sides S
-          (c .before .before .before .before .before .before .before .before .before .before .before .prepare .ensures)
-          (c .before .before .before .before .before .before .before .before .before .prepare2 .ensures),
+    let c3 = c .before .before .before in
+    let c9 = c3 .before .before .before .before .before .before in
+    let c11 = c9 .before .before in
+    let c16 = c11 .before .before .before .before .before in
+    let S = c16 .pre .0 in
+    let unlike = sym (c .before .before .if1 .left) ∙ c3 .equivalent .ensures in (
+      record {
+        sides = whole-sides S (c11 .prepare .ensures) (c9 .prepare2 .ensures);
+        left = c16 .pre .1 .0;
+        right =
+            c16 .pre .1 .1;
+      },
       (left-some S, right-some S, unlike),
     )
 

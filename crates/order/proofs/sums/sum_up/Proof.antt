@@ -74,7 +74,10 @@ loop-again c =
 returns : tie.Need-returns Inv-loop μ-loop
 returns c =
     let l = c .before .loop in
-    λ kind p. record { room = l .inv .1; sum = λ k q. l .inv .4 kind p k (omega arith) q }
+    let z : l .i ≡ 0 = omega arith in (
+      λ kind p. record { room = l .inv .1; sum = λ k q. l .inv .4 kind p k (omega arith) q },
+      (rw z at (l .inv .2), omega (arith, l .inv .3 .weight)),
+    )
 
 pub sum-up-spec : {M : Type 1} → statement M
 sum-up-spec =

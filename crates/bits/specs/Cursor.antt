@@ -33,8 +33,8 @@ abbrev pub WordFits : Node → Type 0
 WordFits (node.Got word next) = word < firstVariable + variableCount
 WordFits (node.Missing offset) = Unit {0}
 
--- The width and the word of a node that begins with these nine bits: bit 0 and a symbol's number of eight bits, or bit 1
--- and a variable's number of four.
+-- The width and the word of a node that begins with these nine bits: bit 0 and a symbol's number of eight bits, or
+-- bit 1 and a variable's number of four.
 abbrev pub nodeWidth : ℕ → ℕ
 nodeWidth nine = cond (ltb nine 256) 9 5
 

@@ -48,27 +48,28 @@ module _ (bytes marks : List ℕ) where
   mark-fault code offset e = (rw e, rw e)
 
   module _ (σ : Signature) (rules : List Sides) (end : ℕ)
-      (e : readBytes bytes ≡ got (record { signature = σ; rules = rules }) end) (count : ℕ) (k : length rules ≡ count) where
-    pub mark-short : length marks < count →
-        (refused (record { code = marksTooShort; input = 1; offset = 0 }) ≡ marked bytes marks .reply)
-        × (marks ≡ marked bytes marks .output)
-    unfolding marked
-    mark-short h =
-        let no = lt-leb (length rules) (length marks) (omega arith) in
-        (rw (e, no), rw (e, no))
+      (e : readBytes bytes ≡ got (record { signature = σ; rules = rules }) end) (count : ℕ) (k : length rules ≡ count)
+    where
+      pub mark-short : length marks < count →
+          (refused (record { code = marksTooShort; input = 1; offset = 0 }) ≡ marked bytes marks .reply)
+          × (marks ≡ marked bytes marks .output)
+      unfolding marked
+      mark-short h =
+          let no = lt-leb (length rules) (length marks) (omega arith) in
+          (rw (e, no), rw (e, no))
 
-    pub mark-written : (decreasing score : ℕ) (out : List ℕ) → count ≤ length marks →
-        decreasing ≡ decreasingCount (sidesMarks σ rules) → score ≡ scoreOf decreasing count →
-        out ≡ sets marks 0 (sidesMarks σ rules) →
-        (accepted (record { rules = count; decreasing = decreasing; score = score }) ≡ marked bytes marks .reply)
-        × (out ≡ marked bytes marks .output)
-    unfolding marked
-    mark-written decreasing score out h d q w =
-        let n : length (sidesMarks σ rules) ≡ count = length-marks σ rules ∙ k in
-        let fits = le-leb (length rules) (length marks) (omega arith) in (
-          rw (e, fits, q, n, ← d),
-          w ∙ rw (e, fits, sets-eq (sidesMarks σ rules) marks 0 (omega arith), zero-add),
-        )
+      pub mark-written : (decreasing score : ℕ) (out : List ℕ) → count ≤ length marks →
+          decreasing ≡ decreasingCount (sidesMarks σ rules) → score ≡ scoreOf decreasing count →
+          out ≡ sets marks 0 (sidesMarks σ rules) →
+          (accepted (record { rules = count; decreasing = decreasing; score = score }) ≡ marked bytes marks .reply)
+          × (out ≡ marked bytes marks .output)
+      unfolding marked
+      mark-written decreasing score out h d q w =
+          let n : length (sidesMarks σ rules) ≡ count = length-marks σ rules ∙ k in
+          let fits = le-leb (length rules) (length marks) (omega arith) in (
+            rw (e, fits, q, n, ← d),
+            w ∙ rw (e, fits, sets-eq (sidesMarks σ rules) marks 0 (omega arith), zero-add),
+          )
 
 -- The marks that stand first, once stored.
 pub front-stored : (σ : Signature) (rules : List Sides) (before after : List ℕ) (count : ℕ) → length rules ≡ count →

@@ -56,8 +56,8 @@ whole-terms {table} {s} {t} T p q = record {
 
 module _ (σ : Signature) where
   -- A right side that was read, after its left side.
-  pub right-oriented : (reading : Reading (List ℕ)) (left right : List ℕ) (n : ℕ) (o : Oriented) → got right n ≡ reading →
-      o .next .at ≡ n → Orients σ (record { left = left; right = right }) o →
+  pub right-oriented : (reading : Reading (List ℕ)) (left right : List ℕ) (n : ℕ) (o : Oriented) →
+      got right n ≡ reading → o .next .at ≡ n → Orients σ (record { left = left; right = right }) o →
       OrientsRead σ (λ (l : List ℕ). record { left = left; right = l }) reading (Got o)
   right-oriented reading left right n o e same x = (right, sym (rw same e), x)
 

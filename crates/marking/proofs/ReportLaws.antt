@@ -65,7 +65,8 @@ module _ (source : Source) (σ : Signature) where
     pub written-fault : {A : Type 0} → i < count → (code offset : ℕ) → ruleReader source σ at ≡ fault code offset →
         (rules : List Sides) (last : ℕ) → rulesReader source σ count start ≡ got rules last → A
     written-fault h code offset e rules last f =
-        absurd (fault-unread code offset (sym (done-fault source σ count start i at (so .0) (so .1) h code offset e) ∙ f))
+        absurd (fault-unread code offset
+        (sym (done-fault source σ count start i at (so .0) (so .1) h code offset e) ∙ f))
 
     pub written-more : i < count → (n m : ℕ) (o : Oriented) → m ≡ o .mark →
         OrientsRead σ sidesThemselves (ruleReader source σ at) (Got o) → n ≡ decreasingCount (o .mark ∷ []) →

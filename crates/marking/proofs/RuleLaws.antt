@@ -109,8 +109,8 @@ module _ (source : Source) (σ : Signature) where
         MarksRead σ (rulesReader source σ count start) marks₀ (marked.Fault code offset) after
     marked-fault h code offset after e = done-fault source σ count start i at (so .0) (so .1) h code offset e
 
-    pub marked-more : i < count → (n : ℕ) (o : Oriented) → OrientsRead σ sidesThemselves (ruleReader source σ at) (Got o) →
-        n ≡ decreasingCount (o .mark ∷ []) →
+    pub marked-more : i < count → (n : ℕ) (o : Oriented) →
+        OrientsRead σ sidesThemselves (ruleReader source σ at) (Got o) → n ≡ decreasingCount (o .mark ∷ []) →
         MarkedSoFar count start marks₀ (i + 1) (o .next .at) (decreasing + n) (set marks i (o .mark))
     marked-more h n o (r, e, x) one =
         let (done, d, l, c, w) = so in

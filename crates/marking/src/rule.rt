@@ -61,7 +61,8 @@ fn orient_right(
 ) -> RuleReading
     requires { ⌜ (length (now book) ≤ maxBytes) × (cursor .at ≤ 8 * length (now book)) ⌝ }
     requires { ⌜
-        IsTable (now table) × Arities (signatureOf (now table)) (now arities) × IsTerm (signatureOf (now table)) (now left)
+        IsTable (now table) × Arities (signatureOf (now table)) (now arities)
+        × IsTerm (signatureOf (now table)) (now left)
         ⌝ }
     ensures { λ r. ⌜
         OrientsRead (signatureOf (now (table .entry)))

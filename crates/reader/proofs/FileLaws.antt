@@ -165,7 +165,8 @@ module _ (bytes : List ℕ) (w0 symbols rules at : ℕ) where
           short = short;
           fewSymbols = few;
           fewRules = some;
-          admissible = rw σ (symbols-admissible bytes w0 symbols at (symbolsAt table 0 symbols) (next .at) read positive);
+          admissible = rw σ
+              (symbols-admissible bytes w0 symbols at (symbolsAt table 0 symbols) (next .at) read positive);
           within = within-got (8 * length bytes) (symbolsReader (bitSource bytes) w0 symbols [] at) _ _
               (symbols-within (8 * length bytes) (bitSource bytes) (bits-bounded bytes) w0 symbols [] at start) read;
         },

@@ -117,7 +117,8 @@ module _ (source : Source) (σ : Signature) (count start : ℕ) where
       done-more r next e =
           let rest = rulesReader source σ (count - (number + 1)) next in
           so ∙ rw (step-at, e) (andThen-assoc rest _ _
-          ∙ andThen-same rest _ _ (λ rs last. ap (λ (l : List Sides). got l last) (sym (append-assoc done (r ∷ []) rs))))
+          ∙ andThen-same rest _ _
+          (λ rs last. ap (λ (l : List Sides). got l last) (sym (append-assoc done (r ∷ []) rs))))
 
 -- Their words are stored too, from an index on where there is room.
 abbrev pub SoFar : Source → Signature → ℕ → ℕ → ℕ → ℕ → ℕ → ℕ → List ℕ → List ℕ → Type 0

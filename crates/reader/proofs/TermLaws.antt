@@ -95,8 +95,8 @@ module _ (source : Source) (σ : Signature) (count n at : ℕ) (words : List ℕ
       answers-same count words r after whole (fault tooManyNodes at) (rw z (none-allowed source σ n at h))
       (e, omega arith, omega arith)
 
-  pub answers-fault : (code offset : ℕ) → whole ≡ fault code offset → 0 < code → code < 16 → r ≡ numbered offset 0 code →
-      Answers count words r after whole
+  pub answers-fault : (code offset : ℕ) → whole ≡ fault code offset → 0 < code → code < 16 →
+      r ≡ numbered offset 0 code → Answers count words r after whole
   answers-fault code offset e l h f = answers-same count words r after whole (fault code offset) e (f, l, h)
 
   after-word : (w : ℕ) (x : Reading (List ℕ)) → Answers (count + 1) (set words count w) r after x →

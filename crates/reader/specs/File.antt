@@ -68,14 +68,15 @@ RestRead bytes σ count at (stored.Fault code offset) before after = restReader 
 
 -- A file with its head, and its rules as they were read: how many nodes they have, and their words, stored at the front
 -- where there is room for all of them.
-pub record FileParts (bytes table before after : List ℕ) (file : RuleFile) (symbols rules nodes offset : ℕ) : Type 0 where
-  pub head : HeadParts bytes table symbols rules offset
-  pub signature : signatureOf (take (1 + 4 * symbols) table) ≡ file .signature
-  pub ruleCount : rules ≡ length (file .rules)
-  pub nodeCount : nodes ≡ length (rulesWords (file .rules))
-  pub end : ℕ
-  pub rulesRead : rulesReader (bitSource bytes) (file .signature) rules offset ≡ got (file .rules) end
-  pub stored : nodes ≤ length before → after ≡ sets before 0 (rulesWords (file .rules))
+pub record FileParts (bytes table before after : List ℕ) (file : RuleFile) (symbols rules nodes offset : ℕ) : Type 0
+  where
+    pub head : HeadParts bytes table symbols rules offset
+    pub signature : signatureOf (take (1 + 4 * symbols) table) ≡ file .signature
+    pub ruleCount : rules ≡ length (file .rules)
+    pub nodeCount : nodes ≡ length (rulesWords (file .rules))
+    pub end : ℕ
+    pub rulesRead : rulesReader (bitSource bytes) (file .signature) rules offset ≡ got (file .rules) end
+    pub stored : nodes ≤ length before → after ≡ sets before 0 (rulesWords (file .rules))
 
 -- What was read of the bytes, the answer, the table afterwards, and the words before and after.
 abbrev pub FileRead : List ℕ → Reading RuleFile → File → List ℕ → List ℕ → List ℕ → Type 0

@@ -10,6 +10,7 @@ ghost use Rattle.format.specs.Files.{readBytes};
 ghost use Rattle.format.specs.Replies.Reply.{refused as refusedOf};
 ghost use Rattle.symbols.specs.Table.{signatureOf};
 ghost use Rattle.symbols.specs.Arities.{Arities};
+ghost use Rattle.order.specs.Sums.{NodeSums};
 ghost use Rattle.reader.specs.File.{restReader};
 ghost use Rattle.marking.specs.Marking.{decreasingCount, scoreOf, marked};
 ghost use Rattle.marking.specs.Rule.{IsTable, MarksRead, MarkedWithin};
@@ -18,6 +19,7 @@ use crate::rule::RuleReading;
 use crate::rule::orient;
 use bits::BitCursor;
 use format::Error;
+use order::sums::node_sums;
 use reader::file::Head;
 use reader::file::TABLE_WORDS;
 use reader::file::read_head;
@@ -75,12 +77,16 @@ fn mark_rules(
     book: &[u8],
     table: &[u16],
     arities: &[u32; 272],
+    adds: &[u64; 816],
     marks: &mut [u8],
     count: usize,
     cursor: BitCursor,
 ) -> RulesMarked
     requires { ⌜ (length (now book) ≤ maxBytes) × (cursor .at ≤ 8 * length (now book)) ⌝ }
-    requires { ⌜ IsTable (now table) × Arities (signatureOf (now table)) (now arities) ⌝ }
+    requires { ⌜
+        IsTable (now table) × Arities (signatureOf (now table)) (now arities)
+        × NodeSums (signatureOf (now table)) (now adds)
+        ⌝ }
     requires { ⌜ (count ≤ length (now marks)) × (count < 1024) ⌝ }
     ensures { λ r. ⌜
         MarksRead (signatureOf (now (table .entry)))
@@ -93,7 +99,7 @@ fn mark_rules(
     let mut decreasing = 0;
     let mut i = 0;
     while i < count {
-        match orient(book, table, arities, here) {
+        match orient(book, table, arities, adds, here) {
             RuleReading::Fault(code, offset) => return RulesMarked::Fault(code, offset),
             RuleReading::Got(rule) => {
                 marks[i] = rule.mark;
@@ -124,8 +130,9 @@ fn mark_under(
         ⌝ }
 {
     let arities = symbols::arities(table);
+    let adds = node_sums(table);
     let mut found = [0u8; 1023];
-    match mark_rules(book, table, &arities, &mut found, count, cursor) {
+    match mark_rules(book, table, &arities, &adds, &mut found, count, cursor) {
         RulesMarked::Fault(code, offset) => refused(code, 0, offset),
         RulesMarked::Marked(decreasing, end) => {
             if !end.is_padding(book) {

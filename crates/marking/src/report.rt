@@ -9,6 +9,7 @@ ghost use Rattle.format.specs.Reading.Reading.{got};
 ghost use Rattle.format.specs.Format.{Sides, rulesReader};
 ghost use Rattle.symbols.specs.Table.{signatureOf};
 ghost use Rattle.symbols.specs.Arities.{Arities};
+ghost use Rattle.order.specs.Sums.{NodeSums};
 ghost use Rattle.text.specs.Put.{Put};
 ghost use Rattle.marking.specs.Marking.{decreasingCount, scoreOf};
 ghost use Rattle.marking.specs.Report.{summaryLines, report as reportOf};
@@ -21,6 +22,7 @@ use crate::mark::score;
 use crate::rule::RuleReading;
 use crate::rule::orient;
 use bits::BitCursor;
+use order::sums::node_sums;
 use reader::file::File;
 use reader::file::TABLE_WORDS;
 use reader::file::read_file;
@@ -42,13 +44,17 @@ fn put_rules(
     book: &[u8],
     table: &[u16],
     arities: &[u32; 272],
+    adds: &[u64; 816],
     out: &mut [u8],
     at: usize,
     count: usize,
     cursor: BitCursor,
 ) -> Lines
     requires { ⌜ (length (now book) ≤ maxBytes) × (cursor .at ≤ 8 * length (now book)) ⌝ }
-    requires { ⌜ IsTable (now table) × Arities (signatureOf (now table)) (now arities) ⌝ }
+    requires { ⌜
+        IsTable (now table) × Arities (signatureOf (now table)) (now arities)
+        × NodeSums (signatureOf (now table)) (now adds)
+        ⌝ }
     requires { ⌜ (at < 2 ^ 20) × (count < 1024) ⌝ }
     ensures { λ r. ⌜
         ((rules : List Sides) (end : ℕ)
@@ -64,7 +70,7 @@ fn put_rules(
     let mut decreasing = 0;
     let mut i = 0;
     while i < count {
-        match orient(book, table, arities, here) {
+        match orient(book, table, arities, adds, here) {
             RuleReading::Fault(_, _) => return Lines { end, decreasing },
             RuleReading::Got(rule) => {
                 end = put_rule(out, end, i as u64, long(rule.mark), rule.left, rule.right);
@@ -108,10 +114,12 @@ pub fn report(book: &[u8], out: &mut [u8]) -> usize
             let start = put_count(out, 0, b"rules", rule_count as u64);
             let front = 1 + 4 * symbol_count;
             let arities = symbols::arities(&table[..front]);
+            let adds = node_sums(&table[..front]);
             let lines = put_rules(
                 book,
                 &table[..front],
                 &arities,
+                &adds,
                 out,
                 start,
                 rule_count,

@@ -10,6 +10,7 @@ ghost use Rattle.format.specs.Statements.{IsTerm};
 ghost use Rattle.symbols.specs.Table.{signatureOf};
 ghost use Rattle.symbols.specs.Arities.{Arities};
 ghost use Rattle.reader.specs.Rule.{ruleReader};
+ghost use Rattle.order.specs.Sums.{NodeSums};
 ghost use Rattle.marking.specs.Rule.{IsTable, Orients, OrientsRead, OrientedWithin};
 use bits::BitCursor;
 use order::mark::mark;
@@ -32,17 +33,24 @@ pub enum RuleReading {
 }
 
 // Orients a rule with these sides.
-fn orient_sides(table: &[u16], left: &[u16], right: &[u16], next: BitCursor) -> Oriented
+fn orient_sides(
+    table: &[u16],
+    adds: &[u64; 816],
+    left: &[u16],
+    right: &[u16],
+    next: BitCursor,
+) -> Oriented
     requires { ⌜
         IsTable (now table) × IsTerm (signatureOf (now table)) (now left) × IsTerm (signatureOf (now table)) (now right)
+        × NodeSums (signatureOf (now table)) (now adds)
         ⌝ }
     ensures { λ o. ⌜
         Orients (signatureOf (now (table .entry))) (record { left = now (left .entry); right = now (right .entry) }) o
         ⌝ }
     ensures { λ o. ⌜ (o .left < 10 ^ 19) × (o .right < 10 ^ 19) × (o .next .at ≡ next .at) ⌝ }
 {
-    let s = total(table, left);
-    let t = total(table, right);
+    let s = total(table, adds, left);
+    let t = total(table, adds, right);
     Oriented {
         mark: mark(table, left, s, right, t),
         left: s.weight,
@@ -56,13 +64,14 @@ fn orient_right(
     book: &[u8],
     table: &[u16],
     arities: &[u32; 272],
+    adds: &[u64; 816],
     left: &[u16],
     cursor: BitCursor,
 ) -> RuleReading
     requires { ⌜ (length (now book) ≤ maxBytes) × (cursor .at ≤ 8 * length (now book)) ⌝ }
     requires { ⌜
         IsTable (now table) × Arities (signatureOf (now table)) (now arities)
-        × IsTerm (signatureOf (now table)) (now left)
+        × IsTerm (signatureOf (now table)) (now left) × NodeSums (signatureOf (now table)) (now adds)
         ⌝ }
     ensures { λ r. ⌜
         OrientsRead (signatureOf (now (table .entry)))
@@ -76,6 +85,7 @@ fn orient_right(
         Side::Fault(code, offset) => RuleReading::Fault(code, offset),
         Side::Read(count, next) => RuleReading::Got(orient_sides(
             table,
+            adds,
             left,
             &right[..count],
             next,
@@ -84,9 +94,18 @@ fn orient_right(
 }
 
 // Reads a rule and orients it.
-pub fn orient(book: &[u8], table: &[u16], arities: &[u32; 272], cursor: BitCursor) -> RuleReading
+pub fn orient(
+    book: &[u8],
+    table: &[u16],
+    arities: &[u32; 272],
+    adds: &[u64; 816],
+    cursor: BitCursor,
+) -> RuleReading
     requires { ⌜ (length (now book) ≤ maxBytes) × (cursor .at ≤ 8 * length (now book)) ⌝ }
-    requires { ⌜ IsTable (now table) × Arities (signatureOf (now table)) (now arities) ⌝ }
+    requires { ⌜
+        IsTable (now table) × Arities (signatureOf (now table)) (now arities)
+        × NodeSums (signatureOf (now table)) (now adds)
+        ⌝ }
     ensures { λ r. ⌜
         OrientsRead (signatureOf (now (table .entry))) (λ (sides : Sides). sides)
         (ruleReader (bitSource (now (book .entry))) (signatureOf (now (table .entry))) (cursor .at)) r
@@ -96,6 +115,13 @@ pub fn orient(book: &[u8], table: &[u16], arities: &[u32; 272], cursor: BitCurso
     let mut left = [0u16; 128];
     match read_side(book, arities, &mut left, cursor) {
         Side::Fault(code, offset) => RuleReading::Fault(code, offset),
-        Side::Read(count, middle) => orient_right(book, table, arities, &left[..count], middle),
+        Side::Read(count, middle) => orient_right(
+            book,
+            table,
+            arities,
+            adds,
+            &left[..count],
+            middle,
+        ),
     }
 }

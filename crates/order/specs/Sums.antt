@@ -79,3 +79,25 @@ module _ (σ : Signature) where
   -- The same for all kinds.
   abbrev pub SummedUp : List ℕ → List ℕ → Type 0
   SummedUp ws sums = (kind : ℕ) → kind < 3 → Summed kind ws sums
+
+  -- What the node words add to the sums, three numbers for each: the same number, and small.
+  pub record NodeSums (adds : List ℕ) : Type 0 where
+    pub sum : (kind word : ℕ) → kind < 3 → word < 272 → getD adds (3 * word + kind) 0 ≡ nodeSum kind word
+    pub weight : (word : ℕ) → word < 272 → getD adds (3 * word) 0 < 65536
+    pub place : (j : ℕ) → j < 816 → getD adds j 0 ≤ 72057594037927936
+
+  -- Stored so far: the weights of so many symbols, and what so many variables add; all else as it was.
+  abbrev pub Weighed : ℕ → List ℕ → List ℕ → Type 0
+  Weighed n before after =
+      ((f : ℕ) → f < n → getD after (3 * f) 0 ≡ symbolOf σ f .weight)
+      × ((f : ℕ) → f < n → getD after (3 * f) 0 < 65536)
+      × ((j : ℕ) → (j % 3 ≡ 0 → ⊥) → getD after j 0 ≡ getD before j 0)
+      × ((j : ℕ) → 3 * n ≤ j → getD after j 0 ≡ getD before j 0)
+
+  abbrev pub Occurring : ℕ → List ℕ → List ℕ → Type 0
+  Occurring n before after =
+      ((kind x : ℕ) → kind < 3 → x < n → getD after (768 + (3 * x + kind)) 0 ≡ nodeSum kind (256 + x))
+      × ((x : ℕ) → x < n → getD after (768 + 3 * x) 0 < 65536)
+      × ((j : ℕ) → j < 768 + 3 * n → 768 ≤ j → getD after j 0 ≤ 72057594037927936)
+      × ((j : ℕ) → j < 768 → getD after j 0 ≡ getD before j 0)
+      × ((j : ℕ) → 768 + 3 * n ≤ j → getD after j 0 ≡ getD before j 0)

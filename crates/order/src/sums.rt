@@ -1,6 +1,8 @@
 // Sums by offset, prepared once from right to left: of weights, and of the occurrences of the variables.
 use equivalence::keys::size_at;
 use symbols::long;
+use symbols::variable_weight;
+use symbols::weight;
 use symbols::wide;
 use symbols::word_at;
 ghost use mathlib.Core.Path.{_≡_};
@@ -12,6 +14,7 @@ ghost use Rattle.symbols.specs.Table.{signatureOf};
 ghost use Rattle.equivalence.specs.Parts.{partAt};
 ghost use Rattle.equivalence.specs.Keys.{Prepared};
 ghost use Rattle.order.specs.Sums.{digitsWithin, nodeSum, termSum, Bounded, Added, Totalled, Summed, SummedUp};
+ghost use Rattle.order.specs.Sums.{NodeSums, Weighed, Occurring};
 
 // The sums over the words of a term: weights, and the occurrences of the variables 0 to 7 and 8 to 15 as digits.
 pub struct Totals {
@@ -55,9 +58,71 @@ fn with_node(table: &[u16], word: u16, after: Totals) -> Totals
     }
 }
 
+// Stores the weights of that many symbols.
+fn put_weights(table: &[u16], adds: &mut [u64; 816], count: usize)
+    requires { ⌜ (count ≤ 256) × (length (now adds) ≡ 816) ⌝ }
+    ensures { λ _. ⌜
+        Weighed (signatureOf (now (table .entry))) count (now (adds .entry)) (now (adds .exit))
+        × (length (now (adds .exit)) ≡ 816)
+        ⌝ }
+{
+    let mut i = 0;
+    while i < count {
+        adds[3 * i] = weight(table, i as u16);
+        i += 1;
+    }
+}
+
+// Stores what the variables add.
+fn put_variables(table: &[u16], adds: &mut [u64; 816])
+    requires { ⌜ length (now adds) ≡ 816 ⌝ }
+    ensures { λ _. ⌜
+        Occurring (signatureOf (now (table .entry))) 16 (now (adds .entry)) (now (adds .exit))
+        × (length (now (adds .exit)) ≡ 816)
+        ⌝ }
+{
+    let own = variable_weight(table);
+    let mut x = 0;
+    while x < 16 {
+        let word = 256 + x;
+        adds[768 + 3 * x] = own;
+        adds[769 + 3 * x] = occurrence(32, word as u16);
+        adds[770 + 3 * x] = occurrence(33, word as u16);
+        x += 1;
+    }
+}
+
+// What each node word adds to the sums.
+pub fn node_sums(table: &[u16]) -> [u64; 816]
+    requires { ⌜ length (now table) ≤ 1025 ⌝ }
+    ensures { λ r. ⌜ NodeSums (signatureOf (now (table .entry))) r ⌝ }
+{
+    let mut adds = [0u64; 816];
+    put_weights(table, &mut adds, (table.len() + 2) / 4);
+    put_variables(table, &mut adds);
+    adds
+}
+
+// The sums with those of one more node, looked up.
+fn with_known(table: &[u16], adds: &[u64; 816], word: u16, after: Totals) -> Totals
+    requires { ⌜ Bounded 127 after × NodeSums (signatureOf (now table)) (now adds) ⌝ }
+    ensures { λ r. ⌜ Added (signatureOf (now (table .entry))) word after r ⌝ }
+    ensures { λ r. ⌜ ((n : ℕ) → Bounded n after → Bounded (n + 1) r) ⌝ }
+{
+    if 272 <= word {
+        return with_node(table, word, after);
+    }
+    let at = 3 * wide(word);
+    Totals {
+        weight: after.weight + adds[at],
+        low: after.low + adds[at + 1],
+        high: after.high + adds[at + 2],
+    }
+}
+
 // The sums over all words.
-pub fn total(table: &[u16], words: &[u16]) -> Totals
-    requires { ⌜ length (now words) ≤ 128 ⌝ }
+pub fn total(table: &[u16], adds: &[u64; 816], words: &[u16]) -> Totals
+    requires { ⌜ (length (now words) ≤ 128) × NodeSums (signatureOf (now table)) (now adds) ⌝ }
     ensures { λ r. ⌜ Totalled (signatureOf (now (table .entry))) (now (words .entry)) r ⌝ }
     ensures { λ r. ⌜ r .weight ≤ 8388608 ⌝ }
 {
@@ -69,7 +134,7 @@ pub fn total(table: &[u16], words: &[u16]) -> Totals
     };
     while i > 0 {
         i -= 1;
-        here = with_node(table, words[i], here);
+        here = with_known(table, adds, words[i], here);
     }
     here
 }

@@ -10,12 +10,12 @@ use Rattle.marking.proofs.mark.mark_rules.Statement.{statement}
 use Rattle.marking.proofs.mark.mark_rules.Tie as tie
 
 abbrev Inv-loop : tie.InvT-loop
-Inv-loop book table arities marks₀ count here₀ decreasing₀ i₀ marks here decreasing i =
+Inv-loop book table arities adds marks₀ count here₀ decreasing₀ i₀ marks here decreasing i =
     (i ≤ count) × (decreasing ≤ i) × (length marks ≡ length marks₀) × (here .at ≤ 8 * length book)
     × MarkedSoFar (bitSource book) (signatureOf table) count (here₀ .at) marks₀ i (here .at) decreasing marks
 
 abbrev μ-loop : tie.MeasureT-loop
-μ-loop book table arities marks₀ count here₀ decreasing₀ i₀ marks here decreasing i = count - i
+μ-loop book table arities adds marks₀ count here₀ decreasing₀ i₀ marks here decreasing i = count - i
 
 loop-holds : tie.Need-loop-holds Inv-loop μ-loop
 loop-holds c =

@@ -13,13 +13,18 @@ use Rattle.marking.proofs.mark.mark_under.Tie as tie
 arities-requires : tie.Need-arities-requires
 arities-requires c κs = search needs
 
+node-sums-requires : tie.Need-node-sums-requires
+node-sums-requires c κs = search needs
+
 slice-aggregate-mark-rules : tie.Need-slice-aggregate-mark-rules
 slice-aggregate-mark-rules c = search needs
 
 mark-rules-requires : tie.Need-mark-rules-requires
 mark-rules-requires c κs =
-    let c6 = c .before .before .before .before .before .before in
-    (c6 .pre .0, ((c6 .pre .1 .0, c .before .before .arities .ensures), (omega arith, c6 .pre .1 .1)))
+    let c3 = c .before .before .before in
+    let c4 = c3 .before in
+    let c8 = c4 .before .before .before .before in
+    (c8 .pre .0, ((c8 .pre .1 .0, c4 .arities .ensures, c3 .node-sums .ensures), (omega arith, c8 .pre .1 .1)))
 
 enum-known-code : tie.Need-enum-known-code
 enum-known-code c = search needs
@@ -40,9 +45,9 @@ returns : tie.Need-returns
 returns c =
     let c4 = c .before .before .before .before in
     let c7 = c4 .before .before .before in
-    let c14 = c7 .before .before .before .before .before .before .before in
+    let c16 = c7 .before .before .before .before .before .before .before .before .before in
     λ whole.
-    let a = c14 .args in
+    let a = c16 .args in
     let read = rw (c4 .decreasing .given .1) at (c7 .mark-rules .ensures .0) in
     let (reply, output) = mark-fault (a .book .now) (a .marks .now) _ _
     (whole ∙ rest-unpadded (a .book .now) (signatureOf (a .table .now)) (a .count) (a .cursor .at) (read .0) _ (read
@@ -57,9 +62,9 @@ returns-2 c =
     let c3 = c .before .before .before in
     let c5 = c3 .before .before in
     let c8 = c5 .before .before .before in
-    let c15 = c8 .before .before .before .before .before .before .before in
+    let c17 = c8 .before .before .before .before .before .before .before .before .before in
     λ whole.
-    let a = c15 .args in
+    let a = c17 .args in
     let read = rw (c5 .decreasing .given .1) at (c8 .mark-rules .ensures .0) in
     let pad = sym (c3 .is-padding .ensures) ∙ not-false _ (c .before .before .if1 .left) in
     let long = rules-length (bitSource (a .book .now)) (signatureOf (a .table .now)) (a .count) (a .cursor .at) (read
@@ -75,16 +80,16 @@ array-share-prefix-found c = search needs
 slice-aggregate-put-bytes : tie.Need-slice-aggregate-put-bytes
 slice-aggregate-put-bytes c =
     let c9 = c .before .before .before .before .before .before .before .before .before in
-    sym (length-take-le _ (c9 .mark-rules .last .1 .1 .1 .0) (omega (arith, c9 .mark-rules .kept .1 .1 .1 .0)))
+    sym (length-take-le _ (c9 .mark-rules .last .1 .1 .1 .1 .0) (omega (arith, c9 .mark-rules .kept .1 .1 .1 .1 .0)))
 
 put-bytes-requires : tie.Need-put-bytes-requires
 put-bytes-requires c κs =
     let c9 = c .before .before .before .before .before .before .before .before .before in
-    let c16 = c9 .before .before .before .before .before .before .before in
-    let long = length-take-le (c16 .args .count) (c9 .mark-rules .last .1 .1 .1 .0) (omega (
+    let c18 = c9 .before .before .before .before .before .before .before .before .before in
+    let long = length-take-le (c18 .args .count) (c9 .mark-rules .last .1 .1 .1 .1 .0) (omega (
       arith,
-      c9 .mark-rules .kept
-          .1 .1 .1 .0,
+      c9 .mark-rules
+          .kept .1 .1 .1 .1 .0,
     )) in
     omega (arith, long)
 
@@ -92,15 +97,16 @@ score-requires : tie.Need-score-requires
 score-requires c κs =
     let c9 = c .before .before .before .before .before .before .before .before .before in
     let c12 = c9 .before .before .before in
+    let c21 = c12 .before .before .before .before .before .before .before .before .before in
     let within = rw (c9 .decreasing .given .1) at (c12 .mark-rules .ensures .1) in
-    omega (arith, within .0)
+    omega (arith, within .0, c21 .pre .1 .1)
 
 returns-3 : tie.Need-returns-3
 returns-3 c =
     let c5 = c .before .before .before .before .before in
-    let c12 = c5 .before .before .before .before .before .before .before in
+    let c14 = c5 .before .before .before .before .before .before .before .before .before in
     λ whole.
-    let a = c12 .args in
+    let a = c14 .args in
     let (reply, output) = mark-fault (a .book .now) (a .marks .now) _ _
     (whole ∙ rest-unread (a .book .now) (signatureOf (a .table .now)) (a .count) (a .cursor .at) _ _ (rw (c .before
     .before .code .given .1) at (c5 .mark-rules .ensures .0))) in
@@ -117,16 +123,16 @@ returns-4 c =
     let c8 = c7 .before in
     let c10 = c8 .before .before in
     let c13 = c10 .before .before .before in
-    let c20 = c13 .before .before .before .before .before .before .before in
+    let c22 = c13 .before .before .before .before .before .before .before .before .before in
     λ whole.
-    let a = c20 .args in
+    let a = c22 .args in
     let read = rw (c10 .decreasing .given .1) at (c13 .mark-rules .ensures .0) in
     let pad = sym (c8 .is-padding .ensures) ∙ not-false _ (c7 .if1 .left) in
     let long = rules-length (bitSource (a .book .now)) (signatureOf (a .table .now)) (a .count) (a .cursor .at) (read
     .0) _ (read .1) in
-    let front = front-stored (signatureOf (a .table .now)) (read .0) _ (c13 .mark-rules .last .1 .1 .1 .0) (a .count)
-    long
-    (omega arith) (read .3) in
+    let front = front-stored (signatureOf (a .table .now)) (read .0) _ (c13 .mark-rules .last .1 .1 .1 .1 .0) (a
+    .count) long
+    (omega (arith, c22 .pre .1 .1)) (read .3) in
     mark-written (a .book .now) (a .marks .now) (signatureOf (a .table .now)) (read .0) _
     (whole ∙ rest-padded (a .book .now) (signatureOf (a .table .now)) (a .count) (a .cursor .at) (read .0) _ (read .1)
     pad) (a .count) long _ _ _ (c6 .if2 .left) (read .2) (c .score .ensures .0)
@@ -137,6 +143,7 @@ mark-under-spec =
     tie.close
     (tie.spec
     arities-requires
+    node-sums-requires
     slice-aggregate-mark-rules
     mark-rules-requires
     enum-known-code

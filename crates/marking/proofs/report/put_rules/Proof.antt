@@ -10,12 +10,12 @@ use Rattle.marking.proofs.report.put_rules.Statement.{statement}
 use Rattle.marking.proofs.report.put_rules.Tie as tie
 
 abbrev Inv-loop : tie.InvT-loop
-Inv-loop book table arities out₀ at count here₀ end₀ decreasing₀ i₀ out here end decreasing i =
+Inv-loop book table arities adds out₀ at count here₀ end₀ decreasing₀ i₀ out here end decreasing i =
     (i ≤ count) × (decreasing ≤ i) × (end ≤ at + 41 * i) × (length out ≡ length out₀) × (here .at ≤ 8 * length book)
     × WrittenSoFar (bitSource book) (signatureOf table) count (here₀ .at) out₀ at i (here .at) decreasing end out
 
 abbrev μ-loop : tie.MeasureT-loop
-μ-loop book table arities out₀ at count here₀ end₀ decreasing₀ i₀ out here end decreasing i = count - i
+μ-loop book table arities adds out₀ at count here₀ end₀ decreasing₀ i₀ out here end decreasing i = count - i
 
 loop-holds : tie.Need-loop-holds Inv-loop μ-loop
 loop-holds c =

@@ -36,8 +36,15 @@ orient-right-requires c κs =
     let a = c8 .args in
     let σ = signatureOf (a .table .now) in
     let e = rw (c .before .before .count .given .1) at (c4 .read-side .ensures .0 σ (c8 .pre .1 .1)) in
-    let within = rw (c .before .before .count .given .1) at (c4 .read-side .ensures .1 .0) in
-    ((c8 .pre .0 .0, within .1), (c8 .pre .1 .0, c8 .pre .1 .1, side-term (a .book .now) σ (a .cursor .at) _ _ (sym e)))
+    let within = rw (c .before .before .count .given .1) at (c4 .read-side .ensures .1 .0) in (
+      (c8 .pre .0 .0, within .1),
+      (
+        c8 .pre .1 .0,
+        c8 .pre .1 .1,
+        side-term (a .book .now) σ (a .cursor .at) _ _ (sym e),
+        c8 .pre .1 .2,
+      ),
+    )
 
 returns : tie.Need-returns
 returns c =

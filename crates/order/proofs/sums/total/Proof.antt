@@ -1,20 +1,20 @@
-use borrow.Author.Needs.{needs}
-use native.Mathlib.Omega.{arith}
 use mathlib.Core.Path.{_≡_}
 use Prim.Native.Nat.{_-_, _≤_}
+use native.Mathlib.Omega.{arith}
 use lib.ListN.{length, drop}
 use Rattle.symbols.specs.Table.{signatureOf}
 use Rattle.order.specs.Sums.{Totalled, Bounded}
 use Rattle.order.proofs.TotalLaws.{totalled-none, totalled-more, bounded-more}
+use borrow.Author.Needs.{needs}
 use Rattle.order.proofs.sums.total.Statement.{statement}
 use Rattle.order.proofs.sums.total.Tie as tie
 
 abbrev Inv-loop : tie.InvT-loop
-Inv-loop table words i₀ here₀ i here =
+Inv-loop table adds words i₀ here₀ i here =
     (i ≤ length words) × Totalled (signatureOf table) (drop i words) here × Bounded (length words - i) here
 
 abbrev μ-loop : tie.MeasureT-loop
-μ-loop table words i₀ here₀ i here = i
+μ-loop table adds words i₀ here₀ i here = i
 
 loop-holds : tie.Need-loop-holds Inv-loop μ-loop
 loop-holds c =
@@ -27,14 +27,16 @@ loop-holds c =
 sub-i : tie.Need-sub-i Inv-loop μ-loop
 sub-i c = search needs
 
-mul-with-node : tie.Need-mul-with-node Inv-loop μ-loop
-mul-with-node c = search needs
+mul-with-known : tie.Need-mul-with-known Inv-loop μ-loop
+mul-with-known c = search needs
 
-shared-slice-read-with-node : tie.Need-shared-slice-read-with-node Inv-loop μ-loop
-shared-slice-read-with-node c = search needs
+shared-slice-read-with-known : tie.Need-shared-slice-read-with-known Inv-loop μ-loop
+shared-slice-read-with-known c = search needs
 
-with-node-requires : tie.Need-with-node-requires Inv-loop μ-loop
-with-node-requires c κs = bounded-more (omega arith) (c .before .before .loop .inv .2)
+with-known-requires : tie.Need-with-known-requires Inv-loop μ-loop
+with-known-requires c κs =
+    let c5 = c .before .before .before .before .before in
+    (bounded-more (omega arith) (c .before .before .loop .inv .2), c5 .pre .1)
 
 loop-less : tie.Need-loop-less Inv-loop μ-loop
 loop-less c = search needs
@@ -43,7 +45,7 @@ loop-again : tie.Need-loop-again Inv-loop μ-loop
 loop-again c =
     let a = c .before .before .before .before .before .before .args in
     let l = c .before .before .before .loop in
-    let more = c .with-node .ensures in (
+    let more = c .with-known .ensures in (
       omega arith,
       totalled-more (signatureOf (a .table .now)) (a .words .now) (l .i) (l .here) _ (omega arith) (l .inv .0)
           (l .inv .1) (more .0),
@@ -64,9 +66,9 @@ total-spec =
     μ-loop
     loop-holds
     sub-i
-    mul-with-node
-    shared-slice-read-with-node
-    with-node-requires
+    mul-with-known
+    shared-slice-read-with-known
+    with-known-requires
     loop-less
     loop-again
     returns)

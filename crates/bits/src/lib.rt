@@ -46,6 +46,9 @@ fn gather(book: &[u8], index: usize) -> u32
         ⌝ }
     ensures { λ r. ⌜ r < 2 ^ 24 ⌝ }
 {
+    if index + 2 < book.len() {
+        return book[index] as u32 * 65536 + book[index + 1] as u32 * 256 + book[index + 2] as u32;
+    }
     byte_at(book, index) * 65536 + byte_at(book, index + 1) * 256 + byte_at(book, index + 2)
 }
 

@@ -5,7 +5,8 @@
 
    The result is 0, or the number of the refusal, 1 to 16. reply has room for three numbers: of a refusal the input at
    fault (0 the first), the place (a bit of a book, a word of a sheet or a term, from 0), and 0. A refused call changes
-   no buffer. What is written to overlaps nothing else that is lent. A call takes up to about 128 KB of stack. */
+   no buffer. What is written to overlaps nothing else that is lent.
+   ackbo_decode keeps 105 KB on the stack where a book has more than 2,048 bytes. */
 #ifndef ACKBO_H
 #define ACKBO_H
 

@@ -12,6 +12,7 @@ ghost use Rattle.comparing.specs.Reply.{relationNumbered, replyOf, compa
 use format::Error;
 use order::mark::margin;
 use order::mark::relation;
+use order::sums::node_sums;
 use order::sums::sum_up;
 use reader::file::File;
 use reader::file::TABLE_WORDS;
@@ -67,10 +68,11 @@ fn compare_read(table: &[u16], left: &[u16], right: &[u16]) -> Comparison
 {
     let mut sw = [0u64; 387];
     let mut tw = [0u64; 387];
-    let s = sum_up(table, left, &mut sw);
-    let t = sum_up(table, right, &mut tw);
+    let adds = node_sums(table);
+    let s = sum_up(table, &adds, left, &mut sw);
+    let t = sum_up(table, &adds, right, &mut tw);
     Comparison {
-        relation: numbered(relation(table, left, s, &sw, right, t, &tw)),
+        relation: numbered(relation(table, &adds, left, s, &sw, right, t, &tw)),
         margin: margin(s, t),
     }
 }

@@ -1,5 +1,6 @@
 -- What the functions of the AC-equivalence test show at each of their ends.
---     equivalent-keys, -elements, -rows, keys-roots the roots
+--     equivalent-keys, -leaves, -elements, -rows    the roots
+--     keys-roots
 --     rows-none, -unlike, -more, -one               the arguments in their order
 --     cancelled-none, -own, -absent, -more          a flattening against a list
 --     Going, RowGoing                               the invariants of the scans
@@ -12,24 +13,25 @@ use lib.Dec.{eqb}
 use lib.ListN.{length, getD, take, List·getD-eq-default}
 use borrow.Author.Tests.{ne-eqb}
 use Rattle.terms.specs.Signature.{Symbol, Signature, symbolOf}
-use Rattle.terms.specs.Term.{Terms, size, sizes}
+use Rattle.terms.specs.Term.{Term, Terms, size, sizes, WellFormed}
 use Rattle.terms.specs.Term.Term.{var, app}
+use Rattle.terms.specs.Term.Terms.{nil, cons}
 use Rattle.terms.specs.Words.{firstVariable}
 use Rattle.multisets.specs.Multiset.{rowEqual, multisetEqual}
 use Rattle.terms.specs.Equivalence.{isEquivalentTo, isEquivalent}
 use Rattle.multisets.proofs.Relations.{byTest, byOrder, eqb-self}
-use Rattle.terms.proofs.TermLaws.{row-arguments}
-use Rattle.terms.proofs.EquivalenceLaws.{isEquivalent-app, isEquivalentTo-depth}
+use Rattle.terms.proofs.TermLaws.{row-arguments, size-pos}
+use Rattle.terms.proofs.EquivalenceLaws.{isEquivalent-app, isEquivalent-equivalence, isEquivalentTo-depth}
 use Rattle.symbols.specs.Table.{signatureOf}
 use Rattle.equivalence.specs.Parts.{partAt, partsAt, elementsAt, Stands}
 use Rattle.equivalence.specs.Offsets.{Offsets, First, deleted, alikeAt, rowsAlike, elementsAlike, termsAt}
-use Rattle.equivalence.specs.Keys.{Sides, sizeIn}
+use Rattle.equivalence.specs.Keys.{rootWord, Sides, sizeIn}
 use Rattle.symbols.proofs.TableLaws.{few-at}
 use Rattle.equivalence.proofs.PartLaws.{variable, symbol}
 use Rattle.terms.proofs.EquivalenceSound.{isEquivalent→Equivalent}
 use Rattle.equivalence.proofs.FormedLaws.{part-formed}
 use Rattle.equivalence.proofs.StepLaws.{row-next, elements-own, elements-other, stands-inner, prepared-size}
-use Rattle.equivalence.proofs.StepLaws.{keyed-root}
+use Rattle.equivalence.proofs.StepLaws.{part-root, keyed-root}
 use Rattle.equivalence.proofs.KeyLaws.{key-of-equivalent}
 use Rattle.equivalence.proofs.RemovalLaws.{equal-none, equal-absent, equal-without, removed-none, removed-one}
 
@@ -83,6 +85,16 @@ module _ (σ : Signature) where
           ap₂ (isEquivalent σ) (rw e at (variable σ s i h (rw e v))) (rw g at (variable σ t j k (rw g v)))
           ∙ var-var _ _ ∙ rw (z, eqb-self)
 
+-- Terms of one node are told by their roots.
+leaves-same : (σ : Signature) → length (σ .symbols) ≤ firstVariable → (s t : Term) → WellFormed σ s → WellFormed σ t →
+    size s ≡ 1 → size t ≡ 1 → rootWord s ≡ rootWord t → s ≡ t
+leaves-same σ few (var x) (var y) v w a b e = ap var (omega arith)
+leaves-same σ few (var x) (app g ts) v w a b e = absurd (omega (arith, w .0))
+leaves-same σ few (app f ss) (var y) v w a b e = absurd (omega (arith, v .0))
+leaves-same σ few (app f nil) (app g nil) v w a b e = rw e
+leaves-same σ few (app f (cons s ss)) (app g ts) v w a b e = absurd (omega (arith, size-pos s))
+leaves-same σ few (app f nil) (app g (cons t ts)) v w a b e = absurd (omega (arith, size-pos t))
+
 pub ac-small : (table : List ℕ) → length table ≤ 1025 → (f : ℕ) → symbolOf (signatureOf table) f .ac ≡ true → f < 256
 ac-small table h f a =
     let σ = signatureOf table in
@@ -113,6 +125,18 @@ module _ {table s sk t tk : List ℕ} (S : Sides table s sk t tk) where
         (part-formed σ few s i (S .left .complete)) (part-formed σ few t j (S .right .complete)) e)
         ∙ sym (S .right .keyed j (omega arith) k))))
         λ e. e)
+
+    pub equivalent-leaves : sizeIn sk i ≡ 1 → getD sk i 0 ≡ getD tk j 0 → true ≡ alikeAt table s i t j
+    equivalent-leaves one e =
+        let σ = signatureOf table in
+        let few = few-at table (S .small) in
+        let a : size (partAt σ s i) ≡ 1 = sym (prepared-size (S .left) i h) ∙ one in
+        let b : size (partAt σ t j) ≡ 1 =
+        sym (prepared-size (S .right) j k) ∙ sym (ap (λ (key : ℕ). key % 256) e) ∙ one in
+        let same = leaves-same σ few (partAt σ s i) (partAt σ t j) (part-formed σ few s i (S .left .complete))
+        (part-formed σ few t j (S .right .complete)) a b
+        (part-root σ s (S .left .complete) i h ∙ keys-roots e ∙ sym (part-root σ t (S .right .complete) j k)) in
+        rw same (sym (isEquivalent-equivalence σ .reflexive (partAt σ t j)))
 
     module _ (e : getD s i 0 ≡ getD t j 0) {n : ℕ} (d : n ≡ symbolOf (signatureOf table) (getD s i 0) .arity) where
       pub inner-left : Stands (signatureOf table) s (i + 1) n

@@ -147,7 +147,8 @@ fn cancels(
     left == 0
 }
 
-// The first of the m offsets whose term is equivalent to the term at i; m where there is none.
+// The first of the m offsets whose term is equivalent to the term at i; m where there is none. A term of one node is
+// told by its key.
 pub fn partner(
     table: &&[u16],
     s: &&[u16],
@@ -167,11 +168,14 @@ pub fn partner(
         ⌝ }
 {
     let key = sk[i];
+    let leaf = size_at(sk, i) == 1;
     let mut k = 0;
     while k < m {
         let j = wide_byte(offsets[k]);
         if tk[j] != key {
             k += 1;
+        } else if leaf {
+            return k;
         } else if equivalent(table, s, sk, i, t, tk, j) {
             return k;
         } else {

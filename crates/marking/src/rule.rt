@@ -52,7 +52,7 @@ fn orient_sides(
     let s = total(table, adds, left);
     let t = total(table, adds, right);
     Oriented {
-        mark: mark(table, left, s, right, t),
+        mark: mark(table, adds, left, s, right, t),
         left: s.weight,
         right: t.weight,
         next,

@@ -1,16 +1,19 @@
 -- Covering and the comparison of two lists of offsets as multisets.
---     above-none, above-at                       the search for a greater term
+--     Search, search-start, -none, -within, -more   the search for a greater term
+--     above-none, above-at                       what it finds
 --     covered-all, covered-not                   each has a greater one
 --     verdict-equal, -short, -above, -not        what is left decides
 use mathlib.Core.List.{List, [], _∷_, map}
 use mathlib.Core.Path.{_≡_, refl, sym, _∙_}
-use mathlib.Core.Bool.{Bool, true, false}
-use Prim.Native.Nat.{ℕ, suc, zero, _≤_, _<_}
+use mathlib.Core.Bool.{Bool, true, false, cond}
+use Prim.Native.Nat.{ℕ, suc, zero, _+_, _≤_, _<_}
 use native.Mathlib.Omega.{arith}
+use lib.Dec.{eqb}
 use lib.ListN.{length, getD, take}
 use lib.Seq.{getD-take, length-take-le}
 use Rattle.multisets.specs.Multiset.{some, every, isEmpty, cancel, multisetEqual, multisetGreater}
-use Rattle.multisets.proofs.Relations.{byTest}
+use borrow.Author.Tests.{eqb-true}
+use Rattle.multisets.proofs.Relations.{byTest, byOrder}
 use Rattle.multisets.proofs.MultisetLaws.{sum}
 use Rattle.terms.specs.Signature.{Signature}
 use Rattle.terms.specs.Term.{Term, size}
@@ -41,6 +44,60 @@ module _ {A : Type 0} (p : A → Bool) (g : ℕ → A) where
   every-not [] r h e = absurd (omega arith)
   every-not (q ∷ qs) zero h e = rw e
   every-not (q ∷ qs) (suc r) h e = byTest (p (g q)) (λ d. rw d (every-not qs r (omega arith) e)) λ d. rw d
+
+-- ---- the search
+
+-- A search that begins at `first` and then goes up from 0: x is at hand, `next` comes after it, and all that were tried
+-- failed.
+pub record Search (p : ℕ → Bool) (first x next : ℕ) : Type 0 where
+  pub start : next ≡ 0 → x ≡ first
+  pub here : 0 < next → x + 1 ≡ next
+  pub begun : 0 < next → p first ≡ false
+  pub failed : (y : ℕ) → y + 1 < next → p y ≡ false
+
+module _ {p : ℕ → Bool} {first : ℕ} where
+  pub search-start : Search p first first 0
+  search-start = record {
+    start = λ l. refl;
+    here = λ l. absurd (omega arith);
+    begun = λ l. absurd (omega arith);
+    failed = λ y l. absurd (omega arith);
+  }
+
+  module _ {x next : ℕ} (S : Search p first x next) where
+    pub search-none : {n : ℕ} → first < n → n ≤ x → (y : ℕ) → y < n → p y ≡ false
+    search-none f h y l =
+        byOrder 0 next (λ a. S .failed y (omega (arith, S .here a))) λ a. absurd (omega (arith, S .start (omega arith)))
+
+    pub search-within : {n : ℕ} → x < n → next ≤ n
+    search-within l = byOrder 0 next (λ a. omega (arith, S .here a)) λ a. omega arith
+
+    module _ (q : p x ≡ false) where
+      first-failed : p first ≡ false
+      first-failed =
+          byOrder 0 next (S .begun) λ a. let e : first ≡ x = sym (S .start (omega arith)) in rw e q
+
+      before-failed : (y : ℕ) → y < next → p y ≡ false
+      before-failed y l =
+          byOrder (y + 1) next (S .failed y) λ a. let e : y ≡ x = omega (arith, S .here (omega arith)) in rw e q
+
+      more : {r : ℕ} → next ≤ r → ((y : ℕ) → y < r → p y ≡ false) → Search p first r (r + 1)
+      more h f = record {
+        start = λ l. absurd (omega arith);
+        here = λ l. omega arith;
+        begun = λ l. first-failed;
+        failed = λ y l. f y (omega arith);
+      }
+
+      pub search-more : {r : ℕ} → r ≡ cond (eqb next first) (next + 1) next → Search p first r (r + 1)
+      search-more {r} e =
+          byTest (eqb next first)
+          (λ z.
+          let g : r ≡ next + 1 = rw z at e in
+          let d = eqb-true next first z in
+          more (omega arith) λ y l. byOrder y next (before-failed y)
+          λ a. let u : y ≡ first = omega arith in rw u first-failed)
+          λ z. let g : r ≡ next = rw z at e in more (omega arith) λ y l. before-failed y (omega arith)
 
 -- ---- covers
 

@@ -1,5 +1,6 @@
 -- Occurrences of eight variables as digits of one number: comparing digits compares occurrences.
 --     none-oftener-of, oftener-low, -high  the test of all sixteen variables
+--     oftener-more                         a greater number
 --     few-ground, few-low, few-both        that test, by the sums at two offsets
 use mathlib.Core.List.{List}
 use mathlib.Core.Path.{_≡_, refl, sym, _∙_}
@@ -50,6 +51,15 @@ mutual
   packeds-more k n (cons t ts) = omega (arith, packed-more k n t, packeds-more k n ts)
 
 mutual
+  packed-none : (k : ℕ) (t : Term) → packed k 0 t ≡ 0
+  packed-none k (var x) = refl
+  packed-none k (app f ts) = omega (arith, packeds-none k ts)
+
+  packeds-none : (k : ℕ) (ts : Terms) → packeds k 0 ts ≡ 0
+  packeds-none k nil = refl
+  packeds-none k (cons t ts) = omega (arith, packed-none k t, packeds-none k ts)
+
+mutual
   occurrences-size : (x : ℕ) (t : Term) → occurrences x t ≤ size t
   occurrences-size x (var y) = byTest (eqb x y) (λ e. rw e (omega arith)) λ e. rw e (omega arith)
   occurrences-size x (app f ts) = omega (arith, occurrencesIn-sizes x ts)
@@ -57,6 +67,30 @@ mutual
   occurrencesIn-sizes : (x : ℕ) (ts : Terms) → occurrencesIn x ts ≤ sizes ts
   occurrencesIn-sizes x nil = omega arith
   occurrencesIn-sizes x (cons t ts) = omega (arith, occurrences-size x t, occurrencesIn-sizes x ts)
+
+-- Terms in which variables occur less often have a lesser number.
+module _ (s t : Term) where
+  packed-at-most : (n k : ℕ) → ((x : ℕ) → k ≤ x → x < k + n → occurrences x t ≤ occurrences x s) →
+      packed k n t ≤ packed k n s
+  packed-at-most zero k h = omega (arith, packed-none k t)
+  packed-at-most (suc n) k h =
+      omega (
+        arith,
+        packed-more k n s,
+        packed-more k n t,
+        h k (omega arith) (omega arith),
+        packed-at-most n (suc k) λ x l m. h x (omega arith) (omega arith),
+      )
+
+  pub oftener-more : (k : ℕ) → k + 8 ≤ variableCount → packed k 8 s < packed k 8 t →
+      false ≡ noneOftener variableCount s t
+  oftener-more k h e =
+      byTest (noneOftener variableCount s t)
+      (λ d. absurd (omega (
+        arith,
+        packed-at-most 8 k λ x l m. noneOftener-facts variableCount s t .0 d x (omega arith),
+      )))
+      λ d. sym d
 
 module _ (s t : Term) (p : size s < 256) (q : size t < 256) where
   -- The lowest digit, and the others.

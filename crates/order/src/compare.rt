@@ -11,7 +11,9 @@ use symbols::arity;
 use symbols::is_ac;
 use symbols::precedence;
 ghost use mathlib.Core.Path.{_≡_};
-ghost use Prim.Native.Nat.{_≤_, _<_};
+ghost use mathlib.Core.Bool.{false, cond};
+ghost use Prim.Native.Nat.{_+_, _≤_, _<_};
+ghost use lib.Dec.{eqb};
 ghost use lib.ListN.{length};
 ghost use Rattle.symbols.specs.Table.{signatureOf};
 ghost use Rattle.equivalence.specs.Parts.{elementsAt, Stands};
@@ -45,6 +47,32 @@ pub fn none_oftener(
     let low = digits_within(a, b);
     let high = digits_within(c, d);
     if low { high } else { false }
+}
+
+// Can it be that no variable occurs oftener in the term at j? Not where the occurrences in the term at i are a lesser
+// number.
+fn may_cover(
+    table: &&[u16],
+    s: &&[u16],
+    sk: &[u64; 128],
+    sw: &[u64; 387],
+    i: usize,
+    t: &&[u16],
+    tk: &[u64; 128],
+    tw: &[u64; 387],
+    j: usize,
+) -> bool
+    requires { ⌜ Scales (now (now table)) (now (now s)) (now sk) (now sw) (now (now t)) (now tk) (now tw) ⌝ }
+    requires { ⌜ (i < length (now (now s))) × (j < length (now (now t))) ⌝ }
+    ensures { λ r. ⌜
+        (r ≡ false → false ≡ noneOftenerAt (now (now (table .entry))) (now (now (s .entry))) i (now (now (t .entry))) j)
+        ⌝ }
+{
+    let b = sum_at(*table, 1, *t, tk, tw, j);
+    let d = sum_at(*table, 2, *t, tk, tw, j);
+    let a = sum_at(*table, 1, *s, sk, sw, i);
+    let c = sum_at(*table, 2, *s, sk, sw, i);
+    if b <= a { d <= c } else { false }
 }
 
 // Are both words symbols, and the first higher in the precedence?
@@ -261,7 +289,16 @@ fn compare(
     0
 }
 
-// Does each term at the m offsets qs have a greater one at the n offsets ps?
+// The number given, or the one after it where that was tried first.
+fn past(next: usize, first: usize) -> usize
+    requires { ⌜ next ≤ 64 ⌝ }
+    ensures { λ r. ⌜ (r ≡ cond (eqb next first) (next + 1) next) × (next ≤ r) × (r ≤ next + 1) ⌝ }
+{
+    if next == first { next + 1 } else { next }
+}
+
+// Does each term at the m offsets qs have a greater one at the n offsets ps? Each search begins with the one that was
+// greater than the term before, which is often greater than all, and tries none twice.
 fn covers(
     table: &&[u16],
     s: &&[u16],
@@ -276,7 +313,7 @@ fn covers(
     m: usize,
 ) -> bool
     requires { ⌜ Scales (now (now table)) (now (now s)) (now sk) (now sw) (now (now t)) (now tk) (now tw) ⌝ }
-    requires { ⌜ OffsetsIn (now (now table)) (now (now s)) (now ps) n ⌝ }
+    requires { ⌜ OffsetsIn (now (now table)) (now (now s)) (now ps) n × (0 < n) ⌝ }
     requires { ⌜ OffsetsIn (now (now table)) (now (now t)) (now qs) m ⌝ }
     ensures { λ r. ⌜
         r
@@ -286,17 +323,23 @@ fn covers(
         ⌝ }
 {
     let mut k = 0;
+    let mut x = 0;
     'right: while k < m {
         let j = wide_byte(qs[k]);
-        let mut x = 0;
+        let first = x;
+        let mut next = 0;
         'left: loop {
-            if x == n {
+            if n <= x {
                 return false;
             }
-            if greater(table, s, sk, sw, wide_byte(ps[x]), t, tk, tw, j) {
-                break 'left;
+            let i = wide_byte(ps[x]);
+            if may_cover(table, s, sk, sw, i, t, tk, tw, j) {
+                if greater(table, s, sk, sw, i, t, tk, tw, j) {
+                    break 'left;
+                }
             }
-            x += 1;
+            x = past(next, first);
+            next = x + 1;
         }
         k += 1;
     }

@@ -19,7 +19,7 @@ ghost use Rattle.terms.specs.Order.{mark as markOf};
 ghost use Rattle.symbols.specs.Table.{signatureOf};
 ghost use Rattle.equivalence.specs.Keys.{Sides};
 ghost use Rattle.equivalence.specs.Offsets.{alikeAt};
-ghost use Rattle.order.specs.Sums.{Totalled, SummedUp, totalsWithin};
+ghost use Rattle.order.specs.Sums.{Totalled, SummedUp, NodeSums, totalsWithin};
 ghost use Rattle.order.specs.Compared.{Whole, Scales, SameRoot, noneOftenerAt, weightAt, rootAt};
 ghost use Rattle.order.specs.Compared.{relation as relationOf};
 
@@ -35,15 +35,25 @@ fn within(s: Totals, t: Totals) -> bool
 
 // The mark by the arguments of two whole terms that are prepared, of equal weight and with the same root, where no
 // variable occurs oftener in the right one: 3 to 6, or 0.
-fn arguments_mark(table: &[u16], s: &[u16], sk: &[u64; 128], t: &[u16], tk: &[u64; 128]) -> u8
+fn arguments_mark(
+    table: &[u16],
+    adds: &[u64; 816],
+    s: &[u16],
+    sk: &[u64; 128],
+    t: &[u16],
+    tk: &[u64; 128],
+) -> u8
     requires { ⌜ Sides (now table) (now s) (now sk) (now t) (now tk) ⌝ }
-    requires { ⌜ (0 < length (now s)) × (0 < length (now t)) × SameRoot (now table) (now s) (now t) ⌝ }
+    requires { ⌜
+        (0 < length (now s)) × (0 < length (now t)) × SameRoot (now table) (now s) (now t)
+        × NodeSums (signatureOf (now table)) (now adds)
+        ⌝ }
     ensures { λ r. ⌜ r ≡ rootAt (now (table .entry)) (now (s .entry)) 0 (now (t .entry)) 0 ⌝ }
 {
     let mut sw = [0u64; 387];
     let mut tw = [0u64; 387];
-    sum_up(table, s, &mut sw);
-    sum_up(table, t, &mut tw);
+    sum_up(table, adds, s, &mut sw);
+    sum_up(table, adds, t, &mut tw);
     let f = s[0];
     let n = arity(table, f);
     if is_ac(table, f) {
@@ -56,8 +66,11 @@ fn arguments_mark(table: &[u16], s: &[u16], sk: &[u64; 128], t: &[u16], tk: &[u6
 }
 
 // The mark of two terms of equal weight with the same root, where no variable occurs oftener in the right one.
-fn mark_prepared(table: &[u16], s: &[u16], t: &[u16]) -> u8
-    requires { ⌜ Whole (now table) (now s) (now t) × SameRoot (now table) (now s) (now t) ⌝ }
+fn mark_prepared(table: &[u16], adds: &[u64; 816], s: &[u16], t: &[u16]) -> u8
+    requires { ⌜
+        Whole (now table) (now s) (now t) × SameRoot (now table) (now s) (now t)
+        × NodeSums (signatureOf (now table)) (now adds)
+        ⌝ }
     ensures { λ r. ⌜
         r
         ≡ markOf (signatureOf (now (table .entry))) (termOf (signatureOf (now (table .entry))) (now (s .entry)))
@@ -71,7 +84,7 @@ fn mark_prepared(table: &[u16], s: &[u16], t: &[u16]) -> u8
     if equivalent(&table, &s, &sk, 0, &t, &tk, 0) {
         return 9;
     }
-    let m = arguments_mark(table, s, &sk, t, &tk);
+    let m = arguments_mark(table, adds, s, &sk, t, &tk);
     if m > 0 {
         return m;
     }
@@ -79,11 +92,12 @@ fn mark_prepared(table: &[u16], s: &[u16], t: &[u16]) -> u8
 }
 
 // The mark of two terms of equal weight, where no variable occurs oftener in the right one.
-fn mark_level(table: &[u16], s: &[u16], t: &[u16]) -> u8
+fn mark_level(table: &[u16], adds: &[u64; 816], s: &[u16], t: &[u16]) -> u8
     requires { ⌜ Whole (now table) (now s) (now t) ⌝ }
     requires { ⌜
         (true ≡ noneOftenerAt (now table) (now s) 0 (now t) 0)
         × (weightAt (now table) (now s) 0 ≡ weightAt (now table) (now t) 0)
+        × NodeSums (signatureOf (now table)) (now adds)
         ⌝ }
     ensures { λ r. ⌜
         r
@@ -94,7 +108,7 @@ fn mark_level(table: &[u16], s: &[u16], t: &[u16]) -> u8
     let f = s[0];
     let g = t[0];
     if f == g {
-        return mark_prepared(table, s, t);
+        return mark_prepared(table, adds, s, t);
     }
     if higher(table, f, g) {
         return 2;
@@ -103,9 +117,12 @@ fn mark_level(table: &[u16], s: &[u16], t: &[u16]) -> u8
 }
 
 // The mark of two terms with these totals, 1 to 10.
-pub fn mark(table: &[u16], s: &[u16], st: Totals, t: &[u16], tt: Totals) -> u8
+pub fn mark(table: &[u16], adds: &[u64; 816], s: &[u16], st: Totals, t: &[u16], tt: Totals) -> u8
     requires { ⌜ Whole (now table) (now s) (now t) ⌝ }
-    requires { ⌜ Totalled (signatureOf (now table)) (now s) st × Totalled (signatureOf (now table)) (now t) tt ⌝ }
+    requires { ⌜
+        Totalled (signatureOf (now table)) (now s) st × Totalled (signatureOf (now table)) (now t) tt
+        × NodeSums (signatureOf (now table)) (now adds)
+        ⌝ }
     ensures { λ r. ⌜
         r
         ≡ markOf (signatureOf (now (table .entry))) (termOf (signatureOf (now (table .entry))) (now (s .entry)))
@@ -119,7 +136,7 @@ pub fn mark(table: &[u16], s: &[u16], st: Totals, t: &[u16], tt: Totals) -> u8
         if st.weight < tt.weight {
             return 8;
         }
-        return mark_level(table, s, t);
+        return mark_level(table, adds, s, t);
     }
     7
 }
@@ -174,23 +191,33 @@ fn relation_prepared(table: &[u16], s: &[u16], sw: &[u64; 387], t: &[u16], tw: &
 }
 
 // How two terms with these totals are related, by their marks both ways.
-fn relation_marked(table: &[u16], s: &[u16], st: Totals, t: &[u16], tt: Totals) -> u8
+fn relation_marked(
+    table: &[u16],
+    adds: &[u64; 816],
+    s: &[u16],
+    st: Totals,
+    t: &[u16],
+    tt: Totals,
+) -> u8
     requires { ⌜ Whole (now table) (now s) (now t) ⌝ }
-    requires { ⌜ Totalled (signatureOf (now table)) (now s) st × Totalled (signatureOf (now table)) (now t) tt ⌝ }
+    requires { ⌜
+        Totalled (signatureOf (now table)) (now s) st × Totalled (signatureOf (now table)) (now t) tt
+        × NodeSums (signatureOf (now table)) (now adds)
+        ⌝ }
     ensures { λ r. ⌜
         r
         ≡ relationOf (signatureOf (now (table .entry))) (termOf (signatureOf (now (table .entry))) (now (s .entry)))
         (termOf (signatureOf (now (table .entry))) (now (t .entry)))
         ⌝ }
 {
-    let m = mark(table, s, st, t, tt);
+    let m = mark(table, adds, s, st, t, tt);
     if m <= 6 {
         return 1;
     }
     if m == 9 {
         return 3;
     }
-    let n = mark(table, t, tt, s, st);
+    let n = mark(table, adds, t, tt, s, st);
     if n <= 6 {
         return 2;
     }
@@ -200,6 +227,7 @@ fn relation_marked(table: &[u16], s: &[u16], st: Totals, t: &[u16], tt: Totals) 
 // How two terms with these totals and sums are related: 1 greater, 2 less, 3 AC-equivalent, 4 unrelated.
 pub fn relation(
     table: &[u16],
+    adds: &[u64; 816],
     s: &[u16],
     st: Totals,
     sw: &[u64; 387],
@@ -208,7 +236,10 @@ pub fn relation(
     tw: &[u64; 387],
 ) -> u8
     requires { ⌜ Whole (now table) (now s) (now t) ⌝ }
-    requires { ⌜ Totalled (signatureOf (now table)) (now s) st × Totalled (signatureOf (now table)) (now t) tt ⌝ }
+    requires { ⌜
+        Totalled (signatureOf (now table)) (now s) st × Totalled (signatureOf (now table)) (now t) tt
+        × NodeSums (signatureOf (now table)) (now adds)
+        ⌝ }
     requires { ⌜
         SummedUp (signatureOf (now table)) (now s) (now sw) × SummedUp (signatureOf (now table)) (now t) (now tw)
         ⌝ }
@@ -223,7 +254,7 @@ pub fn relation(
             return relation_prepared(table, s, sw, t, tw);
         }
     }
-    relation_marked(table, s, st, t, tt)
+    relation_marked(table, adds, s, st, t, tt)
 }
 
 // The left weight minus the right one.

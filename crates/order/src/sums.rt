@@ -153,8 +153,10 @@ fn put_sums(sums: &mut [u64; 387], i: usize, here: Totals)
 }
 
 // Writes the sums of all kinds over all words from each offset on, and gives those over all words.
-pub fn sum_up(table: &[u16], words: &[u16], sums: &mut [u64; 387]) -> Totals
-    requires { ⌜ (length (now words) ≤ 128) × (length (now sums) ≡ 387) ⌝ }
+pub fn sum_up(table: &[u16], adds: &[u64; 816], words: &[u16], sums: &mut [u64; 387]) -> Totals
+    requires { ⌜
+        (length (now words) ≤ 128) × (length (now sums) ≡ 387) × NodeSums (signatureOf (now table)) (now adds)
+        ⌝ }
     ensures { λ r. ⌜ SummedUp (signatureOf (now (table .entry))) (now (words .entry)) (now (sums .exit)) ⌝ }
     ensures { λ r. ⌜ Totalled (signatureOf (now (table .entry))) (now (words .entry)) r × (r .weight ≤ 8388608) ⌝ }
 {
@@ -167,7 +169,7 @@ pub fn sum_up(table: &[u16], words: &[u16], sums: &mut [u64; 387]) -> Totals
     put_sums(sums, i, here);
     while i > 0 {
         i -= 1;
-        here = with_node(table, words[i], here);
+        here = with_known(table, adds, words[i], here);
         put_sums(sums, i, here);
     }
     here

@@ -9,6 +9,9 @@ use borrow.Author.Needs.{needs}
 use Rattle.comparing.proofs.compare_read.Statement.{statement}
 use Rattle.comparing.proofs.compare_read.Tie as tie
 
+node-sums-requires : tie.Need-node-sums-requires
+node-sums-requires c κs = search needs
+
 sum-up-requires : tie.Need-sum-up-requires
 sum-up-requires c κs = search needs
 
@@ -17,19 +20,13 @@ sum-up-requires-2 c κs = search needs
 
 relation-requires : tie.Need-relation-requires
 relation-requires c κs =
-    let c4 = c .before .before .before .before in
-    let c9 = c4 .before .before .before .before .before in
-    let ((small, admissible), (left, right)) = c9 .pre in (
-      whole-terms small admissible left right,
-      (
-        (c4 .sum-up .ensures .1 .0, c .before .before .sum-up2 .ensures .1 .0),
-        (
-          c4 .sum-up .ensures .0,
-          c .before
-              .before .sum-up2 .ensures .0,
-        ),
-      ),
-    )
+    let c6 = c .before .before .before .before .before .before in
+    let c9 = c6 .before .before .before in
+    let c13 = c9 .before .before .before .before in
+    let ((small, admissible), (left, right)) = c13 .pre in
+    let (S, (A, _)) = c6 .sum-up .ensures in
+    let (T, (B, _)) = c .before .before .before .sum-up2 .ensures in
+    (whole-terms small admissible left right, ((A, B, c9 .node-sums .ensures), (S, T)))
 
 numbered-requires : tie.Need-numbered-requires
 numbered-requires c κs = search needs
@@ -39,14 +36,14 @@ margin-requires c κs = search needs
 
 returns : tie.Need-returns
 returns c =
-    let c5 = c .before .before .before .before .before in
-    let c7 = c5 .before .before in
-    let c12 = c7 .before .before .before .before .before in
-    let a = c12 .args in
+    let c6 = c .before .before .before .before .before .before in
+    let c9 = c6 .before .before .before in
+    let c16 = c9 .before .before .before .before .before .before .before in
+    let a = c16 .args in
     let σ = signatureOf (a .table .now) in
-    let ((small, admissible), (left, right)) = c12 .pre in
+    let ((small, admissible), (left, right)) = c16 .pre in
     let S = whole-terms small admissible left right in
-    let margin = c .margin .ensures ∙ totals-margin S (c7 .sum-up .ensures .1 .0) (c5 .sum-up2 .ensures .1 .0) in
+    let margin = c .margin .ensures ∙ totals-margin S (c9 .sum-up .ensures .1 .0) (c6 .sum-up2 .ensures .1 .0) in
     rw (toZ-ofZ w64 (c .margin .result) (record { sfits = c .margin .ok }))
     (terms-read σ (termOf σ (a .left .now)) (termOf σ (a .right .now)) _ _ _ (c .before .numbered .ensures)
     (c .before .before .relation .ensures) margin)
@@ -55,6 +52,7 @@ pub compare-read-spec : {M : Type 1} → statement M
 compare-read-spec =
     tie.close
     (tie.spec
+    node-sums-requires
     sum-up-requires
     sum-up-requires-2
     relation-requires

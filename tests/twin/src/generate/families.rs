@@ -3,7 +3,7 @@
 
 use super::shapes::*;
 use super::{Book, Signature, Tree};
-use crate::table::{Symbol, MAX_NODES};
+use crate::table::{Symbol, MAX_NODES, VARIABLES};
 
 /// Two terms for a count of nodes.
 type Build = Box<dyn Fn(usize) -> (Tree, Tree)>;
@@ -147,7 +147,8 @@ fn marks() -> Vec<Family> {
     ]
 }
 
-/// Top-flattenings without a common member, where only the last one on the left is greater than those on the right.
+/// Top-flattenings without a common member: only the last one on the left is greater than those on the right; or only
+/// those with the same variable are.
 fn covers() -> Vec<Family> {
     let lesser = |leaf: usize| constant(1 + (leaf % 4) as u8);
     let middling = |leaf: usize| constant(5 + (leaf % 8) as u8);
@@ -155,8 +156,16 @@ fn covers() -> Vec<Family> {
         let lefts = Shape { leaf: lesser, ..shape };
         (lefts.term(nodes, last, CONSTANTS - 1, false), Shape { leaf: middling, ..shape }.term(nodes, last, 5, false))
     };
+    let over_variables = |nodes: usize, root: u8| -> Vec<Tree> {
+        let count = ((nodes + 1) / 3).max(1);
+        (0..count).map(|index| unary(root, Tree::Variable((index % VARIABLES) as u8))).collect()
+    };
     vec![
         Family::new("cover/unary", move |nodes| pair(nodes, WIDE_UNARY)),
         Family::new("cover/deep", move |nodes| pair(nodes, WIDE_DEEP)),
+        Family::new("cover/variables", move |nodes| {
+            let right = over_variables(nodes, HIGH).into_iter().rev().collect();
+            (right_comb(PLUS, over_variables(nodes, HIGHER)), right_comb(PLUS, right))
+        }),
     ]
 }

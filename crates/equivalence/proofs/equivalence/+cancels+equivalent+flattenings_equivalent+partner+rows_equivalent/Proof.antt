@@ -34,6 +34,7 @@ use mathlib.Core.Path.{_≡_, refl, sym, ap, _∙_}
 use Prim.Native.Nat.{_+_, _-_, _*_, _≤_}
 use borrow.Author.Needs.{needs}
 use borrow.Author.Count.{below-more}
+use borrow.Author.Tests.{eqb-true}
 use lib.ListN.{length, getD}
 use Rattle.symbols.specs.Table.{signatureOf}
 use Rattle.equivalence.specs.Offsets.{alikeAt, elementsAlike}
@@ -41,10 +42,10 @@ use Rattle.equivalence.proofs.StepLaws.{step-some, step-next, step-own}
 use Rattle.equivalence.proofs.RemovalLaws.{removed-offsets}
 use Rattle.equivalence.proofs.ElementLaws.{elements-few}
 use Rattle.equivalence.proofs.OffsetLaws.{offsets-own}
-use Rattle.equivalence.proofs.AlikeLaws.{equivalent-keys, keys-roots, equivalent-elements, equivalent-rows}
+use Rattle.equivalence.proofs.AlikeLaws.{equivalent-keys, equivalent-leaves, keys-roots, equivalent-elements}
 use Rattle.equivalence.proofs.AlikeLaws.{inner-left, inner-right, rows-none, rows-unlike, rows-more, rows-one}
 use Rattle.equivalence.proofs.AlikeLaws.{cancelled-none, cancelled-own, cancelled-absent, cancelled-more}
-use Rattle.equivalence.proofs.AlikeLaws.{ac-small, Going, RowGoing}
+use Rattle.equivalence.proofs.AlikeLaws.{equivalent-rows, ac-small, Going, RowGoing}
 
 abbrev μ-cancels : Measures 9 cancels-kinds.ps ℕ
 μ-cancels κs a = 4 * (length (a .1 .0 .now .now) - a .1 .1 .1 .0) + 2
@@ -172,11 +173,13 @@ cancels-loop-less-2 t c =
 cancels-loop-again-2 : (t : ℕ) → cancels-lts.Need-loop-again-2 (cancels-claims t) (cancels-at t) cancels.Post
     cancels-Inv-loop cancels-μ-loop
 cancels-loop-again-2 t c =
-    let q = c .before .before .before .before .before .before in
+    let c4 = c .before .before .before .before in
+    let c5 = c4 .before in
+    let q = c5 .before in
     let h = q .before .before .before .before .pre .1 in
     let a = q .before .before .before .before .args in
     let g = q .before .before .before .loop .inv in
-    let p = c .before .before .before .before .partner .ensures in
+    let p = c4 .partner .ensures in
     let d = c .before .delete .ensures in
     let w = c .size-at .ensures .0 in
     record {
@@ -216,7 +219,8 @@ equivalent-returns t c =
 equivalent-flattenings-equivalent-requires : (t : ℕ) → equivalent-lts.Need-flattenings-equivalent-requires
     (equivalent-claims t) (equivalent-at t) equivalent.Post
 equivalent-flattenings-equivalent-requires t c κs =
-    let p = c .before .before .before .before .before .before in
+    let c5 = c .before .before .before .before .before in
+    let p = c5 .before in
     let a = p .before .before .before .args in
     let h = p .before .before .before .pre .1 in
     let S = h .0 in
@@ -284,14 +288,21 @@ flattenings-equivalent-returns t c =
     (c .before .before .elements .ensures .there)
 
 abbrev partner-claims : ℕ → partner-lts.Claims
-partner-claims t = (wide-byte-reads.Asked, wide-byte-reads.Learnt, equivalent-below t, equivalent.Post)
+partner-claims t = (
+  size-at-reads.Asked,
+  size-at-reads.Learnt,
+  wide-byte-reads.Asked,
+  wide-byte-reads.Learnt,
+  equivalent-below t,
+  equivalent.Post,
+)
 
 abbrev partner-Inv-loop : partner-lts.InvT-loop
-partner-Inv-loop table s sk i t tk offsets m key k₀ k =
+partner-Inv-loop table s sk i t tk offsets m key leaf k₀ k =
     (k ≤ m) × ((x : ℕ) → x < k → alikeAt (table .now) (s .now) i (t .now) (getD offsets x 0) ≡ false)
 
 abbrev partner-μ-loop : partner-lts.MeasureT-loop
-partner-μ-loop table s sk i t tk offsets m key k₀ k = m - k
+partner-μ-loop table s sk i t tk offsets m key leaf k₀ k = m - k
 
 partner-loop-holds : (t : ℕ) → partner-lts.Need-loop-holds (partner-claims t) (partner-at t) partner.Post
     partner-Inv-loop partner-μ-loop
@@ -300,56 +311,73 @@ partner-loop-holds t c = (omega arith, λ x h. absurd (omega arith))
 partner-element-copy-out-if1 : (t : ℕ) → partner-lts.Need-element-copy-out-if1 (partner-claims t) (partner-at t)
     partner.Post partner-Inv-loop partner-μ-loop
 partner-element-copy-out-if1 t c =
-    omega (
-      arith,
-      c .wide-byte .ensures .0,
-      c .before .before .before .before .before .pre .1 .1 .1 .inside
-          (c .before .before .before .loop .k) (omega arith),
-    )
+    let c6 = c .before .before .before .before .before .before in
+    omega (arith, c .wide-byte .ensures .0, c6 .pre .1 .1 .1 .inside (c .before .before .before .loop .k) (omega arith))
 
 partner-loop-again : (t : ℕ) → partner-lts.Need-loop-again (partner-claims t) (partner-at t) partner.Post
     partner-Inv-loop partner-μ-loop
 partner-loop-again t c =
-    let p = c .before .before .before .before .before in
-    let h = p .before .before .pre .1 in
+    let c5 = c .before .before .before .before .before in
+    let c8 = c5 .before .before .before in
+    let h = c8 .pre .1 in
     let e = c .before .before .wide-byte .ensures .0 in
-    let d = equivalent-keys (h .0) (p .before .before .args .i) (c .before .before .wide-byte .result) (h .1 .0)
+    let d = equivalent-keys (h .0) (c8 .args .i) (c .before .before .wide-byte .result) (h .1 .0)
     (rw e (h .1 .1 .inside _ (omega arith))) (λ e. c .if1 .taken (sym e)) in
-    (omega arith, below-more _ _ (p .loop .inv .1) (rw e at (sym d)))
-
-partner-equivalent-requires : (t : ℕ) → partner-lts.Need-equivalent-requires (partner-claims t) (partner-at t)
-    partner.Post partner-Inv-loop partner-μ-loop
-partner-equivalent-requires t c κs =
-    let h = c .before .before .before .before .before .before .before .pre .1 in
-    (omega arith, (h .0, (h .1 .0, rw (c .before .before .wide-byte .ensures .0) (h .1 .1 .inside _ (omega arith)))))
+    (omega arith, below-more _ _ (c5 .loop .inv .1) (rw e at (sym d)))
 
 partner-returns : (t : ℕ) → partner-lts.Need-returns (partner-claims t) (partner-at t) partner.Post partner-Inv-loop
     partner-μ-loop
 partner-returns t c =
+    let w = c .before .before .before in
+    let l = w .before .before in
+    let z = l .before .before in
+    let p = z .before .before in
+    let h = p .pre .1 in
+    let e = w .wide-byte .ensures .0 in
+    let leaf = sym (z .size-at .ensures .0) ∙ eqb-true (z .size-at .result) 1 (c .if2 .taken) in
+    let d = equivalent-leaves (h .0) (p .args .i) (w .wide-byte .result) (h .1 .0)
+    (rw e (h .1 .1 .inside _ (l .loop-test .taken))) leaf (sym (c .before .if1 .left)) in
     record {
-      within = omega arith;
-      before = c .before .before .before .before .before .before .before .loop .inv .1;
-      found = λ _. (rw (c .before .before .before .before .wide-byte .ensures .0) at
-          (sym (c .before .equivalent .ensures))) ∙ c .if2 .taken;
+      within = omega (arith, l .loop-test .taken);
+      before = l .before .loop .inv .1;
+      found = λ _. rw e at (sym d);
     }
 
-partner-loop-again-2 : (t : ℕ) → partner-lts.Need-loop-again-2 (partner-claims t) (partner-at t) partner.Post
-    partner-Inv-loop partner-μ-loop
-partner-loop-again-2 t c = (
-  omega arith,
-  below-more _ _ (c .before .before .before .before .before .before .before .loop .inv .1)
-      ((rw (c .before .before .before .before .wide-byte .ensures .0) at (sym (c .before .equivalent .ensures))) ∙
-      c .if2 .left),
-)
+partner-equivalent-requires : (t : ℕ) → partner-lts.Need-equivalent-requires (partner-claims t) (partner-at t)
+    partner.Post partner-Inv-loop partner-μ-loop
+partner-equivalent-requires t c κs =
+    let w = c .before .before .before in
+    let h = w .before .before .before .before .before .before .pre .1 in
+    (omega arith, (h .0, (h .1 .0, rw (w .wide-byte .ensures .0) (h .1 .1 .inside _ (omega arith)))))
 
 partner-returns-2 : (t : ℕ) → partner-lts.Need-returns-2 (partner-claims t) (partner-at t) partner.Post partner-Inv-loop
     partner-μ-loop
 partner-returns-2 t c =
+    let c5 = c .before .before .before .before .before in
+    let c8 = c5 .before .before .before in
+    record {
+      within = omega arith;
+      before = c8 .loop .inv .1;
+      found = λ _. (rw (c5 .wide-byte .ensures .0) at (sym (c .before .equivalent .ensures))) ∙ c .if3 .taken;
+    }
+
+partner-loop-again-2 : (t : ℕ) → partner-lts.Need-loop-again-2 (partner-claims t) (partner-at t) partner.Post
+    partner-Inv-loop partner-μ-loop
+partner-loop-again-2 t c =
+    let c5 = c .before .before .before .before .before in
+    let c8 = c5 .before .before .before in (
+      omega arith,
+      below-more _ _ (c8 .loop .inv .1)
+          ((rw (c5 .wide-byte .ensures .0) at (sym (c .before .equivalent .ensures))) ∙ c .if3 .left),
+    )
+
+partner-returns-3 : (t : ℕ) → partner-lts.Need-returns-3 (partner-claims t) (partner-at t) partner.Post partner-Inv-loop
+    partner-μ-loop
+partner-returns-3 t c =
     record {
       within = omega arith;
       before = λ x h. c .before .loop .inv .1 x (omega arith);
-      found = λ h. absurd
-          (omega arith);
+      found = λ h. absurd (omega arith);
     }
 
 abbrev rows-equivalent-claims : ℕ → rows-equivalent-lts.Claims
@@ -417,8 +445,9 @@ rows-equivalent-equivalent-requires-2 t c κs = (
 rows-equivalent-returns-3 : (t : ℕ) → rows-equivalent-lts.Need-returns-3 (rows-equivalent-claims t)
     (rows-equivalent-at t) rows-equivalent.Post rows-equivalent-Inv-loop rows-equivalent-μ-loop
 rows-equivalent-returns-3 t c =
+    let c4 = c .before .before .before .before in
     let g = c .before .before .loop .inv .1 in
-    rows-one (c .before .before .before .before .pre .1 .0) (g .here) (g .there) (omega arith) (c .equivalent2 .ensures)
+    rows-one (c4 .pre .1 .0) (g .here) (g .there) (omega arith) (c .equivalent2 .ensures)
     ∙ g .same
 
 pub +cancels+equivalent+flattenings-equivalent+partner+rows-equivalent-spec : {M : Type 1} → statement M
@@ -438,10 +467,10 @@ pub +cancels+equivalent+flattenings-equivalent+partner+rows-equivalent-spec : {M
     flattenings-equivalent.Post (flattenings-equivalent-elements-requires t) (flattenings-equivalent-cancels-requires t)
     (flattenings-equivalent-returns t))
     (λ t. partner-lts.spec (partner-claims t) (partner-at t) partner.Post partner-Inv-loop partner-μ-loop
-    (λ c. search needs) (λ c. search needs) (partner-loop-holds t) (λ c. search needs) (λ c κs. search needs)
-    (λ c. search needs) (partner-element-copy-out-if1 t) (λ c. search needs) (λ c. search needs) (partner-loop-again t)
-    (partner-equivalent-requires t) (partner-returns t) (λ c. search needs) (λ c. search needs) (partner-loop-again-2 t)
-    (partner-returns-2 t))
+    (λ c. search needs) (λ c. search needs) (λ c κs. search needs) (partner-loop-holds t) (λ c. search needs)
+    (λ c κs. search needs) (λ c. search needs) (partner-element-copy-out-if1 t) (λ c. search needs)
+    (λ c. search needs) (partner-loop-again t) (partner-returns t) (partner-equivalent-requires t)
+    (partner-returns-2 t) (λ c. search needs) (λ c. search needs) (partner-loop-again-2 t) (partner-returns-3 t))
     λ t. rows-equivalent-lts.spec (rows-equivalent-claims t) (rows-equivalent-at t) rows-equivalent.Post
     rows-equivalent-Inv-loop rows-equivalent-μ-loop (rows-equivalent-returns t) (rows-equivalent-loop-holds t)
     (rows-equivalent-equivalent-requires t) (λ c κs. search needs) (λ c. search needs) (λ c κs. search needs)

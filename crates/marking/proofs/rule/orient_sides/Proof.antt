@@ -18,7 +18,7 @@ total-requires-2 c κs =
 mark-requires : tie.Need-mark-requires
 mark-requires c κs =
     let (T, left, right, N) = c .before .before .before .before .before .pre in
-    (whole-terms T left right, (c .before .total .ensures .0, c .total2 .ensures .0))
+    (whole-terms T left right, (c .before .total .ensures .0, c .total2 .ensures .0, N))
 
 returns : tie.Need-returns
 returns c =

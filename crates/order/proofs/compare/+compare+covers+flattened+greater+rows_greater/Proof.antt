@@ -21,7 +21,9 @@ use Rattle.equivalence.proofs.equivalence.equivalent_by_keys.Reads as equivalen
 use Rattle.equivalence.proofs.keys.size_at.Reads as size-at-reads
 use Rattle.equivalence.proofs.offsets.wide_byte.Reads as wide-byte-reads
 use Rattle.order.proofs.compare.higher.Reads as higher-reads
+use Rattle.order.proofs.compare.may_cover.Reads as may-cover-reads
 use Rattle.order.proofs.compare.none_oftener.Reads as none-oftener-reads
+use Rattle.order.proofs.compare.past.Reads as past-reads
 use Rattle.order.proofs.parts.join_surplus.Reads as join-surplus-reads
 use Rattle.order.proofs.parts.parts.Reads as parts-reads
 use Rattle.order.proofs.sums.sum_at.Reads as sum-at-reads
@@ -31,6 +33,7 @@ use Rattle.order.proofs.compare.+compare+covers+flattened+greater+rows_
 use Rattle.order.proofs.compare.+compare+covers+flattened+greater+rows_greater.Tie.{close}
 use native.Mathlib.Omega.{arith}
 use mathlib.Core.Bool.{true, false}
+use mathlib.Core.Logic.{⊎-elim}
 use mathlib.Core.Path.{_≡_, refl, sym, _∙_}
 use Prim.Native.Nat.{_+_, _-_, _*_, _≤_}
 use borrow.Author.Needs.{needs}
@@ -46,6 +49,7 @@ use Rattle.order.specs.Compared.{greaterAt}
 use Rattle.order.proofs.MeasureLaws.{elements-sum, offset-size, inner-total, inner-stands, next-total}
 use Rattle.order.proofs.MeasureLaws.{partNodes, rowNodes, offsetNodes}
 use Rattle.order.proofs.CoverLaws.{someAbove, above-none, above-at, covered-all, covered-not, left-sum}
+use Rattle.order.proofs.CoverLaws.{Search, search-start, search-none, search-within, search-more}
 use Rattle.order.proofs.CoverLaws.{verdict-equal, verdict-short, verdict-above, verdict-not}
 use Rattle.order.proofs.FlattenedLaws.{parts-four, parts-none, parts-five, parts-fewer, parts-six, parts-level}
 use Rattle.order.proofs.FlattenedLaws.{parted-few, joined-offsets, high-nodes, low-nodes}
@@ -142,7 +146,7 @@ compare-covers-requires t c κs =
     let R = a .t .now .now in
     let l = left-sum T (termsAt T S (a .ps .now) (a .n)) (termsAt T R (a .qs .now) (a .m)) (e .0) (e .1) in
     let σ = signatureOf T in
-    (omega (arith, m), (h .0, (offsets-own σ S _ _ _ (e .0), offsets-own σ R _ _ _ (e .1))))
+    (omega (arith, m), (h .0, ((offsets-own σ S _ _ _ (e .0), omega arith), offsets-own σ R _ _ _ (e .1))))
 
 compare-returns-3 : (t : ℕ) → compare-lts.Need-returns-3 (compare-claims t) (compare-at t) compare.Post
 compare-returns-3 t c =
@@ -163,75 +167,130 @@ compare-returns-4 t c =
     (e .0) (e .1) (c .before .before .before .before .if1 .left) (sym (c .if3 .left) ∙ c .before .covers .ensures)
 
 abbrev covers-claims : ℕ → covers-lts.Claims
-covers-claims t = (wide-byte-reads.Asked, wide-byte-reads.Learnt, greater-below t, greater.Post)
+covers-claims t = (
+  wide-byte-reads.Asked,
+  wide-byte-reads.Learnt,
+  may-cover-reads.Asked,
+  may-cover-reads.Learnt,
+  greater-below t,
+  greater.Post,
+  past-reads.Asked,
+  past-reads.Learnt,
+)
 
 abbrev covers-Inv-left : covers-lts.InvT-left
-covers-Inv-left table s sk sw ps n t tk tw qs m k j x₀ x =
-    (x ≤ n) × ((y : ℕ) → y < x → greaterAt (table .now) (s .now) (getD ps y 0) (t .now) j ≡ false)
+covers-Inv-left table s sk sw ps n t tk tw qs m k x₀ j first next₀ x next =
+    Search (λ (y : ℕ). greaterAt (table .now) (s .now) (getD ps y 0) (t .now) j) first x next
 
 abbrev covers-μ-left : covers-lts.MeasureT-left
-covers-μ-left table s sk sw ps n t tk tw qs m k j x₀ x = n - x
+covers-μ-left table s sk sw ps n t tk tw qs m k x₀ j first next₀ x next = n + 1 - next
 
 abbrev covers-Inv-right : covers-lts.InvT-right
-covers-Inv-right table s sk sw ps n t tk tw qs m k₀ k =
-    (k ≤ m) × ((y : ℕ) → y < k → someAbove (table .now) (s .now) ps n (t .now) (getD qs y 0) ≡ true)
+covers-Inv-right table s sk sw ps n t tk tw qs m k₀ x₀ k x =
+    (k ≤ m) × (x < n) × ((y : ℕ) → y < k → someAbove (table .now) (s .now) ps n (t .now) (getD qs y 0) ≡ true)
 
 abbrev covers-μ-right : covers-lts.MeasureT-right
-covers-μ-right table s sk sw ps n t tk tw qs m k₀ k = m - k
+covers-μ-right table s sk sw ps n t tk tw qs m k₀ x₀ k x = m - k
 
 covers-right-holds : (t : ℕ) → covers-lts.Need-right-holds (covers-claims t) (covers-at t) covers.Post covers-Inv-left
     covers-μ-left covers-Inv-right covers-μ-right
-covers-right-holds t c = (omega arith, λ y h. absurd (omega arith))
+covers-right-holds t c = (omega arith, omega arith, λ y h. absurd (omega arith))
 
 covers-left-holds : (t : ℕ) → covers-lts.Need-left-holds (covers-claims t) (covers-at t) covers.Post covers-Inv-left
     covers-μ-left covers-Inv-right covers-μ-right
-covers-left-holds t c = (omega arith, λ y h. absurd (omega arith))
+covers-left-holds t c = search-start
 
 covers-returns : (t : ℕ) → covers-lts.Need-returns (covers-claims t) (covers-at t) covers.Post covers-Inv-left
     covers-μ-left covers-Inv-right covers-μ-right
 covers-returns t c =
-    let p = c .before .before .before .before .before in
+    let w = c .before .before in
+    let l = w .before .before in
+    let p = l .before in
     let a = p .before .args in
     let h = p .before .pre .1 in
     let T = a .table .now .now in
-    let none = above-none T (h .1 .0) (a .t .now .now) (c .before .before .wide-byte .result)
-    (λ y l. c .before .left .inv .1 y (omega arith)) in
-    covered-not T (a .s .now .now) (a .ps .now) (a .n) (h .1 .1) (p .right .k) (omega arith)
-    (rw (c .before .before .wide-byte .ensures .0) at none)
+    let none = above-none T (h .1 .0 .0) (a .t .now .now) (w .wide-byte .result)
+    (search-none (c .before .left .inv) (p .right .inv .1) (c .if1 .taken)) in
+    covered-not T (a .s .now .now) (a .ps .now) (a .n) (h .1 .1) (p .right .k) (l .right-test .taken)
+    (rw (w .wide-byte .ensures .0) at none)
+
+covers-element-copy-out-wide-byte-2 : (t : ℕ) → covers-lts.Need-element-copy-out-wide-byte-2 (covers-claims t)
+    (covers-at t) covers.Post covers-Inv-left covers-μ-left covers-Inv-right covers-μ-right
+covers-element-copy-out-wide-byte-2 t c =
+    let h = c .before .before .before .before .before .before .pre .1 in omega (arith, c .if1 .left, h .1 .0 .0 .few)
+
+covers-may-cover-requires : (t : ℕ) → covers-lts.Need-may-cover-requires (covers-claims t) (covers-at t)
+    covers.Post covers-Inv-left covers-μ-left covers-Inv-right covers-μ-right
+covers-may-cover-requires t c κs =
+    let u = c .before .before in
+    let w = u .before .before in
+    let l = w .before .before in
+    let h = l .before .before .pre .1 in
+    let left = h .1 .0 .0 .inside (u .before .left .x) (u .if1 .left) in
+    rw (w .wide-byte .ensures .0, c .wide-byte2 .ensures .0)
+    (h .0, (left, h .1 .1 .inside (l .before .right .k) (l .right-test .taken)))
 
 covers-greater-requires : (t : ℕ) → covers-lts.Need-greater-requires (covers-claims t) (covers-at t) covers.Post
     covers-Inv-left covers-μ-left covers-Inv-right covers-μ-right
 covers-greater-requires t c κs =
-    let p = c .before .before .before .before .before .before .before in
-    let (m, h) = p .before .pre in
-    let x = c .before .before .before .left .x in
-    let k = p .right .k in
-    rw (c .before .before .before .before .wide-byte .ensures .0, c .wide-byte2 .ensures .0) (
-      omega (arith, m, offset-size (h .1 .0) x (omega arith), offset-size (h .1 .1) k (omega arith)),
-      (h .0, (h .1 .0 .inside x (omega arith), h .1 .1 .inside k (omega arith))),
+    let u = c .before .before .before .before in
+    let w = u .before .before in
+    let l = w .before .before in
+    let (m, h) = l .before .before .pre in
+    let x = u .before .left .x in
+    let k = l .before .right .k in
+    let inside = u .if1 .left in
+    let below = l .right-test .taken in
+    rw (w .wide-byte .ensures .0, c .before .before .wide-byte2 .ensures .0) (
+      omega (arith, m, offset-size (h .1 .0 .0) x inside, offset-size (h .1 .1) k below),
+      (h .0, (h .1 .0 .0 .inside x inside, h .1 .1 .inside k below)),
     )
+
+covers-past-requires : (t : ℕ) → covers-lts.Need-past-requires (covers-claims t) (covers-at t) covers.Post
+    covers-Inv-left covers-μ-left covers-Inv-right covers-μ-right
+covers-past-requires t c κs =
+    let u = c .before .before .before .before in
+    let h = u .before .before .before .before .before .before .pre .1 in
+    omega (arith, search-within (u .before .left .inv) (u .if1 .left), h .1 .0 .0 .few)
+
+covers-add-next : (t : ℕ) → covers-lts.Need-add-next (covers-claims t) (covers-at t) covers.Post covers-Inv-left
+    covers-μ-left covers-Inv-right covers-μ-right
+covers-add-next t c =
+    let u = c .before .before .before .before .before in
+    let h = u .before .before .before .before .before .before .pre .1 in
+    omega (arith, search-within (u .before .left .inv) (u .if1 .left), h .1 .0 .0 .few, c .past .ensures .2)
+
+covers-left-less : (t : ℕ) → covers-lts.Need-left-less (covers-claims t) (covers-at t) covers.Post covers-Inv-left
+    covers-μ-left covers-Inv-right covers-μ-right
+covers-left-less t c =
+    let u = c .before .before .before .before .before in omega (arith, search-within (u .before .left .inv) (u .if1 .left), c .past .ensures .1)
 
 covers-left-again : (t : ℕ) → covers-lts.Need-left-again (covers-claims t) (covers-at t) covers.Post covers-Inv-left
     covers-μ-left covers-Inv-right covers-μ-right
-covers-left-again t c = (
-  omega arith,
-  below-more _ _ (c .before .before .before .before .before .left .inv .1) (rw
-      (c .before .before .wide-byte2 .ensures .0) at (sym (c .before .greater .ensures) ∙ c .if2 .left)),
-)
+covers-left-again t c =
+    let u = c .before .before .before .before .before in
+    let σ = signatureOf (u .before .before .before .before .before .before .args .table .now .now) in
+    let not = ⊎-elim (λ w. sym (w .1 .ensures) ∙ w .2 .left)
+    (λ w. sym (greater-oftener σ _ _ (c .before .before .may-cover .ensures (w .left)))) (c .before .if2 .came) in
+    search-more (u .before .left .inv) (rw (c .before .before .before .wide-byte2 .ensures .0) at not) (c .past .ensures .0)
 
 covers-right-again : (t : ℕ) → covers-lts.Need-right-again (covers-claims t) (covers-at t) covers.Post covers-Inv-left
     covers-μ-left covers-Inv-right covers-μ-right
 covers-right-again t c =
-    let p = c .before .before .before .before .before in
-    let q = p .before .before .before .before .before in
-    let a = q .args in
-    let h = q .pre .1 in
-    let j = p .before .wide-byte .result in
-    let g = rw (c .before .before .wide-byte2 .ensures .0) at (sym (c .before .greater .ensures) ∙ c .if2 .taken) in
-    let above = above-at (a .table .now .now) (h .1 .0) (a .t .now .now) j (p .left .x) (omega arith) g in (
-      omega arith,
-      below-more _ _ (p .before .before .before .before .right .inv .1) (rw
-          (p .before .wide-byte .ensures .0) at above),
+    let v = c .before .before .before .before in
+    let u = v .before .before in
+    let w = u .before .before in
+    let l = w .before .before in
+    let p = l .before in
+    let a = p .before .args in
+    let h = p .before .pre .1 in
+    let x = u .before .left .x in
+    let g = rw (v .wide-byte2 .ensures .0) at (sym (c .before .greater .ensures) ∙ c .if3 .taken) in
+    let above = above-at (a .table .now .now) (h .1 .0 .0) (a .t .now .now) (w .wide-byte .result) x (u .if1 .left) g
+    in (
+      omega (arith, l .right-test .taken),
+      u .if1 .left,
+      below-more _ _ (p .right .inv .2) (rw (w .wide-byte .ensures .0) at above),
     )
 
 covers-returns-2 : (t : ℕ) → covers-lts.Need-returns-2 (covers-claims t) (covers-at t) covers.Post covers-Inv-left
@@ -239,7 +298,7 @@ covers-returns-2 : (t : ℕ) → covers-lts.Need-returns-2 (covers-claims t) (co
 covers-returns-2 t c =
     let a = c .before .before .args in
     covered-all (a .table .now .now) (a .s .now .now) (a .ps .now) (a .n) (c .before .before .pre .1 .1 .1)
-    (λ y l. c .before .right .inv .1 y (omega arith))
+    (λ y l. c .before .right .inv .2 y (omega arith))
 
 abbrev flattened-claims : ℕ → flattened-lts.Claims
 flattened-claims t = (
@@ -318,7 +377,8 @@ flattened-returns-2 t c =
 
 flattened-returns-3 : (t : ℕ) → flattened-lts.Need-returns-3 (flattened-claims t) (flattened-at t) flattened.Post
 flattened-returns-3 t c =
-    let p = c .before .before .before .before .before .before in
+    let c5 = c .before .before .before .before .before in
+    let p = c5 .before in
     let q = p .before .before .before .before .before .before .before .before in
     parts-five (q .before .before .before .before .args .table .now .now) (q .parts .ensures)
     (p .before .before .before .before .parts2 .ensures) (p .join-surplus .ensures)
@@ -336,7 +396,8 @@ flattened-returns-4 t c =
 flattened-compare-requires-2 : (t : ℕ) → flattened-lts.Need-compare-requires-2 (flattened-claims t) (flattened-at t)
     flattened.Post
 flattened-compare-requires-2 t c κs =
-    let u = c .before .before .before .before .before .before .before .before .before .before .before .before .before in
+    let c12 = c .before .before .before .before .before .before .before .before .before .before .before .before in
+    let u = c12 .before in
     let w = u .before .before .before .before .before .before .before .before in
     let a = w .args in
     let (m, h) = w .pre in
@@ -394,7 +455,8 @@ greater-sum-at-requires t c κs =
 
 greater-sum-at-requires-2 : (t : ℕ) → greater-lts.Need-sum-at-requires-2 (greater-claims t) (greater-at t) greater.Post
 greater-sum-at-requires-2 t c κs =
-    let h = c .before .before .before .before .before .pre .1 in (
+    let c5 = c .before .before .before .before .before in
+    let h = c5 .pre .1 in (
       h .0 .sides .right,
       (
         h .0 .right 0 (omega arith),
@@ -436,7 +498,8 @@ greater-returns-3 t c =
 
 greater-returns-4 : (t : ℕ) → greater-lts.Need-returns-4 (greater-claims t) (greater-at t) greater.Post
 greater-returns-4 t c =
-    let p = c .before .before .before .before .before .before in
+    let c5 = c .before .before .before .before .before in
+    let p = c5 .before in
     let q = p .before .before .before .before .before in
     let h = q .before .before .before .pre .1 in
     at-not-higher (h .0) (q .before .before .before .args .i) (q .before .before .before .args .j) (q .sum-at .ensures)
@@ -463,7 +526,9 @@ greater-add-flattened t c = let h = c .before .before .before .before .before .b
     (arith, h .1 .0, h .0 .sides .left .short)
 
 greater-add-flattened-2 : (t : ℕ) → greater-lts.Need-add-flattened-2 (greater-claims t) (greater-at t) greater.Post
-greater-add-flattened-2 t c = let h = c .before .before .before .before .before .before .before .before .before .before
+greater-add-flattened-2 t c =
+    let c9 = c .before .before .before .before .before .before .before .before .before in
+    let h = c9 .before
     .before .before .before .before .before .before .before .before .before .pre .1 in omega
     (arith, h .1 .1, h .0 .sides .right .short)
 
@@ -503,7 +568,9 @@ greater-returns-6 t c =
     ∙ c .before .if7 .taken) (c .flattened .ensures)
 
 greater-add-rows-greater : (t : ℕ) → greater-lts.Need-add-rows-greater (greater-claims t) (greater-at t) greater.Post
-greater-add-rows-greater t c = let h = c .before .before .before .before .before .before .before .before .before .before
+greater-add-rows-greater t c =
+    let c9 = c .before .before .before .before .before .before .before .before .before in
+    let h = c9 .before
     .before .before .before .before .before .before .before .before .before .pre .1 in omega
     (arith, h .1 .0, h .0 .sides .left .short)
 
@@ -626,9 +693,9 @@ pub +compare+covers+flattened+greater+rows-greater-spec : {M : Type 1} → state
     (compare-returns-3 t) (compare-returns-4 t))
     (λ t. covers-lts.spec (covers-claims t) (covers-at t) covers.Post covers-Inv-left covers-μ-left covers-Inv-right
     covers-μ-right (covers-right-holds t) (λ c. search needs) (λ c κs. search needs) (covers-left-holds t)
-    (covers-returns t) (λ c. search needs) (λ c κs. search needs) (covers-greater-requires t) (λ c. search needs)
-    (λ c. search needs) (covers-left-again t) (λ c. search needs) (λ c. search needs) (covers-right-again t)
-    (covers-returns-2 t))
+    (covers-returns t) (covers-element-copy-out-wide-byte-2 t) (λ c κs. search needs) (covers-may-cover-requires t)
+    (covers-greater-requires t) (covers-past-requires t) (covers-add-next t) (covers-left-less t) (covers-left-again t)
+    (λ c. search needs) (λ c. search needs) (covers-right-again t) (covers-returns-2 t))
     (λ t. flattened-lts.spec (flattened-claims t) (flattened-at t) flattened.Post (flattened-parts-requires t)
     (flattened-parts-requires-2 t) (flattened-join-surplus-requires t) (flattened-compare-requires t)
     (flattened-returns t) (flattened-returns-2 t) (flattened-returns-3 t) (flattened-returns-4 t)

@@ -26,7 +26,7 @@ flattened-requires : tie.Need-flattened-requires
 flattened-requires c κs =
     let a = c .before .before .before .before .before .before .before .before .before .before .before .before .before
     .before .before .before .args in
-    let (S, (p, q, R)) = c .before .before .before .before .before .before .before .before .before .before .before
+    let (S, (p, q, R, N)) = c .before .before .before .before .before .before .before .before .before .before .before
     .before .before .before .before .before .pre in
     let T = a .t1 .now in
     let n = c .before .before .before .before .before .before .before .arity .ensures .0 in
@@ -50,19 +50,24 @@ returns : tie.Need-returns
 returns c =
     let a = c .before .before .before .before .before .before .before .before .before .before .before .before .before
     .before .before .before .before .args in
-    let (S, (p, q, R)) = c .before .before .before .before .before .before .before .before .before .before .before
+    let (S, (p, q, R, N)) = c .before .before .before .before .before .before .before .before .before .before .before
     .before .before .before .before .before .before .pre in
     let ac = sym (c .before .before .before .before .before .before .before .is-ac .ensures)
     ∙ c .before .before .before .before .before .before .if1 .taken in
-    root-elements (a .t1 .now) (a .t2 .now) 0 (a .t4 .now) 0 p q (R .root) (ac-small (a .t1 .now) (S .small) _ ac)
+    root-elements (a .t1 .now) (a .t3 .now) 0 (a .t5 .now) 0 p q (R .root) (ac-small (a .t1 .now) (S .small) _ ac)
     (c .before .before .before .before .before .before .before .before .arity .ensures .0) ac (c .flattened .ensures)
 
 greater-requires : tie.Need-greater-requires
-greater-requires c κs = search needs
+greater-requires c κs =
+    let c9 = c .before .before .before .before .before .before .before .before .before in
+    let c11 = c9 .before .before in
+    let c16 = c11 .before .before .before .before .before in
+    let (S, (p, q, R, N)) = c16 .pre in
+    (record { sides = S; left = c11 .sum-up .ensures .0; right = c9 .sum-up2 .ensures .0 }, (p, q))
 
 returns-2 : tie.Need-returns-2
 returns-2 c =
-    let (S, (p, q, R)) = c .before .before .before .before .before .before .before .before .before .before .before
+    let (S, (p, q, R, N)) = c .before .before .before .before .before .before .before .before .before .before .before
     .before .before .before .before .before .before .before .pre in
     arguments-three R p q (sym (c .before .before .before .before .before .before .before .before .is-ac .ensures)
     ∙ c .before .before .before .before .before .before .before .if1 .left) (sym (c .if2 .taken)
@@ -70,7 +75,7 @@ returns-2 c =
 
 returns-3 : tie.Need-returns-3
 returns-3 c =
-    let (S, (p, q, R)) = c .before .before .before .before .before .before .before .before .before .before .before
+    let (S, (p, q, R, N)) = c .before .before .before .before .before .before .before .before .before .before .before
     .before .before .before .before .before .before .before .pre in
     arguments-none R p q (sym (c .before .before .before .before .before .before .before .before .is-ac .ensures)
     ∙ c .before .before .before .before .before .before .before .if1 .left) (sym (c .if2 .left)

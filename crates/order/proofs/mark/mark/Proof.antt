@@ -14,7 +14,7 @@ within-requires c κs = search needs
 returns : tie.Need-returns
 returns c =
     let a = c .before .before .before .before .before .before .before .before .args in
-    let (S, (A, B)) = c .before .before .before .before .before .before .before .before .pre in
+    let (S, (A, B, N)) = c .before .before .before .before .before .before .before .before .pre in
     let σ = signatureOf (a .table .now) in
     let none = sym (c .before .before .before .if1 .taken) ∙ c .before .before .before .before .within .ensures ∙
     within-none S A B in
@@ -23,8 +23,9 @@ returns c =
 
 returns-2 : tie.Need-returns-2
 returns-2 c =
-    let a = c .before .before .before .before .before .before .before .before .before .before .before .args in
-    let (S, (A, B)) = c .before .before .before .before .before .before .before .before .before .before .before .pre in
+    let p = c .before .before .before .before .before .before .before .before .before .before .before in
+    let a = p .args in
+    let (S, (A, B, N)) = p .pre in
     let σ = signatureOf (a .table .now) in
     let none = sym (c .before .before .before .before .before .before .if1 .taken) ∙
     c .before .before .before .before .before .before .before .within .ensures ∙ within-none S A B in
@@ -33,12 +34,14 @@ returns-2 c =
 
 mark-level-requires : tie.Need-mark-level-requires
 mark-level-requires c κs =
-    let (S, (A, B)) = c .before .before .before .before .before .before .before .before .before .before .before .pre in (
+    let p = c .before .before .before .before .before .before .before .before .before .before .before in
+    let (S, (A, B, N)) = p .pre in (
       S,
       (
         sym (c .before .before .before .before .before .before .if1 .taken) ∙
             c .before .before .before .before .before .before .before .within .ensures ∙ within-none S A B,
         omega (arith, left-weight S A B, right-weight S A B),
+        N,
       ),
     )
 
@@ -48,7 +51,7 @@ returns-3 c = search needs
 returns-4 : tie.Need-returns-4
 returns-4 c =
     let a = c .before .before .before .before .before .args in
-    let (S, (A, B)) = c .before .before .before .before .before .pre in
+    let (S, (A, B, N)) = c .before .before .before .before .before .pre in
     let σ = signatureOf (a .table .now) in
     whole-seven σ (termOf σ (a .s .now)) (termOf σ (a .t .now))
     (sym (c .if1 .left) ∙ c .before .within .ensures ∙ within-none S A B)

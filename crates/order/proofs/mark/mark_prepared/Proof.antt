@@ -35,17 +35,17 @@ returns c =
     let S = c .before .before .before .before .before .before .before .before .before .before .before .before .before
     .before .pre .0 in
     let σ = signatureOf (a .t1 .now) in
-    mark-of-equivalent σ (S .binary) (termOf σ (a .t2 .now)) (termOf σ (a .t3 .now)) (left-formed S) (right-formed S)
+    mark-of-equivalent σ (S .binary) (termOf σ (a .t3 .now)) (termOf σ (a .t4 .now)) (left-formed S) (right-formed S)
     (sym (c .before .equivalent .ensures) ∙ c .if1 .taken)
 
 arguments-mark-requires : tie.Need-arguments-mark-requires
 arguments-mark-requires c κs =
-    let (S, R) = c .before .before .before .before .before .before .before .before .before .before .before .before
+    let (S, R, N) = c .before .before .before .before .before .before .before .before .before .before .before .before
     .before .before .before .before .pre in (
       whole-sides S
           (c .before .before .before .before .before .before .before .before .before .before .before .prepare .ensures)
           (c .before .before .before .before .before .before .before .before .before .prepare2 .ensures),
-      (left-some S, right-some S, R),
+      (left-some S, right-some S, R, N),
     )
 
 returns-2 : tie.Need-returns-2
@@ -55,7 +55,7 @@ returns-2 c =
     let R = c .before .before .before .before .before .before .before .before .before .before .before .before .before
     .before .before .before .before .before .pre .1 in
     let σ = signatureOf (a .t1 .now) in
-    whole-root σ (termOf σ (a .t2 .now)) (termOf σ (a .t3 .now)) (R .few) refl refl (R .level)
+    whole-root σ (termOf σ (a .t3 .now)) (termOf σ (a .t4 .now)) (R .few) refl refl (R .level)
     (c .before .arguments-mark .ensures)
     (c .if2 .taken)
 
@@ -66,7 +66,7 @@ returns-3 c =
     let R = c .before .before .before .before .before .before .before .before .before .before .before .before .before
     .before .before .before .before .before .pre .1 in
     let σ = signatureOf (a .t1 .now) in
-    whole-ten σ (termOf σ (a .t2 .now)) (termOf σ (a .t3 .now)) (R .few) refl refl (R .level)
+    whole-ten σ (termOf σ (a .t3 .now)) (termOf σ (a .t4 .now)) (R .few) refl refl (R .level)
     (c .before .arguments-mark .ensures)
     (c .if2 .left) (sym (c .before .before .before .before .if1 .left)
     ∙ c .before .before .before .before .before .equivalent .ensures)

@@ -27,8 +27,8 @@ returns-2 c =
 
 mark-requires-2 : tie.Need-mark-requires-2
 mark-requires-2 c κs =
-    let (S, (A, B)) = c .before .before .before .before .before .before .pre in
-    (turned S, (B, A))
+    let (S, (A, B, N)) = c .before .before .before .before .before .before .pre in
+    (turned S, (B, A, N))
 
 returns-3 : tie.Need-returns-3
 returns-3 c =

@@ -23,8 +23,9 @@ returns c =
     let table = c5 .args .table .now in
     let σ = signatureOf table in
     let count : (length table + 2) / 4 ≡ length (σ .symbols) = sym (symbol-count table) in
-    node-sums σ (c .before .before .put-weights .last .1 .0) (c .put-variables .last .1 .0) (few-at table (c5 .pre)) (rw count at (c .before .before .put-weights .ensures .0)) (c
-    .put-variables .ensures .0)
+    let put = c .before .before .put-weights in
+    node-sums σ (put .last .1 .0) (c .put-variables .last .1 .0) (few-at table (c5 .pre)) (rw count at (put .ensures .0))
+    (c .put-variables .ensures .0)
 
 pub node-sums-spec : {M : Type 1} → statement M
 node-sums-spec =

@@ -11,12 +11,12 @@ use Rattle.order.proofs.sums.sum_up.Statement.{statement}
 use Rattle.order.proofs.sums.sum_up.Tie as tie
 
 abbrev Inv-loop : tie.InvT-loop
-Inv-loop table words sums₀ i₀ here₀ sums i here =
+Inv-loop table adds words sums₀ i₀ here₀ sums i here =
     (i ≤ length words) × (length sums ≡ 387) × Totalled (signatureOf table) (drop i words) here
     × Bounded (length words - i) here × AllFrom (signatureOf table) words sums i
 
 abbrev μ-loop : tie.MeasureT-loop
-μ-loop table words sums₀ i₀ here₀ sums i here = i
+μ-loop table adds words sums₀ i₀ here₀ sums i here = i
 
 put-sums-requires : tie.Need-put-sums-requires Inv-loop μ-loop
 put-sums-requires c κs = search needs
@@ -40,14 +40,16 @@ loop-holds c =
 sub-i : tie.Need-sub-i Inv-loop μ-loop
 sub-i c = search needs
 
-mul-with-node : tie.Need-mul-with-node Inv-loop μ-loop
-mul-with-node c = search needs
+mul-with-known : tie.Need-mul-with-known Inv-loop μ-loop
+mul-with-known c = search needs
 
-shared-slice-read-with-node : tie.Need-shared-slice-read-with-node Inv-loop μ-loop
-shared-slice-read-with-node c = search needs
+shared-slice-read-with-known : tie.Need-shared-slice-read-with-known Inv-loop μ-loop
+shared-slice-read-with-known c = search needs
 
-with-node-requires : tie.Need-with-node-requires Inv-loop μ-loop
-with-node-requires c κs = bounded-more (omega arith) (c .before .before .loop .inv .3)
+with-known-requires : tie.Need-with-known-requires Inv-loop μ-loop
+with-known-requires c κs =
+    let c7 = c .before .before .before .before .before .before .before in
+    (bounded-more (omega arith) (c .before .before .loop .inv .3), c7 .pre .2)
 
 put-sums-requires-2 : tie.Need-put-sums-requires-2 Inv-loop μ-loop
 put-sums-requires-2 c κs = search needs
@@ -60,7 +62,7 @@ loop-again c =
     let a = c .before .before .before .before .before .before .before .before .before .before .args in
     let l = c .before .before .before .before .before .loop in
     let σ = signatureOf (a .table .now) in
-    let more = c .before .before .with-node .ensures in
+    let more = c .before .before .with-known .ensures in
     let T = totalled-more σ (a .words .now) (l .i) (l .here) _ (omega arith) (l .inv .0) (l .inv .2) (more .0) in (
       omega arith,
       rw (c .put-sums2 .ensures) (stored-room (l .sums) (l .i - 1) _ (omega arith) (l .inv .1)),
@@ -88,9 +90,9 @@ sum-up-spec =
     put-sums-requires
     loop-holds
     sub-i
-    mul-with-node
-    shared-slice-read-with-node
-    with-node-requires
+    mul-with-known
+    shared-slice-read-with-known
+    with-known-requires
     put-sums-requires-2
     loop-less
     loop-again

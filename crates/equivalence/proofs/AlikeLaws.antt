@@ -1,9 +1,8 @@
 -- What the functions of the AC-equivalence test show at each of their ends.
---     equivalent-keys, -leaves, -elements, -rows    the roots
---     keys-roots
---     rows-none, -unlike, -more, -one               the arguments in their order
---     cancelled-none, -own, -absent, -more          a flattening against a list
---     Going, RowGoing                               the invariants of the scans
+--     keys-roots, equivalent-keys, -leaves, -elements, -rows   the roots
+--     rows-none, -unlike, -more, -one                          the arguments in their order
+--     cancelled-none, -own, -absent, -more                     a flattening against a list
+--     Going, RowGoing                                          the invariants of the scans
 use mathlib.Core.List.{List}
 use mathlib.Core.Path.{_≡_, refl, sym, ap, ap₂, _∙_}
 use mathlib.Core.Bool.{Bool, true, false, _&&_, false≢true}

@@ -1,8 +1,8 @@
 -- Covering and the comparison of two lists of offsets as multisets.
 --     Search, search-start, -none, -within, -more   the search for a greater term
---     above-none, above-at                       what it finds
---     covered-all, covered-not                   each has a greater one
---     verdict-equal, -short, -above, -not        what is left decides
+--     above-none, above-at                          what it finds
+--     covered-all, covered-not                      each has a greater one
+--     verdict-equal, -short, -above, -not           what is left decides
 use mathlib.Core.List.{List, [], _∷_, map}
 use mathlib.Core.Path.{_≡_, refl, sym, _∙_}
 use mathlib.Core.Bool.{Bool, true, false, cond}

@@ -289,7 +289,7 @@ fn compare(
     0
 }
 
-// The number given, or the one after it where that was tried first.
+// The index that comes next, or the one after it where the next was tried first.
 fn past(next: usize, first: usize) -> usize
     requires { ⌜ next ≤ 64 ⌝ }
     ensures { λ r. ⌜ (r ≡ cond (eqb next first) (next + 1) next) × (next ≤ r) × (r ≤ next + 1) ⌝ }

@@ -20,12 +20,15 @@ pub enum Stored {
     Fault(u8, usize),
 }
 
-// Stores words from an index on, where there is room for all of them.
+// Stores words from an index on, where there is room for all of them, and none where there is not.
 pub fn put_words(words: &mut [u16], index: usize, nodes: &[u16])
     requires { ⌜ index + length (now nodes) < 2 ^ 63 ⌝ }
     ensures { λ _. ⌜
         (index + length (now (nodes .entry)) ≤ length (now (words .entry)) →
         now (words .exit) ≡ sets (now (words .entry)) index (now (nodes .entry)))
+        ⌝ }
+    ensures { λ _. ⌜
+        (length (now (words .entry)) < index + length (now (nodes .entry)) → now (words .exit) ≡ now (words .entry))
         ⌝ }
 {
     if words.len() < index + nodes.len() {

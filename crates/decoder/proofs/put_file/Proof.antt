@@ -70,7 +70,7 @@ returns c =
     .last .0)
     (signatureOf (a .table .now)) read (a .count) (a .rules)
     (rw (c15 .variable-weight .ensures .0) at header) (c6 .put-symbols .ensures)
-    (rw same at (c .before .before .put-words .ensures (omega (arith, long)))) (c28 .pre .0 .0) rules
+    (rw same at (c .before .before .put-words .ensures .0 (omega (arith, long)))) (c28 .pre .0 .0) rules
 
 pub put-file-spec : {M : Type 1} → statement M
 put-file-spec =

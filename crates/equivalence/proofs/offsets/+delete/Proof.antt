@@ -22,38 +22,41 @@ delete-at t = and 1 delete-kinds.ps (is 1 delete-kinds.ps μ-delete t) delete.Pr
 abbrev delete-below : ℕ → In 1 delete-kinds.ps
 delete-below t = and 1 delete-kinds.ps (falls 1 delete-kinds.ps _<_ μ-delete t) delete.Pre
 
-delete-add-if1 : (t : ℕ) → delete-lts.Need-add-if1 (delete-below t, delete.Post) (delete-at t) delete.Post
+abbrev delete-claims : ℕ → delete-lts.Claims
+delete-claims t = (delete-below t, delete.Post)
+
+delete-add-if1 : (t : ℕ) → delete-lts.Need-add-if1 (delete-claims t) (delete-at t) delete.Post
 delete-add-if1 t c = search needs
 
-delete-add-offsets : (t : ℕ) → delete-lts.Need-add-offsets (delete-below t, delete.Post) (delete-at t) delete.Post
+delete-add-offsets : (t : ℕ) → delete-lts.Need-add-offsets (delete-claims t) (delete-at t) delete.Post
 delete-add-offsets t c = search needs
 
-delete-element-copy-out-offsets : (t : ℕ) → delete-lts.Need-element-copy-out-offsets (delete-below t, delete.Post)
+delete-element-copy-out-offsets : (t : ℕ) → delete-lts.Need-element-copy-out-offsets (delete-claims t)
     (delete-at t) delete.Post
 delete-element-copy-out-offsets t c = search needs
 
-delete-element-write-offsets : (t : ℕ) → delete-lts.Need-element-write-offsets (delete-below t, delete.Post)
+delete-element-write-offsets : (t : ℕ) → delete-lts.Need-element-write-offsets (delete-claims t)
     (delete-at t) delete.Post
 delete-element-write-offsets t c = search needs
 
-delete-add-delete : (t : ℕ) → delete-lts.Need-add-delete (delete-below t, delete.Post) (delete-at t) delete.Post
+delete-add-delete : (t : ℕ) → delete-lts.Need-add-delete (delete-claims t) (delete-at t) delete.Post
 delete-add-delete t c = search needs
 
-delete-delete-requires : (t : ℕ) → delete-lts.Need-delete-requires (delete-below t, delete.Post) (delete-at t)
+delete-delete-requires : (t : ℕ) → delete-lts.Need-delete-requires (delete-claims t) (delete-at t)
     delete.Post
 delete-delete-requires t c κs = (
   omega arith,
   (omega arith, omega arith, simp length-set (c .before .before .before .pre .1 .2)),
 )
 
-delete-returns : (t : ℕ) → delete-lts.Need-returns (delete-below t, delete.Post) (delete-at t) delete.Post
+delete-returns : (t : ℕ) → delete-lts.Need-returns (delete-claims t) (delete-at t) delete.Post
 delete-returns t c =
     let a = c .before .before .before .before .args in (
       delete-more (a .offsets .now) _ (a .k) (a .m) (omega arith) (omega arith) (c .delete .ensures .0),
       c .delete .ensures .1 ∙ simp length-set,
     )
 
-delete-returns-2 : (t : ℕ) → delete-lts.Need-returns-2 (delete-below t, delete.Post) (delete-at t) delete.Post
+delete-returns-2 : (t : ℕ) → delete-lts.Need-returns-2 (delete-claims t) (delete-at t) delete.Post
 delete-returns-2 t c = (
   delete-last (c .before .args .offsets .now) (c .before .args .k) (c .before .args .m)
       (omega arith),
@@ -65,7 +68,7 @@ pub +delete-spec : {M : Type 1} → statement M
     close
     μ-delete
     λ t. delete-lts.spec
-    (delete-below t, delete.Post)
+    (delete-claims t)
     (delete-at t)
     delete.Post
     (delete-add-if1 t)

@@ -78,7 +78,7 @@ returns-2 c =
       λ σ k. side-stored _ (a .index) (a .words .now) (take (c6 .count .given .0 .0) (c8 .read-side .last .1 .1 .0)) _
           _ _
           (rw (c6 .count .given .1) at (c8 .read-side .ensures .0 σ k)) (omega (arith, long)) (c .before .before
-          .put-words .ensures),
+          .put-words .ensures .0),
       (omega (arith, within), within .1),
     )
 

@@ -20,7 +20,7 @@ add-if1 : tie.Need-add-if1 Inv-loop μ-loop
 add-if1 c = search needs
 
 returns : tie.Need-returns Inv-loop μ-loop
-returns c = λ room. absurd (omega arith)
+returns c = (λ room. absurd (omega arith), λ none. refl)
 
 loop-holds : tie.Need-loop-holds Inv-loop μ-loop
 loop-holds c = (omega arith, refl, refl)
@@ -67,7 +67,7 @@ returns-2 c =
     let v = c .before .loop .inv in
     let all : take (c .before .loop .i) (c3 .args .nodes .now) ≡ c3 .args .nodes .now = take-all (c .before .loop .i)
     (c3 .args .nodes .now) (omega arith) in
-    λ room. v .2 ∙ ap (sets (c3 .args .words .now) (c3 .args .index)) all
+    (λ room. v .2 ∙ ap (sets (c3 .args .words .now) (c3 .args .index)) all, λ none. absurd (omega arith))
 
 pub put-words-spec : {M : Type 1} → statement M
 put-words-spec =

@@ -32,7 +32,8 @@ abbrev read-terms-below : ℕ → In 4 read-terms-kinds.ps
 read-terms-below t =
     and 4 read-terms-kinds.ps (falls 4 read-terms-kinds.ps _<_ μ-read-terms t) read-terms.Pre
 
-read-terms-number-requires : (t : ℕ) → read-terms-lts.Need-number-requires (
+abbrev read-terms-claims : ℕ → read-terms-lts.Claims
+read-terms-claims t = (
   number-reads.Asked,
   number-reads.Learnt,
   node-reads.Asked,
@@ -41,19 +42,12 @@ read-terms-number-requires : (t : ℕ) → read-terms-lts.Need-number-requires (
   cell-at-reads.Learnt,
   read-terms-below t,
   read-terms.Post,
-) (read-terms-at t) read-terms.Post
+)
+
+read-terms-number-requires : (t : ℕ) → read-terms-lts.Need-number-requires (read-terms-claims t) (read-terms-at t) read-terms.Post
 read-terms-number-requires t c κs = omega arith
 
-read-terms-returns : (t : ℕ) → read-terms-lts.Need-returns (
-  number-reads.Asked,
-  number-reads.Learnt,
-  node-reads.Asked,
-  node-reads.Learnt,
-  cell-at-reads.Asked,
-  cell-at-reads.Learnt,
-  read-terms-below t,
-  read-terms.Post,
-) (read-terms-at t) read-terms.Post
+read-terms-returns : (t : ℕ) → read-terms-lts.Need-returns (read-terms-claims t) (read-terms-at t) read-terms.Post
 read-terms-returns t c =
     let a = c .before .before .args in (
       λ σ k. answers-none (bitSource (a .book .now .now)) σ (a .count) (a .owed) (a .cursor .at) (a .words .now) _ _
@@ -61,28 +55,10 @@ read-terms-returns t c =
       (omega (arith, c .number .ensures), c .before .before .pre .1 .1 .2),
     )
 
-read-terms-number-requires-2 : (t : ℕ) → read-terms-lts.Need-number-requires-2 (
-  number-reads.Asked,
-  number-reads.Learnt,
-  node-reads.Asked,
-  node-reads.Learnt,
-  cell-at-reads.Asked,
-  cell-at-reads.Learnt,
-  read-terms-below t,
-  read-terms.Post,
-) (read-terms-at t) read-terms.Post
+read-terms-number-requires-2 : (t : ℕ) → read-terms-lts.Need-number-requires-2 (read-terms-claims t) (read-terms-at t) read-terms.Post
 read-terms-number-requires-2 t c κs = omega arith
 
-read-terms-returns-2 : (t : ℕ) → read-terms-lts.Need-returns-2 (
-  number-reads.Asked,
-  number-reads.Learnt,
-  node-reads.Asked,
-  node-reads.Learnt,
-  cell-at-reads.Asked,
-  cell-at-reads.Learnt,
-  read-terms-below t,
-  read-terms.Post,
-) (read-terms-at t) read-terms.Post
+read-terms-returns-2 : (t : ℕ) → read-terms-lts.Need-returns-2 (read-terms-claims t) (read-terms-at t) read-terms.Post
 read-terms-returns-2 t c =
     let c3 = c .before .before .before in
     let a = c3 .args in (
@@ -91,40 +67,13 @@ read-terms-returns-2 t c =
       (omega (arith, c .number2 .ensures), c3 .pre .1 .1 .2),
     )
 
-read-terms-node-requires : (t : ℕ) → read-terms-lts.Need-node-requires (
-  number-reads.Asked,
-  number-reads.Learnt,
-  node-reads.Asked,
-  node-reads.Learnt,
-  cell-at-reads.Asked,
-  cell-at-reads.Learnt,
-  read-terms-below t,
-  read-terms.Post,
-) (read-terms-at t) read-terms.Post
+read-terms-node-requires : (t : ℕ) → read-terms-lts.Need-node-requires (read-terms-claims t) (read-terms-at t) read-terms.Post
 read-terms-node-requires t c κs = omega arith
 
-read-terms-enum-known-offset : (t : ℕ) → read-terms-lts.Need-enum-known-offset (
-  number-reads.Asked,
-  number-reads.Learnt,
-  node-reads.Asked,
-  node-reads.Learnt,
-  cell-at-reads.Asked,
-  cell-at-reads.Learnt,
-  read-terms-below t,
-  read-terms.Post,
-) (read-terms-at t) read-terms.Post
+read-terms-enum-known-offset : (t : ℕ) → read-terms-lts.Need-enum-known-offset (read-terms-claims t) (read-terms-at t) read-terms.Post
 read-terms-enum-known-offset t c = search needs
 
-read-terms-number-requires-3 : (t : ℕ) → read-terms-lts.Need-number-requires-3 (
-  number-reads.Asked,
-  number-reads.Learnt,
-  node-reads.Asked,
-  node-reads.Learnt,
-  cell-at-reads.Asked,
-  cell-at-reads.Learnt,
-  read-terms-below t,
-  read-terms.Post,
-) (read-terms-at t) read-terms.Post
+read-terms-number-requires-3 : (t : ℕ) → read-terms-lts.Need-number-requires-3 (read-terms-claims t) (read-terms-at t) read-terms.Post
 read-terms-number-requires-3 t c κs =
     let c3 = c .before .before .before in
     let c7 = c3 .before .before .before .before in
@@ -134,76 +83,22 @@ read-terms-number-requires-3 t c κs =
     let end = node-within-fault limit _ _ _ (bits-node (a .book .now .now) (a .cursor .at) (c7 .pre .1 .0 .1)) node in
     omega (arith, end)
 
-read-terms-enum-known-word : (t : ℕ) → read-terms-lts.Need-enum-known-word (
-  number-reads.Asked,
-  number-reads.Learnt,
-  node-reads.Asked,
-  node-reads.Learnt,
-  cell-at-reads.Asked,
-  cell-at-reads.Learnt,
-  read-terms-below t,
-  read-terms.Post,
-) (read-terms-at t) read-terms.Post
+read-terms-enum-known-word : (t : ℕ) → read-terms-lts.Need-enum-known-word (read-terms-claims t) (read-terms-at t) read-terms.Post
 read-terms-enum-known-word t c = search needs
 
-read-terms-mul-words : (t : ℕ) → read-terms-lts.Need-mul-words (
-  number-reads.Asked,
-  number-reads.Learnt,
-  node-reads.Asked,
-  node-reads.Learnt,
-  cell-at-reads.Asked,
-  cell-at-reads.Learnt,
-  read-terms-below t,
-  read-terms.Post,
-) (read-terms-at t) read-terms.Post
+read-terms-mul-words : (t : ℕ) → read-terms-lts.Need-mul-words (read-terms-claims t) (read-terms-at t) read-terms.Post
 read-terms-mul-words t c = search needs
 
-read-terms-element-write-words : (t : ℕ) → read-terms-lts.Need-element-write-words (
-  number-reads.Asked,
-  number-reads.Learnt,
-  node-reads.Asked,
-  node-reads.Learnt,
-  cell-at-reads.Asked,
-  cell-at-reads.Learnt,
-  read-terms-below t,
-  read-terms.Post,
-) (read-terms-at t) read-terms.Post
+read-terms-element-write-words : (t : ℕ) → read-terms-lts.Need-element-write-words (read-terms-claims t) (read-terms-at t) read-terms.Post
 read-terms-element-write-words t c = search needs
 
-read-terms-cell-at-requires : (t : ℕ) → read-terms-lts.Need-cell-at-requires (
-  number-reads.Asked,
-  number-reads.Learnt,
-  node-reads.Asked,
-  node-reads.Learnt,
-  cell-at-reads.Asked,
-  cell-at-reads.Learnt,
-  read-terms-below t,
-  read-terms.Post,
-) (read-terms-at t) read-terms.Post
+read-terms-cell-at-requires : (t : ℕ) → read-terms-lts.Need-cell-at-requires (read-terms-claims t) (read-terms-at t) read-terms.Post
 read-terms-cell-at-requires t c κs = rw (c .before .word .given .1) at (c .before .before .before .node .ensures .1)
 
-read-terms-add-number : (t : ℕ) → read-terms-lts.Need-add-number (
-  number-reads.Asked,
-  number-reads.Learnt,
-  node-reads.Asked,
-  node-reads.Learnt,
-  cell-at-reads.Asked,
-  cell-at-reads.Learnt,
-  read-terms-below t,
-  read-terms.Post,
-) (read-terms-at t) read-terms.Post
+read-terms-add-number : (t : ℕ) → read-terms-lts.Need-add-number (read-terms-claims t) (read-terms-at t) read-terms.Post
 read-terms-add-number t c = search needs
 
-read-terms-number-requires-4 : (t : ℕ) → read-terms-lts.Need-number-requires-4 (
-  number-reads.Asked,
-  number-reads.Learnt,
-  node-reads.Asked,
-  node-reads.Learnt,
-  cell-at-reads.Asked,
-  cell-at-reads.Learnt,
-  read-terms-below t,
-  read-terms.Post,
-) (read-terms-at t) read-terms.Post
+read-terms-number-requires-4 : (t : ℕ) → read-terms-lts.Need-number-requires-4 (read-terms-claims t) (read-terms-at t) read-terms.Post
 read-terms-number-requires-4 t c κs =
     let c4 = c .before .before .before .before in
     let c6 = c4 .before .before in
@@ -214,16 +109,7 @@ read-terms-number-requires-4 t c κs =
     let end = node-within-got limit _ _ _ (bits-node (a .book .now .now) (a .cursor .at) (c10 .pre .1 .0 .1)) node in
     omega (arith, end .0)
 
-read-terms-returns-3 : (t : ℕ) → read-terms-lts.Need-returns-3 (
-  number-reads.Asked,
-  number-reads.Learnt,
-  node-reads.Asked,
-  node-reads.Learnt,
-  cell-at-reads.Asked,
-  cell-at-reads.Learnt,
-  read-terms-below t,
-  read-terms.Post,
-) (read-terms-at t) read-terms.Post
+read-terms-returns-3 : (t : ℕ) → read-terms-lts.Need-returns-3 (read-terms-claims t) (read-terms-at t) read-terms.Post
 read-terms-returns-3 t c =
     let c3 = c .before .before .before in
     let c5 = c3 .before .before in
@@ -243,52 +129,16 @@ read-terms-returns-3 t c =
       (omega (arith, c .number4 .ensures, end .0), simp length-set (c11 .pre .1 .1 .2)),
     )
 
-read-terms-add-read-terms : (t : ℕ) → read-terms-lts.Need-add-read-terms (
-  number-reads.Asked,
-  number-reads.Learnt,
-  node-reads.Asked,
-  node-reads.Learnt,
-  cell-at-reads.Asked,
-  cell-at-reads.Learnt,
-  read-terms-below t,
-  read-terms.Post,
-) (read-terms-at t) read-terms.Post
+read-terms-add-read-terms : (t : ℕ) → read-terms-lts.Need-add-read-terms (read-terms-claims t) (read-terms-at t) read-terms.Post
 read-terms-add-read-terms t c = search needs
 
-read-terms-sub-read-terms : (t : ℕ) → read-terms-lts.Need-sub-read-terms (
-  number-reads.Asked,
-  number-reads.Learnt,
-  node-reads.Asked,
-  node-reads.Learnt,
-  cell-at-reads.Asked,
-  cell-at-reads.Learnt,
-  read-terms-below t,
-  read-terms.Post,
-) (read-terms-at t) read-terms.Post
+read-terms-sub-read-terms : (t : ℕ) → read-terms-lts.Need-sub-read-terms (read-terms-claims t) (read-terms-at t) read-terms.Post
 read-terms-sub-read-terms t c = search needs
 
-read-terms-sub-read-terms-2 : (t : ℕ) → read-terms-lts.Need-sub-read-terms-2 (
-  number-reads.Asked,
-  number-reads.Learnt,
-  node-reads.Asked,
-  node-reads.Learnt,
-  cell-at-reads.Asked,
-  cell-at-reads.Learnt,
-  read-terms-below t,
-  read-terms.Post,
-) (read-terms-at t) read-terms.Post
+read-terms-sub-read-terms-2 : (t : ℕ) → read-terms-lts.Need-sub-read-terms-2 (read-terms-claims t) (read-terms-at t) read-terms.Post
 read-terms-sub-read-terms-2 t c = search needs
 
-read-terms-add-read-terms-2 : (t : ℕ) → read-terms-lts.Need-add-read-terms-2 (
-  number-reads.Asked,
-  number-reads.Learnt,
-  node-reads.Asked,
-  node-reads.Learnt,
-  cell-at-reads.Asked,
-  cell-at-reads.Learnt,
-  read-terms-below t,
-  read-terms.Post,
-) (read-terms-at t) read-terms.Post
+read-terms-add-read-terms-2 : (t : ℕ) → read-terms-lts.Need-add-read-terms-2 (read-terms-claims t) (read-terms-at t) read-terms.Post
 read-terms-add-read-terms-2 t c =
     let c10 = c .before .before .before .before .before .before .before .before .before .before in
     omega (
@@ -298,16 +148,7 @@ read-terms-add-read-terms-2 t c =
           (omega arith) (omega arith) (c10 .pre .1 .1 .1) .0,
     )
 
-read-terms-read-terms-requires : (t : ℕ) → read-terms-lts.Need-read-terms-requires (
-  number-reads.Asked,
-  number-reads.Learnt,
-  node-reads.Asked,
-  node-reads.Learnt,
-  cell-at-reads.Asked,
-  cell-at-reads.Learnt,
-  read-terms-below t,
-  read-terms.Post,
-) (read-terms-at t) read-terms.Post
+read-terms-read-terms-requires : (t : ℕ) → read-terms-lts.Need-read-terms-requires (read-terms-claims t) (read-terms-at t) read-terms.Post
 read-terms-read-terms-requires t c κs =
     let c4 = c .before .before .before .before in
     let c6 = c4 .before .before in
@@ -323,16 +164,7 @@ read-terms-read-terms-requires t c κs =
     let fewer = fewer-allowed (a .count) t (c10 .pre .1 .1 .0) (c8 .if2 .left) (c10 .pre .0) in
     (fewer .0, ((c10 .pre .1 .0 .0, end .1), (fewer .1, fits, simp length-set (c10 .pre .1 .1 .2))))
 
-read-terms-returns-4 : (t : ℕ) → read-terms-lts.Need-returns-4 (
-  number-reads.Asked,
-  number-reads.Learnt,
-  node-reads.Asked,
-  node-reads.Learnt,
-  cell-at-reads.Asked,
-  cell-at-reads.Learnt,
-  read-terms-below t,
-  read-terms.Post,
-) (read-terms-at t) read-terms.Post
+read-terms-returns-4 : (t : ℕ) → read-terms-lts.Need-returns-4 (read-terms-claims t) (read-terms-at t) read-terms.Post
 read-terms-returns-4 t c =
     let c4 = c .before .before .before .before in
     let c8 = c4 .before .before .before .before in
@@ -347,16 +179,7 @@ read-terms-returns-4 t c =
       (omega (arith, c .number3 .ensures, end), c8 .pre .1 .1 .2),
     )
 
-read-terms-returns-5 : (t : ℕ) → read-terms-lts.Need-returns-5 (
-  number-reads.Asked,
-  number-reads.Learnt,
-  node-reads.Asked,
-  node-reads.Learnt,
-  cell-at-reads.Asked,
-  cell-at-reads.Learnt,
-  read-terms-below t,
-  read-terms.Post,
-) (read-terms-at t) read-terms.Post
+read-terms-returns-5 : (t : ℕ) → read-terms-lts.Need-returns-5 (read-terms-claims t) (read-terms-at t) read-terms.Post
 read-terms-returns-5 t c =
     let c3 = c .before .before .before in
     let c5 = c3 .before .before in
@@ -378,16 +201,7 @@ read-terms-returns-5 t c =
     )
 
 pub +read-terms-spec : {M : Type 1} → statement M
-+read-terms-spec = close μ-read-terms λ t. read-terms-lts.spec (
-  number-reads.Asked,
-  number-reads.Learnt,
-  node-reads.Asked,
-  node-reads.Learnt,
-  cell-at-reads.Asked,
-  cell-at-reads.Learnt,
-  read-terms-below t,
-  read-terms.Post,
-)
++read-terms-spec = close μ-read-terms λ t. read-terms-lts.spec (read-terms-claims t)
     (read-terms-at t)
     read-terms.Post
     (read-terms-number-requires t)

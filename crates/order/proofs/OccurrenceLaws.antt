@@ -1,16 +1,16 @@
 -- Occurrences of eight variables as digits of one number: comparing digits compares occurrences.
 --     none-oftener-of, oftener-low, -high  the test of all sixteen variables
---     oftener-more                         a greater number
+--     not-covering                         a greater number
 --     few-ground, few-low, few-both        that test, by the sums at two offsets
 use mathlib.Core.List.{List}
 use mathlib.Core.Path.{_≡_, refl, sym, _∙_}
-use mathlib.Core.Bool.{Bool, true, false, cond, false≢true, and-eq-true-iff as both}
+use mathlib.Core.Bool.{Bool, true, false, cond, _&&_, false≢true, and-eq-true-iff as both}
 use Prim.Native.Nat.{ℕ, suc, zero, _+_, _-_, _*_, _/_, _%_, _≤_, _<_}
 use native.Mathlib.Omega.{arith}
 use lib.Bits.{bitOr, or-add-and, and-le-l, and-le-r}
 use lib.Dec.{eqb, leb}
 use lib.ListN.{length}
-use borrow.Author.Tests.{leb-true, le-leb}
+use borrow.Author.Tests.{leb-true, leb-false, le-leb}
 use Rattle.multisets.proofs.Relations.{byTest, byOrder}
 use Rattle.terms.specs.Signature.{Signature}
 use Rattle.terms.specs.Term.{Term, Terms, size, sizes, measure, measures, occurrences, variableCount}
@@ -82,7 +82,7 @@ module _ (s t : Term) where
         packed-at-most n (suc k) λ x l m. h x (omega arith) (omega arith),
       )
 
-  pub oftener-more : (k : ℕ) → k + 8 ≤ variableCount → packed k 8 s < packed k 8 t →
+  oftener-more : (k : ℕ) → k + 8 ≤ variableCount → packed k 8 s < packed k 8 t →
       false ≡ noneOftener variableCount s t
   oftener-more k h e =
       byTest (noneOftener variableCount s t)
@@ -91,6 +91,14 @@ module _ (s t : Term) where
         packed-at-most 8 k λ x l m. noneOftener-facts variableCount s t .0 d x (omega arith),
       )))
       λ d. sym d
+
+module _ (σ : Signature) (s t : Term) where
+  pub not-covering : (leb (termSum σ 1 t) (termSum σ 1 s) && leb (termSum σ 2 t) (termSum σ 2 s)) ≡ false →
+      false ≡ noneOftener variableCount s t
+  not-covering e =
+      byTest (leb (termSum σ 1 t) (termSum σ 1 s))
+      (λ d. oftener-more s t 8 (omega arith) (leb-false (termSum σ 2 t) (termSum σ 2 s) (rw d at e)))
+      λ d. oftener-more s t 0 (omega arith) (leb-false (termSum σ 1 t) (termSum σ 1 s) d)
 
 module _ (s t : Term) (p : size s < 256) (q : size t < 256) where
   -- The lowest digit, and the others.

@@ -11,7 +11,7 @@ use symbols::arity;
 use symbols::is_ac;
 use symbols::precedence;
 ghost use mathlib.Core.Path.{_≡_};
-ghost use mathlib.Core.Bool.{false, cond};
+ghost use mathlib.Core.Bool.{cond};
 ghost use Prim.Native.Nat.{_+_, _≤_, _<_};
 ghost use lib.Dec.{eqb};
 ghost use lib.ListN.{length};
@@ -19,7 +19,7 @@ ghost use Rattle.symbols.specs.Table.{signatureOf};
 ghost use Rattle.equivalence.specs.Parts.{elementsAt, Stands};
 ghost use Rattle.equivalence.specs.Offsets.{OffsetsIn, termsAt};
 ghost use Rattle.order.specs.Compared.{Scales, noneOftenerAt, isHigher, greaterAt, rowsGreater};
-ghost use Rattle.order.specs.Compared.{flattenedAt, covered, verdict};
+ghost use Rattle.order.specs.Compared.{mayCoverAt, flattenedAt, covered, verdict};
 
 // Does no variable occur oftener in the term at j than in the term at i?
 pub fn none_oftener(
@@ -49,8 +49,8 @@ pub fn none_oftener(
     if low { high } else { false }
 }
 
-// Can it be that no variable occurs oftener in the term at j? Not where the occurrences in the term at i are a lesser
-// number.
+// Is neither half of the variables, by its occurrences as one number, greater in the term at j? If one is, a variable
+// occurs oftener there.
 fn may_cover(
     table: &&[u16],
     s: &&[u16],
@@ -64,9 +64,7 @@ fn may_cover(
 ) -> bool
     requires { ⌜ Scales (now (now table)) (now (now s)) (now sk) (now sw) (now (now t)) (now tk) (now tw) ⌝ }
     requires { ⌜ (i < length (now (now s))) × (j < length (now (now t))) ⌝ }
-    ensures { λ r. ⌜
-        (r ≡ false → false ≡ noneOftenerAt (now (now (table .entry))) (now (now (s .entry))) i (now (now (t .entry))) j)
-        ⌝ }
+    ensures { λ r. ⌜ r ≡ mayCoverAt (now (now (table .entry))) (now (now (s .entry))) i (now (now (t .entry))) j ⌝ }
 {
     let b = sum_at(*table, 1, *t, tk, tw, j);
     let d = sum_at(*table, 2, *t, tk, tw, j);

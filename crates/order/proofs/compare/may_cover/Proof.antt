@@ -1,9 +1,5 @@
 use native.Mathlib.Omega.{arith}
-use mathlib.Core.Path.{sym}
-use borrow.Author.Tests.{leb-false}
-use Rattle.symbols.specs.Table.{signatureOf}
-use Rattle.equivalence.specs.Parts.{partAt}
-use Rattle.order.proofs.OccurrenceLaws.{oftener-more}
+use borrow.Author.Tests.{le-leb, lt-leb}
 use Rattle.order.proofs.compare.may_cover.Statement.{statement}
 use Rattle.order.proofs.compare.may_cover.Tie as tie
 
@@ -27,28 +23,28 @@ sum-at-requires-4 c κs =
     let h = c11 .pre in (h .0 .sides .left, (h .0 .left 2 (omega arith), (omega arith, h .1 .0)))
 
 returns : tie.Need-returns
-returns c e =
-    let c7 = c .before .before .before .before .before .before .before in
-    let c13 = c7 .before .before .before .before .before .before in
-    let a = c13 .args in
-    let σ = signatureOf (a .table .now .now) in
-    oftener-more (partAt σ (a .s .now .now) (a .i)) (partAt σ (a .t .now .now) (a .j)) 8 (omega arith)
-    (omega (
-      arith,
-      leb-false (c7 .sum-at2 .result) (c .before .sum-at4 .result) e,
-      c7 .sum-at2 .ensures,
-      c .before .sum-at4 .ensures,
-    ))
+returns c =
+    let four = c .before in
+    let three = four .before .before .before in
+    let two = three .before .before .before in
+    let one = two .before .before .before in
+    rw (
+      ← one .sum-at .ensures,
+      ← two .sum-at2 .ensures,
+      ← three .sum-at3 .ensures,
+      ← four .sum-at4 .ensures,
+      le-leb (one .sum-at .result) (three .sum-at3 .result) (c .if1 .taken),
+    )
 
 returns-2 : tie.Need-returns-2
-returns-2 c e =
-    let c4 = c .before .before .before .before in
-    let c10 = c4 .before .before .before .before .before .before in
-    let c13 = c10 .before .before .before in
-    let a = c13 .args in
-    let σ = signatureOf (a .table .now .now) in
-    oftener-more (partAt σ (a .s .now .now) (a .i)) (partAt σ (a .t .now .now) (a .j)) 0 (omega arith)
-    (omega (arith, c .if1 .left, c10 .sum-at .ensures, c4 .sum-at3 .ensures))
+returns-2 c =
+    let three = c .before .before .before .before in
+    let one = three .before .before .before .before .before .before in
+    rw (
+      ← one .sum-at .ensures,
+      ← three .sum-at3 .ensures,
+      lt-leb (one .sum-at .result) (three .sum-at3 .result) (c .if1 .left),
+    )
 
 pub may-cover-spec : {M : Type 1} → statement M
 may-cover-spec =

@@ -44,7 +44,8 @@ read-terms-claims t = (
   read-terms.Post,
 )
 
-read-terms-number-requires : (t : ℕ) → read-terms-lts.Need-number-requires (read-terms-claims t) (read-terms-at t) read-terms.Post
+read-terms-number-requires : (t : ℕ) → read-terms-lts.Need-number-requires (read-terms-claims t)
+    (read-terms-at t) read-terms.Post
 read-terms-number-requires t c κs = omega arith
 
 read-terms-returns : (t : ℕ) → read-terms-lts.Need-returns (read-terms-claims t) (read-terms-at t) read-terms.Post
@@ -55,7 +56,8 @@ read-terms-returns t c =
       (omega (arith, c .number .ensures), c .before .before .pre .1 .1 .2),
     )
 
-read-terms-number-requires-2 : (t : ℕ) → read-terms-lts.Need-number-requires-2 (read-terms-claims t) (read-terms-at t) read-terms.Post
+read-terms-number-requires-2 : (t : ℕ) → read-terms-lts.Need-number-requires-2 (read-terms-claims t)
+    (read-terms-at t) read-terms.Post
 read-terms-number-requires-2 t c κs = omega arith
 
 read-terms-returns-2 : (t : ℕ) → read-terms-lts.Need-returns-2 (read-terms-claims t) (read-terms-at t) read-terms.Post
@@ -67,13 +69,16 @@ read-terms-returns-2 t c =
       (omega (arith, c .number2 .ensures), c3 .pre .1 .1 .2),
     )
 
-read-terms-node-requires : (t : ℕ) → read-terms-lts.Need-node-requires (read-terms-claims t) (read-terms-at t) read-terms.Post
+read-terms-node-requires : (t : ℕ) → read-terms-lts.Need-node-requires (read-terms-claims t)
+    (read-terms-at t) read-terms.Post
 read-terms-node-requires t c κs = omega arith
 
-read-terms-enum-known-offset : (t : ℕ) → read-terms-lts.Need-enum-known-offset (read-terms-claims t) (read-terms-at t) read-terms.Post
+read-terms-enum-known-offset : (t : ℕ) → read-terms-lts.Need-enum-known-offset (read-terms-claims t)
+    (read-terms-at t) read-terms.Post
 read-terms-enum-known-offset t c = search needs
 
-read-terms-number-requires-3 : (t : ℕ) → read-terms-lts.Need-number-requires-3 (read-terms-claims t) (read-terms-at t) read-terms.Post
+read-terms-number-requires-3 : (t : ℕ) → read-terms-lts.Need-number-requires-3 (read-terms-claims t)
+    (read-terms-at t) read-terms.Post
 read-terms-number-requires-3 t c κs =
     let c3 = c .before .before .before in
     let c7 = c3 .before .before .before .before in
@@ -83,22 +88,26 @@ read-terms-number-requires-3 t c κs =
     let end = node-within-fault limit _ _ _ (bits-node (a .book .now .now) (a .cursor .at) (c7 .pre .1 .0 .1)) node in
     omega (arith, end)
 
-read-terms-enum-known-word : (t : ℕ) → read-terms-lts.Need-enum-known-word (read-terms-claims t) (read-terms-at t) read-terms.Post
+read-terms-enum-known-word : (t : ℕ) → read-terms-lts.Need-enum-known-word (read-terms-claims t)
+    (read-terms-at t) read-terms.Post
 read-terms-enum-known-word t c = search needs
 
 read-terms-mul-words : (t : ℕ) → read-terms-lts.Need-mul-words (read-terms-claims t) (read-terms-at t) read-terms.Post
 read-terms-mul-words t c = search needs
 
-read-terms-element-write-words : (t : ℕ) → read-terms-lts.Need-element-write-words (read-terms-claims t) (read-terms-at t) read-terms.Post
+read-terms-element-write-words : (t : ℕ) → read-terms-lts.Need-element-write-words (read-terms-claims t)
+    (read-terms-at t) read-terms.Post
 read-terms-element-write-words t c = search needs
 
-read-terms-cell-at-requires : (t : ℕ) → read-terms-lts.Need-cell-at-requires (read-terms-claims t) (read-terms-at t) read-terms.Post
+read-terms-cell-at-requires : (t : ℕ) → read-terms-lts.Need-cell-at-requires (read-terms-claims t)
+    (read-terms-at t) read-terms.Post
 read-terms-cell-at-requires t c κs = rw (c .before .word .given .1) at (c .before .before .before .node .ensures .1)
 
 read-terms-add-number : (t : ℕ) → read-terms-lts.Need-add-number (read-terms-claims t) (read-terms-at t) read-terms.Post
 read-terms-add-number t c = search needs
 
-read-terms-number-requires-4 : (t : ℕ) → read-terms-lts.Need-number-requires-4 (read-terms-claims t) (read-terms-at t) read-terms.Post
+read-terms-number-requires-4 : (t : ℕ) → read-terms-lts.Need-number-requires-4 (read-terms-claims t)
+    (read-terms-at t) read-terms.Post
 read-terms-number-requires-4 t c κs =
     let c4 = c .before .before .before .before in
     let c6 = c4 .before .before in
@@ -129,16 +138,20 @@ read-terms-returns-3 t c =
       (omega (arith, c .number4 .ensures, end .0), simp length-set (c11 .pre .1 .1 .2)),
     )
 
-read-terms-add-read-terms : (t : ℕ) → read-terms-lts.Need-add-read-terms (read-terms-claims t) (read-terms-at t) read-terms.Post
+read-terms-add-read-terms : (t : ℕ) → read-terms-lts.Need-add-read-terms (read-terms-claims t)
+    (read-terms-at t) read-terms.Post
 read-terms-add-read-terms t c = search needs
 
-read-terms-sub-read-terms : (t : ℕ) → read-terms-lts.Need-sub-read-terms (read-terms-claims t) (read-terms-at t) read-terms.Post
+read-terms-sub-read-terms : (t : ℕ) → read-terms-lts.Need-sub-read-terms (read-terms-claims t)
+    (read-terms-at t) read-terms.Post
 read-terms-sub-read-terms t c = search needs
 
-read-terms-sub-read-terms-2 : (t : ℕ) → read-terms-lts.Need-sub-read-terms-2 (read-terms-claims t) (read-terms-at t) read-terms.Post
+read-terms-sub-read-terms-2 : (t : ℕ) → read-terms-lts.Need-sub-read-terms-2 (read-terms-claims t)
+    (read-terms-at t) read-terms.Post
 read-terms-sub-read-terms-2 t c = search needs
 
-read-terms-add-read-terms-2 : (t : ℕ) → read-terms-lts.Need-add-read-terms-2 (read-terms-claims t) (read-terms-at t) read-terms.Post
+read-terms-add-read-terms-2 : (t : ℕ) → read-terms-lts.Need-add-read-terms-2 (read-terms-claims t)
+    (read-terms-at t) read-terms.Post
 read-terms-add-read-terms-2 t c =
     let c10 = c .before .before .before .before .before .before .before .before .before .before in
     omega (
@@ -148,7 +161,8 @@ read-terms-add-read-terms-2 t c =
           (omega arith) (omega arith) (c10 .pre .1 .1 .1) .0,
     )
 
-read-terms-read-terms-requires : (t : ℕ) → read-terms-lts.Need-read-terms-requires (read-terms-claims t) (read-terms-at t) read-terms.Post
+read-terms-read-terms-requires : (t : ℕ) → read-terms-lts.Need-read-terms-requires (read-terms-claims t)
+    (read-terms-at t) read-terms.Post
 read-terms-read-terms-requires t c κs =
     let c4 = c .before .before .before .before in
     let c6 = c4 .before .before in

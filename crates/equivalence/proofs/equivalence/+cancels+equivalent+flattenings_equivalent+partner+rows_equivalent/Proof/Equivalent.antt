@@ -84,7 +84,8 @@ equivalent-returns-3 t c =
     equivalent-rows (h .0) (a .i) (a .j) (h .1 .0) (h .1 .1) e (c .before .before .before .before .arity .ensures .0)
     (sym (c .before .before .is-ac .ensures) ∙ c .before .if2 .left) (c .rows-equivalent .ensures)
 
-pub equivalent-closed : {M : Type 1} (t : ℕ) → equivalent-lts.Closed (equivalent-claims t) (equivalent-at t) equivalent.Post M
+pub equivalent-closed : {M : Type 1} (t : ℕ) → equivalent-lts.Closed (equivalent-claims t)
+    (equivalent-at t) equivalent.Post M
 equivalent-closed t =
     equivalent-lts.spec (equivalent-claims t) (equivalent-at t) equivalent.Post (λ c. search needs)
     (λ c. search needs) (λ c. search needs) (λ c. search needs) (equivalent-returns t) (λ c. search needs)

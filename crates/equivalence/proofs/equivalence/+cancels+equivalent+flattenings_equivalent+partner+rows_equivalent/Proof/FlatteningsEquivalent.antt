@@ -38,7 +38,8 @@ flattenings-equivalent-returns t c =
     c .cancels .ensures ∙ ap (elementsAlike (a .table .now .now) (a .f) (a .s .now .now) (a .i) (a .n))
     (c .before .before .elements .ensures .there)
 
-pub flattenings-equivalent-closed : {M : Type 1} (t : ℕ) → flattenings-equivalent-lts.Closed (flattenings-equivalent-claims t) (flattenings-equivalent-at t) flattenings-equivalent.Post M
+pub flattenings-equivalent-closed : {M : Type 1} (t : ℕ) → flattenings-equivalent-lts.Closed
+    (flattenings-equivalent-claims t) (flattenings-equivalent-at t) flattenings-equivalent.Post M
 flattenings-equivalent-closed t =
     flattenings-equivalent-lts.spec (flattenings-equivalent-claims t) (flattenings-equivalent-at t)
     flattenings-equivalent.Post (flattenings-equivalent-elements-requires t) (flattenings-equivalent-cancels-requires t)

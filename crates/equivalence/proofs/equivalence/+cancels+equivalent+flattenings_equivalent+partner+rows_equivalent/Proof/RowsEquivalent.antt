@@ -85,7 +85,8 @@ rows-equivalent-returns-3 t c =
     rows-one (c4 .pre .1 .0) (g .here) (g .there) (omega arith) (c .equivalent2 .ensures)
     ∙ g .same
 
-pub rows-equivalent-closed : {M : Type 1} (t : ℕ) → rows-equivalent-lts.Closed (rows-equivalent-claims t) (rows-equivalent-at t) rows-equivalent.Post M
+pub rows-equivalent-closed : {M : Type 1} (t : ℕ) → rows-equivalent-lts.Closed (rows-equivalent-claims t)
+    (rows-equivalent-at t) rows-equivalent.Post M
 rows-equivalent-closed t =
     rows-equivalent-lts.spec (rows-equivalent-claims t) (rows-equivalent-at t) rows-equivalent.Post
     rows-equivalent-Inv-loop rows-equivalent-μ-loop (rows-equivalent-returns t) (rows-equivalent-loop-holds t)

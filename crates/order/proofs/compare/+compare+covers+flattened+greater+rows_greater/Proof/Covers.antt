@@ -16,6 +16,7 @@ use lib.ListN.{getD}
 use Rattle.symbols.specs.Table.{signatureOf}
 use Rattle.order.specs.Compared.{greaterAt}
 use Rattle.order.proofs.MeasureLaws.{offset-size}
+use Rattle.order.proofs.OccurrenceLaws.{not-covering}
 use Rattle.order.proofs.CoverLaws.{someAbove, above-none, above-at, covered-all, covered-not}
 use Rattle.order.proofs.CoverLaws.{Search, search-start, search-none, search-within, search-more}
 use Rattle.order.proofs.GreaterLaws.{greater-oftener}
@@ -121,7 +122,8 @@ covers-add-next t c =
 covers-left-less : (t : ℕ) → covers-lts.Need-left-less (covers-claims t) (covers-at t) covers.Post covers-Inv-left
     covers-μ-left covers-Inv-right covers-μ-right
 covers-left-less t c =
-    let u = c .before .before .before .before .before in omega (arith, search-within (u .before .left .inv) (u .if1 .left), c .past .ensures .1)
+    let u = c .before .before .before .before .before in
+    omega (arith, search-within (u .before .left .inv) (u .if1 .left), c .past .ensures .1)
 
 covers-left-again : (t : ℕ) → covers-lts.Need-left-again (covers-claims t) (covers-at t) covers.Post covers-Inv-left
     covers-μ-left covers-Inv-right covers-μ-right
@@ -129,7 +131,7 @@ covers-left-again t c =
     let u = c .before .before .before .before .before in
     let σ = signatureOf (u .before .before .before .before .before .before .args .table .now .now) in
     let not = ⊎-elim (λ w. sym (w .1 .ensures) ∙ w .2 .left)
-    (λ w. sym (greater-oftener σ _ _ (c .before .before .may-cover .ensures (w .left)))) (c .before .if2 .came) in
+    (λ w. sym (greater-oftener σ _ _ (not-covering σ _ _ (sym (c .before .before .may-cover .ensures) ∙ w .left)))) (c .before .if2 .came) in
     search-more (u .before .left .inv) (rw (c .before .before .before .wide-byte2 .ensures .0) at not) (c .past .ensures .0)
 
 covers-right-again : (t : ℕ) → covers-lts.Need-right-again (covers-claims t) (covers-at t) covers.Post covers-Inv-left

@@ -148,7 +148,8 @@ flattened-returns-6 t c =
     (p .before .before .before .compare .ensures) (p .before .before .if1 .left) (p .before .if2 .left) (p .if3 .left)
     (c .before .before .before .before .if4 .left) (c .before .compare2 .ensures) (c .if5 .left)
 
-pub flattened-closed : {M : Type 1} (t : ℕ) → flattened-lts.Closed (flattened-claims t) (flattened-at t) flattened.Post M
+pub flattened-closed : {M : Type 1} (t : ℕ) → flattened-lts.Closed (flattened-claims t)
+    (flattened-at t) flattened.Post M
 flattened-closed t =
     flattened-lts.spec (flattened-claims t) (flattened-at t) flattened.Post (flattened-parts-requires t)
     (flattened-parts-requires-2 t) (flattened-join-surplus-requires t) (flattened-compare-requires t)

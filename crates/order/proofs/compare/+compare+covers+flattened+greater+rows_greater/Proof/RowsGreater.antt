@@ -83,7 +83,8 @@ rows-greater-returns-2 t c =
     let g = c .before .loop .inv in lex-none (c .before .before .pre .1 .0 .sides) (g .here) (g .there) (omega arith)
     ∙ g .same
 
-pub rows-greater-closed : {M : Type 1} (t : ℕ) → rows-greater-lts.Closed (rows-greater-claims t) (rows-greater-at t) rows-greater.Post M
+pub rows-greater-closed : {M : Type 1} (t : ℕ) → rows-greater-lts.Closed (rows-greater-claims t)
+    (rows-greater-at t) rows-greater.Post M
 rows-greater-closed t =
     rows-greater-lts.spec (rows-greater-claims t) (rows-greater-at t) rows-greater.Post rows-greater-Inv-loop
     rows-greater-μ-loop (rows-greater-loop-holds t) (rows-greater-equivalent-by-keys-requires t) (λ c κs. search needs)

@@ -2,10 +2,11 @@
 --     choose-sum, cancel-within          what is chosen and what is left is no more
 --     joined-sum, above-variables        the joined high part
 --     elements-sum, chosen-sum           the elements of a flattening
---     inner-total, next-total            the terms inside a term, and after it
+--     next-total                         the terms after a term
 --     partNodes, rowNodes, offsetNodes   what falls
+--     inner-rows, -nodes, -elements      the arguments of two terms with the same root
 use mathlib.Core.List.{List, [], _∷_, map}
-use mathlib.Core.Path.{_≡_, refl, ap, _∙_}
+use mathlib.Core.Path.{_≡_, refl, sym, ap, _∙_}
 use mathlib.Core.Bool.{Bool, true, false, false≢true}
 use Prim.Native.Nat.{ℕ, suc, zero, _+_, _-_, _≤_, _<_}
 use native.Mathlib.Omega.{arith}
@@ -24,10 +25,12 @@ use Rattle.terms.specs.Equivalence.{isEquivalent}
 use Rattle.terms.specs.Order.{variables, rootAbove, highPart, joinedHigh}
 use Rattle.symbols.specs.Table.{signatureOf}
 use Rattle.equivalence.specs.Parts.{partAt, partsAt, elementsAt, Stands}
-use Rattle.equivalence.specs.Keys.{Prepared, sizeIn}
+use Rattle.equivalence.specs.Keys.{Prepared, Sides, sizeIn}
 use Rattle.equivalence.specs.Offsets.{Offsets, termsAt}
 use Rattle.equivalence.proofs.PartLaws.{total, symbol}
-use Rattle.equivalence.proofs.StepLaws.{row-next, stands-inner, prepared-size}
+use Rattle.equivalence.proofs.StepLaws.{row-next, prepared-size}
+use Rattle.equivalence.proofs.AlikeLaws.{ac-small, inner-left, inner-right}
+use Rattle.equivalence.proofs.ElementLaws.{elements-few}
 
 -- ---- what is chosen, and what is left
 
@@ -138,12 +141,9 @@ module _ {σ : Signature} {ws ps : List ℕ} {m : ℕ} {l : List Term} (P : Offs
 -- ---- inside a term, and after it
 
 module _ {σ : Signature} {ws keys : List ℕ} (P : Prepared σ ws keys) where
-  pub inner-total : (i n : ℕ) → i < length ws → getD ws i 0 < 256 → n ≡ symbolOf σ (getD ws i 0) .arity →
+  inner-total : (i n : ℕ) → i < length ws → getD ws i 0 < 256 → n ≡ symbolOf σ (getD ws i 0) .arity →
       size (partAt σ ws i) ≡ 1 + total (partsAt σ ws (i + 1) n)
   inner-total i n h v e = rw e (ap size (symbol σ ws i h v))
-
-  pub inner-stands : (i n : ℕ) → i < length ws → n ≡ symbolOf σ (getD ws i 0) .arity → Stands σ ws (i + 1) n
-  inner-stands i n h e = stands-inner σ ws i (P .complete) (getD ws i 0) n h refl e
 
   module _ {i n w : ℕ} (s : Stands σ ws i n) (p : 0 < n) (e : w ≡ sizeIn keys i) where
     pub next-total : (total (partsAt σ ws i n) ≡ size (partAt σ ws i) + total (partsAt σ ws (i + w) (n - 1))) ×
@@ -163,3 +163,23 @@ module _ (table s t : List ℕ) where
 
   abbrev pub offsetNodes : List ℕ → ℕ → List ℕ → ℕ → ℕ
   offsetNodes ps n qs m = sum size (termsAt table s ps n) + sum size (termsAt table t qs m)
+
+-- The arguments of two terms with the same root.
+module _ {table s sk t tk : List ℕ} (S : Sides table s sk t tk) (i j : ℕ) (h : i < length s) (k : j < length t)
+    (e : getD s i 0 ≡ getD t j 0) {n : ℕ} (d : n ≡ symbolOf (signatureOf table) (getD s i 0) .arity) where
+  pub inner-rows : Stands (signatureOf table) s (i + 1) n × Stands (signatureOf table) t (j + 1) n
+  inner-rows = (inner-left S i j h k e d, inner-right S i j h k e d)
+
+  pub inner-nodes : getD s i 0 < 256 → partNodes table s t i j ≡ rowNodes table s t (i + 1) (j + 1) n + 2
+  inner-nodes v =
+      omega (arith, inner-total (S .left) i n h v d, inner-total (S .right) j n k (rw e at v) (rw e at d))
+
+  pub inner-elements : symbolOf (signatureOf table) (getD s i 0) .ac ≡ true → (getD s i 0 < 256)
+      × (length (elementsAt (signatureOf table) (getD s i 0) s (i + 1) n) ≤ 64)
+      × (length (elementsAt (signatureOf table) (getD s i 0) t (j + 1) n) ≤ 64)
+  inner-elements ac =
+      let v = ac-small table (S .small) (getD s i 0) ac in (
+        v,
+        elements-few table (S .left) i _ (S .small) h refl v (S .binary _ ac) d,
+        elements-few table (S .right) j _ (S .small) k (sym e) v (S .binary _ ac) d,
+      )

@@ -1,16 +1,15 @@
 -- Occurrences of eight variables as digits of one number: comparing digits compares occurrences.
+--     packed-small                         each digit is small
 --     none-oftener-of, oftener-low, -high  the test of all sixteen variables
---     not-covering                         a greater number
---     few-ground, few-low, few-both        that test, by the sums at two offsets
+--     few-small, few-low, few-both         that test, by the sums at two offsets
 use mathlib.Core.List.{List}
 use mathlib.Core.Path.{_≡_, refl, sym, _∙_}
-use mathlib.Core.Bool.{Bool, true, false, cond, _&&_, false≢true, and-eq-true-iff as both}
+use mathlib.Core.Bool.{Bool, true, false, cond, false≢true, and-eq-true-iff as both}
 use Prim.Native.Nat.{ℕ, suc, zero, _+_, _-_, _*_, _/_, _%_, _≤_, _<_}
 use native.Mathlib.Omega.{arith}
-use lib.Bits.{bitOr, or-add-and, and-le-l, and-le-r}
 use lib.Dec.{eqb, leb}
 use lib.ListN.{length}
-use borrow.Author.Tests.{leb-true, leb-false, le-leb}
+use borrow.Author.Tests.{leb-true, le-leb}
 use Rattle.multisets.proofs.Relations.{byTest, byOrder}
 use Rattle.terms.specs.Signature.{Signature}
 use Rattle.terms.specs.Term.{Term, Terms, size, sizes, measure, measures, occurrences, variableCount}
@@ -22,13 +21,7 @@ use Rattle.symbols.specs.Table.{signatureOf}
 use Rattle.equivalence.specs.Parts.{partAt}
 use Rattle.equivalence.specs.Keys.{Prepared}
 use Rattle.equivalence.proofs.StepLaws.{part-small}
-use Rattle.order.specs.Sums.{digit, digitsWithin, termSum}
-
-within-zero : (n a b : ℕ) → b ≡ 0 → digitsWithin n a b ≡ true
-unfolding digitsWithin
-within-zero zero a b e = refl
-within-zero (suc n) a b e =
-    rw (le-leb (b % 256) (a % 256) (omega arith), within-zero n (a / 256) (b / 256) (omega arith))
+use Rattle.order.specs.Sums.{digit, digitsWithin, SmallDigits, termSum}
 
 -- ---- digits are occurrences
 
@@ -68,50 +61,30 @@ mutual
   occurrencesIn-sizes x nil = omega arith
   occurrencesIn-sizes x (cons t ts) = omega (arith, occurrences-size x t, occurrencesIn-sizes x ts)
 
--- Terms in which variables occur less often have a lesser number.
-module _ (s t : Term) where
-  packed-at-most : (n k : ℕ) → ((x : ℕ) → k ≤ x → x < k + n → occurrences x t ≤ occurrences x s) →
-      packed k n t ≤ packed k n s
-  packed-at-most zero k h = omega (arith, packed-none k t)
-  packed-at-most (suc n) k h =
-      omega (
-        arith,
-        packed-more k n s,
-        packed-more k n t,
-        h k (omega arith) (omega arith),
-        packed-at-most n (suc k) λ x l m. h x (omega arith) (omega arith),
-      )
+-- In a term of at most 128 nodes no variable occurs 128 times.
+occurrences-few : (x : ℕ) (t : Term) → size t ≤ 128 → occurrences x t < 128
+occurrences-few x (var y) h = byTest (eqb x y) (λ e. rw e (omega arith)) λ e. rw e (omega arith)
+occurrences-few x (app f ts) h = omega (arith, occurrencesIn-sizes x ts)
 
-  oftener-more : (k : ℕ) → k + 8 ≤ variableCount → packed k 8 s < packed k 8 t →
-      false ≡ noneOftener variableCount s t
-  oftener-more k h e =
-      byTest (noneOftener variableCount s t)
-      (λ d. absurd (omega (
-        arith,
-        packed-at-most 8 k λ x l m. noneOftener-facts variableCount s t .0 d x (omega arith),
-      )))
-      λ d. sym d
-
-module _ (σ : Signature) (s t : Term) where
-  pub not-covering : (leb (termSum σ 1 t) (termSum σ 1 s) && leb (termSum σ 2 t) (termSum σ 2 s)) ≡ false →
-      false ≡ noneOftener variableCount s t
-  not-covering e =
-      byTest (leb (termSum σ 1 t) (termSum σ 1 s))
-      (λ d. oftener-more s t 8 (omega arith) (leb-false (termSum σ 2 t) (termSum σ 2 s) (rw d at e)))
-      λ d. oftener-more s t 0 (omega arith) (leb-false (termSum σ 1 t) (termSum σ 1 s) d)
-
-module _ (s t : Term) (p : size s < 256) (q : size t < 256) where
+module _ (t : Term) (h : size t ≤ 128) where
   -- The lowest digit, and the others.
-  step : (k n : ℕ) → (packed k (suc n) s % 256 ≡ occurrences k s) × (packed k (suc n) s / 256 ≡ packed (suc k) n s)
-      × (packed k (suc n) t % 256 ≡ occurrences k t) × (packed k (suc n) t / 256 ≡ packed (suc k) n t)
-  step k n = omega (arith, packed-more k n s, packed-more k n t, occurrences-size k s, occurrences-size k t)
+  step : (k n : ℕ) → (packed k (suc n) t % 256 ≡ occurrences k t) × (packed k (suc n) t / 256 ≡ packed (suc k) n t)
+  step k n = omega (arith, packed-more k n t, occurrences-few k t h)
 
+  pub packed-small : (n k : ℕ) → SmallDigits n (packed k n t)
+  unfolding SmallDigits
+  packed-small zero k = packed-none k t
+  packed-small (suc n) k =
+      let (e, d) = step k n in rw (e, d) (occurrences-few k t h, packed-small n (suc k))
+
+module _ (s t : Term) (p : size s ≤ 128) (q : size t ≤ 128) where
   within-all : (n k : ℕ) → ((x : ℕ) → k ≤ x → x < k + n → occurrences x t ≤ occurrences x s) →
       digitsWithin n (packed k n s) (packed k n t) ≡ true
   unfolding digitsWithin
   within-all zero k h = refl
   within-all (suc n) k h =
-      let (a, b, c, d) = step k n in
+      let (a, b) = step s p k n in
+      let (c, d) = step t q k n in
       rw (a, b, c, d, le-leb _ _ (h k (omega arith) (omega arith)))
       (within-all n (suc k) λ x l m. h x (omega arith) (omega arith))
 
@@ -120,7 +93,8 @@ module _ (s t : Term) (p : size s < 256) (q : size t < 256) where
   unfolding digitsWithin
   within-each zero k e x l m = absurd (omega arith)
   within-each (suc n) k e x l m =
-      let (a, b, c, d) = step k n in
+      let (a, b) = step s p k n in
+      let (c, d) = step t q k n in
       let f = rw (a, b, c, d) at e in
       let g = both (leb (occurrences k t) (occurrences k s)) _ .0 f in
       byOrder k x (λ z. within-each n (suc k) (g .1) x (omega arith) (omega arith))
@@ -154,21 +128,16 @@ module _ (table : List ℕ) {s sk t tk : List ℕ} (P : Prepared (signatureOf ta
   abbrev σ : Signature
   σ = signatureOf table
 
-  small-left : size (partAt σ s i) < 256
+  small-left : size (partAt σ s i) ≤ 128
   small-left = omega (arith, part-small σ s (P .complete) i h, P .short)
 
-  small-right : size (partAt σ t j) < 256
+  small-right : size (partAt σ t j) ≤ 128
   small-right = omega (arith, part-small σ t (Q .complete) j k, Q .short)
 
-  -- A term without variables.
-  pub few-ground : {b b' : ℕ} → b ≡ termSum σ 1 (partAt σ t j) → b' ≡ termSum σ 2 (partAt σ t j) → bitOr b b' ≡ 0 →
-      true ≡ noneOftener variableCount (partAt σ s i) (partAt σ t j)
-  few-ground {b} {b'} d e z =
-      let p : termSum σ 1 (partAt σ t j) ≡ 0 = omega (arith, d, z, or-add-and b b', and-le-r b b') in
-      let q : termSum σ 2 (partAt σ t j) ≡ 0 = omega (arith, e, z, or-add-and b b', and-le-l b b') in
-      none-oftener-of (partAt σ s i) (partAt σ t j) small-left small-right
-      (within-zero 8 (termSum σ 1 (partAt σ s i)) (termSum σ 1 (partAt σ t j)) p)
-      (within-zero 8 (termSum σ 2 (partAt σ s i)) (termSum σ 2 (partAt σ t j)) q)
+  pub few-small : (n m : ℕ) {a b : ℕ} → a ≡ packed m n (partAt σ s i) → b ≡ packed m n (partAt σ t j) →
+      SmallDigits n a × SmallDigits n b
+  few-small n m d e =
+      (rw d (packed-small (partAt σ s i) small-left n m), rw e (packed-small (partAt σ t j) small-right n m))
 
   module _ {a b : ℕ} (d : a ≡ termSum σ 1 (partAt σ s i)) (e : b ≡ termSum σ 1 (partAt σ t j)) where
     pub few-low : digitsWithin 8 a b ≡ false → false ≡ noneOftener variableCount (partAt σ s i) (partAt σ t j)

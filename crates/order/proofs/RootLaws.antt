@@ -1,17 +1,17 @@
 -- The comparison of two terms by their roots and rows of arguments.
 --     lex-none, lex-here, lex-more                                    rows of arguments
---     root-variable, -differing, -elements, -rows, -plain             the mark by the roots
+--     root-variable, -differing, -elements, -rows, -row               the mark by the roots
 use mathlib.Core.List.{List}
-use mathlib.Core.Path.{_≡_, refl, sym, ap₂, _∙_}
+use mathlib.Core.Path.{_≡_, refl, sym, ap, ap₂, _∙_}
 use mathlib.Core.Bool.{Bool, true, false, cond}
 use Prim.Native.Nat.{ℕ, _+_, _-_, _≤_, _<_}
 use native.Mathlib.Omega.{arith}
 use lib.Dec.{ltb}
-use lib.ListN.{length, getD}
+use lib.ListN.{length, getD, List·getD-eq-default}
 use borrow.Author.Tests.{lt-ltb, le-ltb, ne-eqb}
 use Rattle.multisets.specs.Multiset.{rowGreater}
 use Rattle.multisets.proofs.Relations.{byTest, byOrder, eqb-self}
-use Rattle.terms.specs.Signature.{Signature, symbolOf}
+use Rattle.terms.specs.Signature.{Symbol, Signature, symbolOf}
 use Rattle.terms.specs.Term.{size, arguments}
 use Rattle.terms.specs.Term.Term.{app}
 use Rattle.terms.specs.Equivalence.{isEquivalent}
@@ -62,9 +62,9 @@ pub record RowsGoing (table s t : List ℕ) (i j n at to left : ℕ) : Type 0 wh
 
 -- ---- the roots
 
--- What a row of arguments says is the mark 3, or 0.
-pub positive : (r : Bool) → r ≡ ltb 0 (cond r 3 0)
-positive r = byTest r (λ e. rw e) λ e. rw e
+-- What decides is a mark, or 0.
+pub positive : (m : ℕ) → 0 < m → (r : Bool) → r ≡ ltb 0 (cond r m 0)
+positive m h r = byTest r (λ e. rw (e, lt-ltb 0 m h)) λ e. rw e
 
 module _ (table s : List ℕ) (i : ℕ) (t : List ℕ) (j : ℕ) (h : i < length s) (k : j < length t) where
   abbrev σ : Signature
@@ -110,10 +110,14 @@ module _ (table s : List ℕ) (i : ℕ) (t : List ℕ) (j : ℕ) (h : i < length
       root-rows c q =
           rw (q, same, le-ltb rank rank (omega arith), eqb-self, c, row-arguments, row-arguments)
 
-    pub root-plain : symbolOf σ (getD s i 0) .ac ≡ false →
-        cond (ltb 0 (rootAt table s i t j)) 3 0 ≡ rootAt table s i t j
-    root-plain c =
-        byOrder (getD s i 0) 256
-        (λ v. byTest (rowsGreater table s (i + 1) t (j + 1) (symbolOf σ (getD s i 0) .arity))
-        (λ z. rw (← root-rows v refl c (sym z))) λ z. rw (← root-rows v refl c (sym z)))
-        λ v. rw (← root-variable v)
+    -- A variable has no arguments.
+    pub root-row : length (σ .symbols) ≤ 256 → symbolOf σ (getD s i 0) .ac ≡ false → {n : ℕ} →
+        n ≡ symbolOf σ (getD s i 0) .arity → {r : Bool} → r ≡ rowsGreater table s (i + 1) t (j + 1) n →
+        cond r 3 0 ≡ rootAt table s i t j
+    unfolding rowGreater
+    root-row few c {n} d {r} q =
+        byOrder (getD s i 0) 256 (λ v. root-rows v d c q)
+        λ v.
+        let z : n ≡ 0 = d ∙ ap (λ (x : Symbol). x .arity) (List·getD-eq-default (σ .symbols) _ (omega arith)) in
+        let e : r ≡ false = q ∙ rw z in
+        rw e (root-variable v)

@@ -1,9 +1,8 @@
 -- Whole terms: the sums over their words, and what is prepared of them.
---     whole-sum, whole-small, whole-formed     the words of one term
---     left-some, left-formed, turned, ..       two terms
---     left-weight, right-weight, totals-margin, within-none     what their totals say
+--     whole-sum, -small, -formed, -digits      the words of one term
+--     left-some, left-formed, turned, ..       two terms, and scales-turned what is prepared of them
+--     left-weight, right-weight, totals-small, totals-margin, within-none     what their totals say
 --     whole-sides                              both sides, prepared
---     arguments-three, arguments-none          the mark by the arguments of a symbol that is not AC
 use mathlib.Core.List.{List, [], _∷_, _++_}
 use mathlib.Core.Path.{_≡_, refl, sym, ap, ap₂, _∙_}
 use mathlib.Core.Bool.{Bool, true, false, cond}
@@ -25,12 +24,11 @@ use Rattle.symbols.proofs.TableLaws.{few-at}
 use Rattle.equivalence.specs.Parts.{IsTerm, Complete, partAt}
 use Rattle.equivalence.specs.Keys.{Prepared, Sides}
 use Rattle.equivalence.proofs.FormedLaws.{term-some, term-complete}
-use Rattle.order.specs.Sums.{nodes, atVariable, atSymbol, wordSum, termSum, digitsWithin, totalsWithin, Totalled}
+use Rattle.order.specs.Sums.{nodes, atVariable, atSymbol, wordSum, termSum, digitsWithin, SmallTotals}
+use Rattle.order.specs.Sums.{totalsWithin, Totalled}
 use Rattle.order.specs.declared.sums.Totals.{Totals}
-use Rattle.order.specs.Compared.{Whole, SameRoot, weightAt, noneOftenerAt, greaterAt, rootAt}
-use Rattle.order.proofs.OccurrenceLaws.{none-oftener-of, oftener-low, oftener-high}
-use Rattle.order.proofs.RootLaws.{root-plain}
-use Rattle.order.proofs.GreaterLaws.{greater-level}
+use Rattle.order.specs.Compared.{Whole, Scales, weightAt, noneOftenerAt}
+use Rattle.order.proofs.OccurrenceLaws.{packed-small, none-oftener-of, oftener-low, oftener-high}
 
 module _ (σ : Signature) (few : length (σ .symbols) ≤ 256) (v w : ℕ → ℕ) where
   nodes-append : (us vs : List ℕ) → nodes v w (us ++ vs) ≡ nodes v w us + nodes v w vs
@@ -62,6 +60,12 @@ whole-formed σ few ws (t, h, e) = rw (e, termOf-words σ few t h) h
 pub whole-small : (σ : Signature) → length (σ .symbols) ≤ 256 → (ws : List ℕ) → IsTerm σ ws → size (termOf σ ws) ≡
     length ws
 whole-small σ few ws (t, h, e) = rw (e, termOf-words σ few t h) (sym (length-words t))
+
+pub whole-digits : (σ : Signature) → length (σ .symbols) ≤ 256 → (ws : List ℕ) → IsTerm σ ws → length ws ≤ 128 →
+    {r : Totals} → Totalled σ ws r → SmallTotals r
+whole-digits σ few ws f h R =
+    let small = packed-small (termOf σ ws) (omega (arith, whole-small σ few ws f)) in
+    (rw (R .low ∙ whole-sum σ few 1 ws f) (small 8 0), rw (R .high ∙ whole-sum σ few 2 ws f) (small 8 8))
 
 -- ---- two terms
 
@@ -104,14 +108,20 @@ module _ {table s t : List ℕ} (S : Whole table s t) where
     pub right-weight : b .weight ≡ weightAt table t 0
     right-weight = B .weight ∙ whole-sum (signatureOf table) few 0 t (S .right)
 
+    pub totals-small : SmallTotals a × SmallTotals b
+    totals-small = (
+      whole-digits (signatureOf table) few s (S .left) (S .leftShort) A,
+      whole-digits (signatureOf table) few t (S .right) (S .rightShort) B,
+    )
+
     -- The test of the totals is the one of the occurrences.
     pub within-none : totalsWithin a b ≡ noneOftenerAt table s 0 t 0
     within-none =
         let σ = signatureOf table in
         let x = termOf σ s in
         let y = termOf σ t in
-        let p : size x < 256 = omega (arith, whole-small σ few s (S .left), S .leftShort) in
-        let q : size y < 256 = omega (arith, whole-small σ few t (S .right), S .rightShort) in
+        let p : size x ≤ 128 = omega (arith, whole-small σ few s (S .left), S .leftShort) in
+        let q : size y ≤ 128 = omega (arith, whole-small σ few t (S .right), S .rightShort) in
         let e = A .low ∙ whole-sum σ few 1 s (S .left) in
         let f = B .low ∙ whole-sum σ few 1 t (S .right) in
         let g = A .high ∙ whole-sum σ few 2 s (S .left) in
@@ -126,20 +136,14 @@ module _ {table s t : List ℕ} (S : Whole table s t) where
     pub whole-sides : Sides table s sk t tk
     whole-sides = record { small = S .small; binary = S .binary; left = P; right = Q }
 
--- The mark by the arguments of two terms with the same root, which is no AC symbol.
-module _ {table s t : List ℕ} (R : SameRoot table s t) (h : 0 < length s) (k : 0 < length t)
-    (c : symbolOf (signatureOf table) (getD s 0 0) .ac ≡ false) where
-  arguments-mark : {r : Bool} → r ≡ greaterAt table s 0 t 0 → cond r 3 0 ≡ rootAt table s 0 t 0
-  arguments-mark e =
-      let σ = signatureOf table in
-      let g = greater-level σ (partAt σ s 0) (partAt σ t 0) refl refl (R .level) (R .few) refl in
-      ap (λ (b : Bool). cond b 3 0) (e ∙ sym g) ∙ root-plain table s 0 t 0 h k (R .root) c
-
-  pub arguments-three : true ≡ greaterAt table s 0 t 0 → 3 ≡ rootAt table s 0 t 0
-  arguments-three e = arguments-mark e
-
-  pub arguments-none : false ≡ greaterAt table s 0 t 0 → 0 ≡ rootAt table s 0 t 0
-  arguments-none e = arguments-mark e
+pub scales-turned : {table s sk sw t tk tw : List ℕ} → Scales table s sk sw t tk tw → Scales table t tk tw s sk sw
+scales-turned W =
+    let S = W .sides in
+    record {
+      sides = record { small = S .small; binary = S .binary; left = S .right; right = S .left };
+      left = W .right;
+      right = W .left;
+    }
 
 -- The margin by totals.
 pub totals-margin : {table s t : List ℕ} → Whole table s t → {a b : Totals} → Totalled (signatureOf table) s a →

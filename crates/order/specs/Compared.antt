@@ -3,7 +3,7 @@ use mathlib.Core.List.{List}
 use mathlib.Core.Bool.{Bool, true, cond, _&&_}
 use mathlib.Core.Path.{_≡_}
 use Prim.Native.Nat.{ℕ, _≤_, _<_}
-use lib.Dec.{ltb, leb}
+use lib.Dec.{ltb}
 use lib.ListN.{length, getD}
 use Rattle.multisets.specs.Multiset.{every, some, multisetEqual, multisetGreater, rowGreater}
 use Rattle.terms.specs.Signature.{Signature, symbolOf, AcBinary}
@@ -16,7 +16,7 @@ use Rattle.symbols.specs.Table.{signatureOf}
 use Rattle.equivalence.specs.Parts.{IsTerm, partAt, partsAt, elementsAt}
 use Rattle.equivalence.specs.Keys.{Sides}
 use Rattle.equivalence.specs.Offsets.{Offsets}
-use Rattle.order.specs.Sums.{termSum, Summed}
+use Rattle.order.specs.Sums.{Summed}
 
 -- What both sides of a comparison by the order are.
 pub record Scales (table s sk sw t tk tw : List ℕ) : Type 0 where
@@ -54,12 +54,6 @@ module _ (table : List ℕ) where
 
   abbrev pub noneOftenerAt : List ℕ → ℕ → List ℕ → ℕ → Bool
   noneOftenerAt s i t j = noneOftener variableCount (partAt σ s i) (partAt σ t j)
-
-  -- Neither half of the variables has occurrences that are a greater number in the right term.
-  abbrev pub mayCoverAt : List ℕ → ℕ → List ℕ → ℕ → Bool
-  mayCoverAt s i t j =
-      leb (termSum σ 1 (partAt σ t j)) (termSum σ 1 (partAt σ s i))
-      && leb (termSum σ 2 (partAt σ t j)) (termSum σ 2 (partAt σ s i))
 
   -- Both words are symbols, and the first is higher in the precedence.
   unfoldable pub isHigher : ℕ → ℕ → Bool

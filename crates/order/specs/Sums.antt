@@ -29,6 +29,14 @@ unfoldable pub digitsWithin : ℕ → ℕ → ℕ → Bool
 digitsWithin zero a b = true
 digitsWithin (suc n) a b = leb (b % 256) (a % 256) && digitsWithin n (a / 256) (b / 256)
 
+-- There are n digits, each below 128: the occurrences of variables in a term of at most 128 nodes.
+unfoldable pub SmallDigits : ℕ → ℕ → Type 0
+SmallDigits zero a = a ≡ 0
+SmallDigits (suc n) a = (a % 256 < 128) × SmallDigits n (a / 256)
+
+abbrev pub SmallTotals : Totals → Type 0
+SmallTotals r = SmallDigits 8 (r .low) × SmallDigits 8 (r .high)
+
 -- No variable has a higher digit in t than in s.
 abbrev pub totalsWithin : Totals → Totals → Bool
 totalsWithin s t = digitsWithin 8 (s .low) (t .low) && digitsWithin 8 (s .high) (t .high)

@@ -11,7 +11,7 @@ use symbols::arity;
 use symbols::is_ac;
 use symbols::precedence;
 ghost use mathlib.Core.Path.{_≡_};
-ghost use mathlib.Core.Bool.{cond};
+ghost use mathlib.Core.Bool.{true, cond};
 ghost use Prim.Native.Nat.{_+_, _≤_, _<_};
 ghost use lib.Dec.{eqb};
 ghost use lib.ListN.{length};
@@ -19,10 +19,10 @@ ghost use Rattle.symbols.specs.Table.{signatureOf};
 ghost use Rattle.equivalence.specs.Parts.{elementsAt, Stands};
 ghost use Rattle.equivalence.specs.Offsets.{OffsetsIn, termsAt};
 ghost use Rattle.order.specs.Compared.{Scales, noneOftenerAt, isHigher, greaterAt, rowsGreater};
-ghost use Rattle.order.specs.Compared.{mayCoverAt, flattenedAt, covered, verdict};
+ghost use Rattle.order.specs.Compared.{flattenedAt, covered, verdict};
 
 // Does no variable occur oftener in the term at j than in the term at i?
-pub fn none_oftener(
+fn none_oftener(
     table: &&[u16],
     s: &&[u16],
     sk: &[u64; 128],
@@ -37,40 +37,13 @@ pub fn none_oftener(
     requires { ⌜ (i < length (now (now s))) × (j < length (now (now t))) ⌝ }
     ensures { λ r. ⌜ r ≡ noneOftenerAt (now (now (table .entry))) (now (now (s .entry))) i (now (now (t .entry))) j ⌝ }
 {
-    let b = sum_at(*table, 1, *t, tk, tw, j);
-    let d = sum_at(*table, 2, *t, tk, tw, j);
-    if b | d == 0 {
-        return true;
-    }
     let a = sum_at(*table, 1, *s, sk, sw, i);
+    let b = sum_at(*table, 1, *t, tk, tw, j);
     let c = sum_at(*table, 2, *s, sk, sw, i);
+    let d = sum_at(*table, 2, *t, tk, tw, j);
     let low = digits_within(a, b);
     let high = digits_within(c, d);
     if low { high } else { false }
-}
-
-// Is neither half of the variables, by its occurrences as one number, greater in the term at j? If one is, a variable
-// occurs oftener there.
-fn may_cover(
-    table: &&[u16],
-    s: &&[u16],
-    sk: &[u64; 128],
-    sw: &[u64; 387],
-    i: usize,
-    t: &&[u16],
-    tk: &[u64; 128],
-    tw: &[u64; 387],
-    j: usize,
-) -> bool
-    requires { ⌜ Scales (now (now table)) (now (now s)) (now sk) (now sw) (now (now t)) (now tk) (now tw) ⌝ }
-    requires { ⌜ (i < length (now (now s))) × (j < length (now (now t))) ⌝ }
-    ensures { λ r. ⌜ r ≡ mayCoverAt (now (now (table .entry))) (now (now (s .entry))) i (now (now (t .entry))) j ⌝ }
-{
-    let b = sum_at(*table, 1, *t, tk, tw, j);
-    let d = sum_at(*table, 2, *t, tk, tw, j);
-    let a = sum_at(*table, 1, *s, sk, sw, i);
-    let c = sum_at(*table, 2, *s, sk, sw, i);
-    if b <= a { d <= c } else { false }
 }
 
 // Are both words symbols, and the first higher in the precedence?
@@ -87,7 +60,7 @@ pub fn higher(table: &[u16], f: u16, g: u16) -> bool
 }
 
 // Is the term at i greater than the term at j?
-pub fn greater(
+fn greater(
     table: &&[u16],
     s: &&[u16],
     sk: &[u64; 128],
@@ -102,37 +75,53 @@ pub fn greater(
     requires { ⌜ (i < length (now (now s))) × (j < length (now (now t))) ⌝ }
     ensures { λ r. ⌜ r ≡ greaterAt (now (now (table .entry))) (now (now (s .entry))) i (now (now (t .entry))) j ⌝ }
 {
-    let x = sum_at(*table, 0, *s, sk, sw, i);
-    let y = sum_at(*table, 0, *t, tk, tw, j);
-    if x < y {
-        return false;
-    }
-    if y < x {
-        return none_oftener(table, s, sk, sw, i, t, tk, tw, j);
-    }
-    let f = s[i];
-    let g = t[j];
-    if f != g {
-        if higher(*table, f, g) {
-            return none_oftener(table, s, sk, sw, i, t, tk, tw, j);
-        }
-        return false;
-    }
-    if f >= 256 {
-        return false;
-    }
     if none_oftener(table, s, sk, sw, i, t, tk, tw, j) {
-        let n = arity(*table, f);
-        if is_ac(*table, f) {
-            return flattened(table, s, sk, sw, i + 1, t, tk, tw, j + 1, f, n) > 0;
-        }
-        return rows_greater(table, s, sk, sw, i + 1, t, tk, tw, j + 1, n);
+        return exceeds(table, s, sk, sw, i, t, tk, tw, j);
     }
     false
 }
 
+// The same, where no variable occurs oftener in the term at j: by the weights, the roots or the arguments.
+fn exceeds(
+    table: &&[u16],
+    s: &&[u16],
+    sk: &[u64; 128],
+    sw: &[u64; 387],
+    i: usize,
+    t: &&[u16],
+    tk: &[u64; 128],
+    tw: &[u64; 387],
+    j: usize,
+) -> bool
+    requires { ⌜ Scales (now (now table)) (now (now s)) (now sk) (now sw) (now (now t)) (now tk) (now tw) ⌝ }
+    requires { ⌜
+        (i < length (now (now s))) × (j < length (now (now t)))
+        × (true ≡ noneOftenerAt (now (now table)) (now (now s)) i (now (now t)) j)
+        ⌝ }
+    ensures { λ r. ⌜ r ≡ greaterAt (now (now (table .entry))) (now (now (s .entry))) i (now (now (t .entry))) j ⌝ }
+{
+    let x = sum_at(*table, 0, *s, sk, sw, i);
+    let y = sum_at(*table, 0, *t, tk, tw, j);
+    if x != y {
+        return y < x;
+    }
+    let f = s[i];
+    let g = t[j];
+    if f != g {
+        return higher(*table, f, g);
+    }
+    if f >= 256 {
+        return false;
+    }
+    let n = arity(*table, f);
+    if is_ac(*table, f) {
+        return flattened(table, s, sk, sw, i + 1, t, tk, tw, j + 1, f, n) > 0;
+    }
+    rows_greater(table, s, sk, sw, i + 1, t, tk, tw, j + 1, n)
+}
+
 // Are the n terms at i greater than those at j, at the first where they are not equivalent?
-fn rows_greater(
+pub fn rows_greater(
     table: &&[u16],
     s: &&[u16],
     sk: &[u64; 128],
@@ -331,10 +320,8 @@ fn covers(
                 return false;
             }
             let i = wide_byte(ps[x]);
-            if may_cover(table, s, sk, sw, i, t, tk, tw, j) {
-                if greater(table, s, sk, sw, i, t, tk, tw, j) {
-                    break 'left;
-                }
+            if greater(table, s, sk, sw, i, t, tk, tw, j) {
+                break 'left;
             }
             x = past(next, first);
             next = x + 1;

@@ -1,7 +1,7 @@
 // The mark, the relation and the margin of two whole terms.
 use crate::compare::flattened;
-use crate::compare::greater;
 use crate::compare::higher;
+use crate::compare::rows_greater;
 use crate::sums::Totals;
 use crate::sums::digits_within;
 use crate::sums::sum_up;
@@ -13,18 +13,19 @@ ghost use mathlib.Core.Bool.{true, false};
 ghost use mathlib.Core.Path.{_≡_};
 ghost use Prim.Native.Nat.{_≤_, _<_};
 ghost use lib.IntN.{subℕ};
-ghost use lib.ListN.{length};
+ghost use lib.ListN.{length, getD};
 ghost use Rattle.terms.specs.Words.{termOf};
 ghost use Rattle.terms.specs.Order.{mark as markOf};
 ghost use Rattle.symbols.specs.Table.{signatureOf};
 ghost use Rattle.equivalence.specs.Keys.{Sides};
 ghost use Rattle.equivalence.specs.Offsets.{alikeAt};
-ghost use Rattle.order.specs.Sums.{Totalled, SummedUp, NodeSums, totalsWithin};
-ghost use Rattle.order.specs.Compared.{Whole, Scales, SameRoot, noneOftenerAt, weightAt, rootAt};
+ghost use Rattle.order.specs.Sums.{Totalled, SummedUp, NodeSums, SmallTotals, totalsWithin};
+ghost use Rattle.order.specs.Compared.{Whole, Scales, SameRoot, noneOftenerAt, weightAt, rootAt, greaterAt};
 ghost use Rattle.order.specs.Compared.{relation as relationOf};
 
 // Does no variable occur oftener in the term with the right totals?
 fn within(s: Totals, t: Totals) -> bool
+    requires { ⌜ SmallTotals s × SmallTotals t ⌝ }
     ensures { λ r. ⌜ r ≡ totalsWithin s t ⌝ }
 {
     if digits_within(s.low, t.low) {
@@ -33,9 +34,34 @@ fn within(s: Totals, t: Totals) -> bool
     false
 }
 
-// The mark by the arguments of two whole terms that are prepared, of equal weight and with the same root, where no
-// variable occurs oftener in the right one: 3 to 6, or 0.
+// The mark by the arguments of two whole terms with the same root: 3 to 6, or 0.
 fn arguments_mark(
+    table: &[u16],
+    s: &[u16],
+    sk: &[u64; 128],
+    sw: &[u64; 387],
+    t: &[u16],
+    tk: &[u64; 128],
+    tw: &[u64; 387],
+) -> u8
+    requires { ⌜ Scales (now table) (now s) (now sk) (now sw) (now t) (now tk) (now tw) ⌝ }
+    requires { ⌜ (0 < length (now s)) × (0 < length (now t)) × (getD (now s) 0 0 ≡ getD (now t) 0 0) ⌝ }
+    ensures { λ r. ⌜ r ≡ rootAt (now (table .entry)) (now (s .entry)) 0 (now (t .entry)) 0 ⌝ }
+{
+    let f = s[0];
+    let n = arity(table, f);
+    if is_ac(table, f) {
+        return flattened(&table, &s, sk, sw, 1, &t, tk, tw, 1, f, n);
+    }
+    if rows_greater(&table, &s, sk, sw, 1, &t, tk, tw, 1, n) {
+        return 3;
+    }
+    0
+}
+
+// The mark of two terms of equal weight with the same root that are not equivalent, where no variable occurs oftener in
+// the right one.
+fn mark_unlike(
     table: &[u16],
     adds: &[u64; 816],
     s: &[u16],
@@ -46,23 +72,42 @@ fn arguments_mark(
     requires { ⌜ Sides (now table) (now s) (now sk) (now t) (now tk) ⌝ }
     requires { ⌜
         (0 < length (now s)) × (0 < length (now t)) × SameRoot (now table) (now s) (now t)
-        × NodeSums (signatureOf (now table)) (now adds)
+        × NodeSums (signatureOf (now table)) (now adds) × (false ≡ alikeAt (now table) (now s) 0 (now t) 0)
         ⌝ }
-    ensures { λ r. ⌜ r ≡ rootAt (now (table .entry)) (now (s .entry)) 0 (now (t .entry)) 0 ⌝ }
+    ensures { λ r. ⌜
+        r
+        ≡ markOf (signatureOf (now (table .entry))) (termOf (signatureOf (now (table .entry))) (now (s .entry)))
+        (termOf (signatureOf (now (table .entry))) (now (t .entry)))
+        ⌝ }
 {
     let mut sw = [0u64; 387];
     let mut tw = [0u64; 387];
     sum_up(table, adds, s, &mut sw);
     sum_up(table, adds, t, &mut tw);
-    let f = s[0];
-    let n = arity(table, f);
-    if is_ac(table, f) {
-        return flattened(&table, &s, sk, &sw, 1, &t, tk, &tw, 1, f, n);
+    let m = arguments_mark(table, s, sk, &sw, t, tk, &tw);
+    if m > 0 {
+        return m;
     }
-    if greater(&table, &s, sk, &sw, 0, &t, tk, &tw, 0) {
-        return 3;
-    }
-    0
+    10
+}
+
+// Writes the keys of both terms, and tells whether they are equivalent.
+fn prepare_both(
+    table: &[u16],
+    s: &[u16],
+    sk: &mut [u64; 128],
+    t: &[u16],
+    tk: &mut [u64; 128],
+) -> bool
+    requires { ⌜ Whole (now table) (now s) (now t) × (length (now sk) ≡ 128) × (length (now tk) ≡ 128) ⌝ }
+    ensures { λ r. ⌜ r ≡ alikeAt (now (table .entry)) (now (s .entry)) 0 (now (t .entry)) 0 ⌝ }
+    ensures { λ _. ⌜
+        Sides (now (table .entry)) (now (s .entry)) (now (sk .exit)) (now (t .entry)) (now (tk .exit))
+        ⌝ }
+{
+    prepare(table, s, sk);
+    prepare(table, t, tk);
+    equivalent(&table, &s, sk, 0, &t, tk, 0)
 }
 
 // The mark of two terms of equal weight with the same root, where no variable occurs oftener in the right one.
@@ -79,16 +124,10 @@ fn mark_prepared(table: &[u16], adds: &[u64; 816], s: &[u16], t: &[u16]) -> u8
 {
     let mut sk = [0u64; 128];
     let mut tk = [0u64; 128];
-    prepare(table, s, &mut sk);
-    prepare(table, t, &mut tk);
-    if equivalent(&table, &s, &sk, 0, &t, &tk, 0) {
+    if prepare_both(table, s, &mut sk, t, &mut tk) {
         return 9;
     }
-    let m = arguments_mark(table, adds, s, &sk, t, &tk);
-    if m > 0 {
-        return m;
-    }
-    10
+    mark_unlike(table, adds, s, &sk, t, &tk)
 }
 
 // The mark of two terms of equal weight, where no variable occurs oftener in the right one.
@@ -141,38 +180,84 @@ pub fn mark(table: &[u16], adds: &[u64; 816], s: &[u16], st: Totals, t: &[u16], 
     7
 }
 
-// How two whole terms that are prepared and not equivalent are related: 1 greater, 2 less, 4 unrelated.
-fn relation_unlike(
+// Is the left one greater, of two whole terms of equal weight with the same root that are prepared?
+fn greater_level(
     table: &[u16],
     s: &[u16],
+    st: Totals,
     sk: &[u64; 128],
     sw: &[u64; 387],
     t: &[u16],
+    tt: Totals,
+    tk: &[u64; 128],
+    tw: &[u64; 387],
+) -> bool
+    requires { ⌜ Whole (now table) (now s) (now t) ⌝ }
+    requires { ⌜ Scales (now table) (now s) (now sk) (now sw) (now t) (now tk) (now tw) ⌝ }
+    requires { ⌜
+        Totalled (signatureOf (now table)) (now s) st × Totalled (signatureOf (now table)) (now t) tt
+        × (st .weight ≡ tt .weight) × (getD (now s) 0 0 ≡ getD (now t) 0 0)
+        ⌝ }
+    ensures { λ r. ⌜ r ≡ greaterAt (now (table .entry)) (now (s .entry)) 0 (now (t .entry)) 0 ⌝ }
+{
+    if within(st, tt) {
+        return arguments_mark(table, s, sk, sw, t, tk, tw) > 0;
+    }
+    false
+}
+
+// How two whole terms of equal weight with the same root that are prepared and not equivalent are related: 1 greater,
+// 2 less, 4 unrelated.
+fn relation_unlike(
+    table: &[u16],
+    s: &[u16],
+    st: Totals,
+    sk: &[u64; 128],
+    sw: &[u64; 387],
+    t: &[u16],
+    tt: Totals,
     tk: &[u64; 128],
     tw: &[u64; 387],
 ) -> u8
+    requires { ⌜ Whole (now table) (now s) (now t) ⌝ }
     requires { ⌜ Scales (now table) (now s) (now sk) (now sw) (now t) (now tk) (now tw) ⌝ }
-    requires { ⌜ (0 < length (now s)) × (0 < length (now t)) × (false ≡ alikeAt (now table) (now s) 0 (now t) 0) ⌝ }
+    requires { ⌜
+        Totalled (signatureOf (now table)) (now s) st × Totalled (signatureOf (now table)) (now t) tt
+        × (st .weight ≡ tt .weight) × (getD (now s) 0 0 ≡ getD (now t) 0 0)
+        × (false ≡ alikeAt (now table) (now s) 0 (now t) 0)
+        ⌝ }
     ensures { λ r. ⌜
         r
         ≡ relationOf (signatureOf (now (table .entry))) (termOf (signatureOf (now (table .entry))) (now (s .entry)))
         (termOf (signatureOf (now (table .entry))) (now (t .entry)))
         ⌝ }
 {
-    if greater(&table, &s, sk, sw, 0, &t, tk, tw, 0) {
+    if greater_level(table, s, st, sk, sw, t, tt, tk, tw) {
         return 1;
     }
-    if greater(&table, &t, tk, tw, 0, &s, sk, sw, 0) {
+    if greater_level(table, t, tt, tk, tw, s, st, sk, sw) {
         return 2;
     }
     4
 }
 
-// How two terms with these sums are related, by their arguments.
-fn relation_prepared(table: &[u16], s: &[u16], sw: &[u64; 387], t: &[u16], tw: &[u64; 387]) -> u8
+// How two terms with these totals and sums, of equal weight and with the same root, are related.
+fn relation_prepared(
+    table: &[u16],
+    s: &[u16],
+    st: Totals,
+    sw: &[u64; 387],
+    t: &[u16],
+    tt: Totals,
+    tw: &[u64; 387],
+) -> u8
     requires { ⌜ Whole (now table) (now s) (now t) ⌝ }
     requires { ⌜
         SummedUp (signatureOf (now table)) (now s) (now sw) × SummedUp (signatureOf (now table)) (now t) (now tw)
+        ⌝ }
+    requires { ⌜
+        Totalled (signatureOf (now table)) (now s) st × Totalled (signatureOf (now table)) (now t) tt
+        × (st .weight ≡ tt .weight) × (getD (now s) 0 0 ≡ getD (now t) 0 0)
         ⌝ }
     ensures { λ r. ⌜
         r
@@ -182,12 +267,10 @@ fn relation_prepared(table: &[u16], s: &[u16], sw: &[u64; 387], t: &[u16], tw: &
 {
     let mut sk = [0u64; 128];
     let mut tk = [0u64; 128];
-    prepare(table, s, &mut sk);
-    prepare(table, t, &mut tk);
-    if equivalent(&table, &s, &sk, 0, &t, &tk, 0) {
+    if prepare_both(table, s, &mut sk, t, &mut tk) {
         return 3;
     }
-    relation_unlike(table, s, &sk, sw, t, &tk, tw)
+    relation_unlike(table, s, st, &sk, sw, t, tt, &tk, tw)
 }
 
 // How two terms with these totals are related, by their marks both ways.
@@ -251,7 +334,7 @@ pub fn relation(
 {
     if st.weight == tt.weight {
         if s[0] == t[0] {
-            return relation_prepared(table, s, sw, t, tw);
+            return relation_prepared(table, s, st, sw, t, tt, tw);
         }
     }
     relation_marked(table, adds, s, st, t, tt)

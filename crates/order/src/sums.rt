@@ -13,8 +13,11 @@ ghost use lib.ListN.{length, set};
 ghost use Rattle.symbols.specs.Table.{signatureOf};
 ghost use Rattle.equivalence.specs.Parts.{partAt};
 ghost use Rattle.equivalence.specs.Keys.{Prepared};
-ghost use Rattle.order.specs.Sums.{digitsWithin, nodeSum, termSum, Bounded, Added, Totalled, Summed, SummedUp};
-ghost use Rattle.order.specs.Sums.{NodeSums, Weighed, Occurring};
+ghost use Rattle.order.specs.Sums.{digitsWithin, SmallDigits, nodeSum, termSum, Bounded, Added, Totalled};
+ghost use Rattle.order.specs.Sums.{Summed, SummedUp, NodeSums, Weighed, Occurring};
+
+// The highest bit of each of eight digits.
+const EIGHTH_BITS: u64 = 0x8080808080808080;
 
 // The sums over the words of a term: weights, and the occurrences of the variables 0 to 7 and 8 to 15 as digits.
 pub struct Totals {
@@ -197,13 +200,11 @@ pub fn sum_at(
     sums[129 * kind + i] - sums[129 * kind + end]
 }
 
-// Is each of the eight digits of `right` at most that of `left`? Four at a time, with 8 bits of room above each: 256
-// more than the left digit, less the right one, has a ninth bit unless the left digit is less.
+// Is each of the eight digits of `right` at most that of `left`? All are below 128: 128 more than the left digit, less
+// the right one, has an eighth bit unless the left digit is less.
 pub fn digits_within(left: u64, right: u64) -> bool
+    requires { ⌜ SmallDigits 8 left × SmallDigits 8 right ⌝ }
     ensures { λ r. ⌜ r ≡ digitsWithin 8 left right ⌝ }
 {
-    let even = (left & 0x00ff00ff00ff00ff) + 0x0100010001000100 - (right & 0x00ff00ff00ff00ff);
-    let odd = (left / 256 & 0x00ff00ff00ff00ff) + 0x0100010001000100
-        - (right / 256 & 0x00ff00ff00ff00ff);
-    even & odd & 0x0100010001000100 == 0x0100010001000100
+    left + EIGHTH_BITS - right & EIGHTH_BITS == EIGHTH_BITS
 }

@@ -3,13 +3,13 @@ use mathlib.Core.Path.{sym, _∙_}
 use Rattle.terms.specs.Words.{termOf}
 use Rattle.symbols.specs.Table.{signatureOf}
 use Rattle.order.proofs.MarkLaws.{whole-seven, whole-one, whole-eight}
-use Rattle.order.proofs.WholeLaws.{left-weight, right-weight, within-none}
+use Rattle.order.proofs.WholeLaws.{left-weight, right-weight, totals-small, within-none}
 use borrow.Author.Needs.{needs}
 use Rattle.order.proofs.mark.mark.Statement.{statement}
 use Rattle.order.proofs.mark.mark.Tie as tie
 
 within-requires : tie.Need-within-requires
-within-requires c κs = search needs
+within-requires c κs = let (S, (A, B, N)) = c .before .before .before .pre in totals-small S A B
 
 returns : tie.Need-returns
 returns c =

@@ -2,47 +2,48 @@ use mathlib.Core.Path.{sym, _∙_}
 use Rattle.terms.specs.Words.{termOf}
 use Rattle.symbols.specs.Table.{signatureOf}
 use Rattle.order.proofs.MarkLaws.{level-one, level-two, level-four}
-use borrow.Author.Needs.{needs}
+use Rattle.order.proofs.WholeLaws.{turned, scales-turned}
 use Rattle.order.proofs.mark.relation_unlike.Statement.{statement}
 use Rattle.order.proofs.mark.relation_unlike.Tie as tie
 
-greater-requires : tie.Need-greater-requires
-greater-requires c κs = search needs
+greater-level-requires : tie.Need-greater-level-requires
+greater-level-requires c κs =
+    let c3 = c .before .before .before in
+    let (S, (W, (A, B, l, e, u))) = c3 .pre in (S, (W, (A, B, l, e)))
 
 returns : tie.Need-returns
 returns c =
-    let a = c .before .before .before .before .before .before .before .before .args in
-    let σ = signatureOf (a .t1 .now) in
-    let s = termOf σ (a .t2 .now) in
-    let t = termOf σ (a .t5 .now) in
-    level-one σ s t (sym (c .if1 .taken) ∙ c .before .greater .ensures)
+    let c5 = c .before .before .before .before .before in
+    let a = c5 .args in
+    let σ = signatureOf (a .table .now) in
+    level-one σ (termOf σ (a .s .now)) (termOf σ (a .t .now)) (sym (c .if1 .taken) ∙ c .before .greater-level .ensures)
 
-greater-requires-2 : tie.Need-greater-requires-2
-greater-requires-2 c κs = search needs
+greater-level-requires-2 : tie.Need-greater-level-requires-2
+greater-level-requires-2 c κs =
+    let c5 = c .before .before .before .before .before in
+    let (S, (W, (A, B, l, e, u))) = c5 .pre in (turned S, (scales-turned W, (B, A, sym l, sym e)))
 
 returns-2 : tie.Need-returns-2
 returns-2 c =
-    let c5 = c .before .before .before .before .before in
-    let c6 = c5 .before in
-    let c13 = c6 .before .before .before .before .before .before .before in
-    let a = c13 .args in
-    let σ = signatureOf (a .t1 .now) in
-    let s = termOf σ (a .t2 .now) in
-    let t = termOf σ (a .t5 .now) in
-    level-two σ s t (sym (c5 .if1 .left) ∙ c6 .greater .ensures) (sym (c .if2 .taken) ∙ c .before .greater2 .ensures)
+    let c3 = c .before .before .before in
+    let c7 = c3 .before .before .before .before in
+    let a = c7 .args in
+    let σ = signatureOf (a .table .now) in
+    level-two σ (termOf σ (a .s .now)) (termOf σ (a .t .now))
+    (sym (c .before .before .if1 .left) ∙ c3 .greater-level .ensures)
+    (sym (c .if2 .taken) ∙ c .before .greater-level2 .ensures)
 
 returns-3 : tie.Need-returns-3
 returns-3 c =
-    let c5 = c .before .before .before .before .before in
-    let c6 = c5 .before in
-    let c13 = c6 .before .before .before .before .before .before .before in
-    let a = c13 .args in
-    let σ = signatureOf (a .t1 .now) in
-    let s = termOf σ (a .t2 .now) in
-    let t = termOf σ (a .t5 .now) in
-    level-four σ s t (sym (c5 .if1 .left) ∙ c6 .greater .ensures) (sym (c .if2 .left) ∙ c .before .greater2 .ensures)
-    (c13 .pre .1 .2)
+    let c3 = c .before .before .before in
+    let c7 = c3 .before .before .before .before in
+    let a = c7 .args in
+    let (S, (W, (A, B, l, e, u))) = c7 .pre in
+    let σ = signatureOf (a .table .now) in
+    level-four σ (termOf σ (a .s .now)) (termOf σ (a .t .now))
+    (sym (c .before .before .if1 .left) ∙ c3 .greater-level .ensures)
+    (sym (c .if2 .left) ∙ c .before .greater-level2 .ensures) u
 
 pub relation-unlike-spec : {M : Type 1} → statement M
 relation-unlike-spec =
-    tie.close (tie.spec greater-requires returns greater-requires-2 returns-2 returns-3)
+    tie.close (tie.spec greater-level-requires returns greater-level-requires-2 returns-2 returns-3)

@@ -1,13 +1,12 @@
 use mathlib.Core.Path.{sym, _∙_}
-use borrow.Author.Needs.{needs}
 use Rattle.order.proofs.mark.within.Statement.{statement}
 use Rattle.order.proofs.mark.within.Tie as tie
 
 digits-within-requires : tie.Need-digits-within-requires
-digits-within-requires c κs = search needs
+digits-within-requires c κs = (c .pre .0 .0, c .pre .1 .0)
 
 digits-within-requires-2 : tie.Need-digits-within-requires-2
-digits-within-requires-2 c κs = search needs
+digits-within-requires-2 c κs = (c .before .before .pre .0 .1, c .before .before .pre .1 .1)
 
 returns : tie.Need-returns
 returns c = c .digits-within2 .ensures ∙ rw (sym (c .before .before .digits-within .ensures) ∙ c .before .if1 .taken)

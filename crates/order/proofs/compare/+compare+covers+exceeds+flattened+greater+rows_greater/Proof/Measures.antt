@@ -6,6 +6,8 @@ use Rattle.order.proofs.compare.compare.Reads as compare
 use Rattle.order.proofs.compare.compare.Kinds as compare-kinds
 use Rattle.order.proofs.compare.covers.Reads as covers
 use Rattle.order.proofs.compare.covers.Kinds as covers-kinds
+use Rattle.order.proofs.compare.exceeds.Reads as exceeds
+use Rattle.order.proofs.compare.exceeds.Kinds as exceeds-kinds
 use Rattle.order.proofs.compare.flattened.Reads as flattened
 use Rattle.order.proofs.compare.flattened.Kinds as flattened-kinds
 use Rattle.order.proofs.compare.greater.Reads as greater
@@ -24,6 +26,11 @@ abbrev pub μ-covers : Measures 12 covers-kinds.ps ℕ
 μ-covers κs a =
     8 * offsetNodes (a .0 .now .now) (a .1 .0 .now .now) (a .1 .1 .1 .1 .1 .1 .0 .now .now) (a .1 .1 .1 .1 .0 .now)
     (a .1 .1 .1 .1 .1 .0) (a .1 .1 .1 .1 .1 .1 .1 .1 .1 .0 .now) (a .1 .1 .1 .1 .1 .1 .1 .1 .1 .1 .0) + 2
+
+abbrev pub μ-exceeds : Measures 10 exceeds-kinds.ps ℕ
+μ-exceeds κs a =
+    8 * partNodes (a .0 .now .now) (a .1 .0 .now .now) (a .1 .1 .1 .1 .1 .0 .now .now) (a .1 .1 .1 .1 .0)
+    (a .1 .1 .1 .1 .1 .1 .1 .1 .0)
 
 abbrev pub μ-flattened : Measures 10 flattened-kinds.ps ℕ
 μ-flattened κs a =
@@ -51,6 +58,12 @@ covers-at t = and 12 covers-kinds.ps (is 12 covers-kinds.ps μ-covers t) covers.
 
 abbrev pub covers-below : ℕ → In 12 covers-kinds.ps
 covers-below t = and 12 covers-kinds.ps (falls 12 covers-kinds.ps _<_ μ-covers t) covers.Pre
+
+abbrev pub exceeds-at : ℕ → In 10 exceeds-kinds.ps
+exceeds-at t = and 10 exceeds-kinds.ps (is 10 exceeds-kinds.ps μ-exceeds t) exceeds.Pre
+
+abbrev pub exceeds-below : ℕ → In 10 exceeds-kinds.ps
+exceeds-below t = and 10 exceeds-kinds.ps (falls 10 exceeds-kinds.ps _<_ μ-exceeds t) exceeds.Pre
 
 abbrev pub flattened-at : ℕ → In 10 flattened-kinds.ps
 flattened-at t = and 10 flattened-kinds.ps (is 10 flattened-kinds.ps μ-flattened t) flattened.Pre

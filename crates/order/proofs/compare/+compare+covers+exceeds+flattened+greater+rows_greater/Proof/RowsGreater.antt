@@ -1,7 +1,7 @@
 use Prim.Native.Nat.{ℕ}
 use Rattle.order.proofs.compare.greater.Reads as greater
 use Rattle.order.proofs.compare.rows_greater.Reads as rows-greater
-use Rattle.order.proofs.compare.+compare+covers+flattened+greater+rows_greater.Lts-rows_greater as rows-greater-lts
+use Rattle.order.proofs.compare.+compare+covers+exceeds+flattened+greater+rows_greater.Lts-rows_greater as rows-greater-lts
 use Rattle.equivalence.proofs.equivalence.equivalent_by_keys.Reads as equivalent-by-keys-reads
 use Rattle.equivalence.proofs.keys.size_at.Reads as size-at-reads
 use native.Mathlib.Omega.{arith}
@@ -11,7 +11,7 @@ use borrow.Author.Needs.{needs}
 use Rattle.equivalence.proofs.StepLaws.{step-next}
 use Rattle.order.proofs.MeasureLaws.{next-total}
 use Rattle.order.proofs.RootLaws.{RowsGoing, lex-none, lex-here, lex-more}
-use Rattle.order.proofs.compare.+compare+covers+flattened+greater+rows_greater.Proof.Measures.{
+use Rattle.order.proofs.compare.+compare+covers+exceeds+flattened+greater+rows_greater.Proof.Measures.{
   greater-below,
   rows-greater-at,
 }

@@ -1,7 +1,7 @@
 use Prim.Native.Nat.{ℕ}
 use Rattle.order.proofs.compare.compare.Reads as compare
 use Rattle.order.proofs.compare.flattened.Reads as flattened
-use Rattle.order.proofs.compare.+compare+covers+flattened+greater+rows_greater.Lts-flattened as flattened-lts
+use Rattle.order.proofs.compare.+compare+covers+exceeds+flattened+greater+rows_greater.Lts-flattened as flattened-lts
 use Rattle.order.proofs.parts.join_surplus.Reads as join-surplus-reads
 use Rattle.order.proofs.parts.parts.Reads as parts-reads
 use native.Mathlib.Omega.{arith}
@@ -12,7 +12,7 @@ use Rattle.equivalence.proofs.OffsetLaws.{offsets-own}
 use Rattle.order.proofs.MeasureLaws.{elements-sum}
 use Rattle.order.proofs.FlattenedLaws.{parts-four, parts-none, parts-five, parts-fewer, parts-six, parts-level}
 use Rattle.order.proofs.FlattenedLaws.{parted-few, joined-offsets, high-nodes, low-nodes}
-use Rattle.order.proofs.compare.+compare+covers+flattened+greater+rows_greater.Proof.Measures.{
+use Rattle.order.proofs.compare.+compare+covers+exceeds+flattened+greater+rows_greater.Proof.Measures.{
   compare-below,
   flattened-at,
 }

@@ -1,26 +1,21 @@
 use Prim.Native.Nat.{ℕ, _<_}
 use Rattle.order.proofs.compare.covers.Reads as covers
-use Rattle.order.proofs.compare.+compare+covers+flattened+greater+rows_greater.Lts-covers as covers-lts
+use Rattle.order.proofs.compare.+compare+covers+exceeds+flattened+greater+rows_greater.Lts-covers as covers-lts
 use Rattle.order.proofs.compare.greater.Reads as greater
 use Rattle.equivalence.proofs.offsets.wide_byte.Reads as wide-byte-reads
-use Rattle.order.proofs.compare.may_cover.Reads as may-cover-reads
 use Rattle.order.proofs.compare.past.Reads as past-reads
 use native.Mathlib.Omega.{arith}
 use mathlib.Core.Bool.{true}
-use mathlib.Core.Logic.{⊎-elim}
 use mathlib.Core.Path.{_≡_, sym, _∙_}
 use Prim.Native.Nat.{_+_, _-_, _≤_}
 use borrow.Author.Needs.{needs}
 use borrow.Author.Count.{below-more}
 use lib.ListN.{getD}
-use Rattle.symbols.specs.Table.{signatureOf}
 use Rattle.order.specs.Compared.{greaterAt}
 use Rattle.order.proofs.MeasureLaws.{offset-size}
-use Rattle.order.proofs.OccurrenceLaws.{not-covering}
 use Rattle.order.proofs.CoverLaws.{someAbove, above-none, above-at, covered-all, covered-not}
 use Rattle.order.proofs.CoverLaws.{Search, search-start, search-none, search-within, search-more}
-use Rattle.order.proofs.GreaterLaws.{greater-oftener}
-use Rattle.order.proofs.compare.+compare+covers+flattened+greater+rows_greater.Proof.Measures.{
+use Rattle.order.proofs.compare.+compare+covers+exceeds+flattened+greater+rows_greater.Proof.Measures.{
   covers-at,
   greater-below,
 }
@@ -29,8 +24,6 @@ abbrev covers-claims : ℕ → covers-lts.Claims
 covers-claims t = (
   wide-byte-reads.Asked,
   wide-byte-reads.Learnt,
-  may-cover-reads.Asked,
-  may-cover-reads.Learnt,
   greater-below t,
   greater.Post,
   past-reads.Asked,
@@ -78,29 +71,18 @@ covers-element-copy-out-wide-byte-2 : (t : ℕ) → covers-lts.Need-element-copy
 covers-element-copy-out-wide-byte-2 t c =
     let h = c .before .before .before .before .before .before .pre .1 in omega (arith, c .if1 .left, h .1 .0 .0 .few)
 
-covers-may-cover-requires : (t : ℕ) → covers-lts.Need-may-cover-requires (covers-claims t) (covers-at t)
-    covers.Post covers-Inv-left covers-μ-left covers-Inv-right covers-μ-right
-covers-may-cover-requires t c κs =
-    let u = c .before .before in
-    let w = u .before .before in
-    let l = w .before .before in
-    let h = l .before .before .pre .1 in
-    let left = h .1 .0 .0 .inside (u .before .left .x) (u .if1 .left) in
-    rw (w .wide-byte .ensures .0, c .wide-byte2 .ensures .0)
-    (h .0, (left, h .1 .1 .inside (l .before .right .k) (l .right-test .taken)))
-
 covers-greater-requires : (t : ℕ) → covers-lts.Need-greater-requires (covers-claims t) (covers-at t) covers.Post
     covers-Inv-left covers-μ-left covers-Inv-right covers-μ-right
 covers-greater-requires t c κs =
-    let u = c .before .before .before .before in
-    let w = u .before .before in
-    let l = w .before .before in
-    let (m, h) = l .before .before .pre in
-    let x = u .before .left .x in
-    let k = l .before .right .k in
-    let inside = u .if1 .left in
-    let below = l .right-test .taken in
-    rw (w .wide-byte .ensures .0, c .before .before .wide-byte2 .ensures .0) (
+    let c3 = c .before .before .before in
+    let c6 = c3 .before .before .before in
+    let c8 = c6 .before .before in
+    let (m, h) = c8 .pre in
+    let x = c3 .left .x in
+    let k = c6 .before .right .k in
+    let inside = c .before .before .if1 .left in
+    let below = c6 .right-test .taken in
+    rw (c3 .before .wide-byte .ensures .0, c .wide-byte2 .ensures .0) (
       omega (arith, m, offset-size (h .1 .0 .0) x inside, offset-size (h .1 .1) k below),
       (h .0, (h .1 .0 .0 .inside x inside, h .1 .1 .inside k below)),
     )
@@ -108,49 +90,47 @@ covers-greater-requires t c κs =
 covers-past-requires : (t : ℕ) → covers-lts.Need-past-requires (covers-claims t) (covers-at t) covers.Post
     covers-Inv-left covers-μ-left covers-Inv-right covers-μ-right
 covers-past-requires t c κs =
-    let u = c .before .before .before .before in
-    let h = u .before .before .before .before .before .before .pre .1 in
-    omega (arith, search-within (u .before .left .inv) (u .if1 .left), h .1 .0 .0 .few)
+    let c4 = c .before .before .before .before in
+    let c10 = c4 .before .before .before .before .before .before in
+    omega (arith, search-within (c4 .before .left .inv) (c4 .if1 .left), c10 .pre .1 .1 .0 .0 .few)
 
 covers-add-next : (t : ℕ) → covers-lts.Need-add-next (covers-claims t) (covers-at t) covers.Post covers-Inv-left
     covers-μ-left covers-Inv-right covers-μ-right
 covers-add-next t c =
-    let u = c .before .before .before .before .before in
-    let h = u .before .before .before .before .before .before .pre .1 in
-    omega (arith, search-within (u .before .left .inv) (u .if1 .left), h .1 .0 .0 .few, c .past .ensures .2)
+    let c5 = c .before .before .before .before .before in
+    let c11 = c5 .before .before .before .before .before .before in
+    omega (arith, search-within (c5 .before .left .inv) (c5 .if1 .left), c11 .pre .1 .1 .0 .0 .few, c .past .ensures .2)
 
 covers-left-less : (t : ℕ) → covers-lts.Need-left-less (covers-claims t) (covers-at t) covers.Post covers-Inv-left
     covers-μ-left covers-Inv-right covers-μ-right
 covers-left-less t c =
-    let u = c .before .before .before .before .before in
-    omega (arith, search-within (u .before .left .inv) (u .if1 .left), c .past .ensures .1)
+    let c5 = c .before .before .before .before .before in
+    omega (arith, search-within (c5 .before .left .inv) (c5 .if1 .left), c .past .ensures .1)
 
 covers-left-again : (t : ℕ) → covers-lts.Need-left-again (covers-claims t) (covers-at t) covers.Post covers-Inv-left
     covers-μ-left covers-Inv-right covers-μ-right
 covers-left-again t c =
-    let u = c .before .before .before .before .before in
-    let σ = signatureOf (u .before .before .before .before .before .before .args .table .now .now) in
-    let not = ⊎-elim (λ w. sym (w .1 .ensures) ∙ w .2 .left)
-    (λ w. sym (greater-oftener σ _ _ (not-covering σ _ _ (sym (c .before .before .may-cover .ensures) ∙ w .left)))) (c .before .if2 .came) in
-    search-more (u .before .left .inv) (rw (c .before .before .before .wide-byte2 .ensures .0) at not) (c .past .ensures .0)
+    let c3 = c .before .before .before in
+    let c6 = c3 .before .before .before in
+    let not = sym (c .before .before .greater .ensures) ∙ c .before .if2 .left in
+    search-more (c6 .left .inv) (rw (c3 .wide-byte2 .ensures .0) at not) (c .past .ensures .0)
 
 covers-right-again : (t : ℕ) → covers-lts.Need-right-again (covers-claims t) (covers-at t) covers.Post covers-Inv-left
     covers-μ-left covers-Inv-right covers-μ-right
 covers-right-again t c =
-    let v = c .before .before .before .before in
-    let u = v .before .before in
-    let w = u .before .before in
-    let l = w .before .before in
-    let p = l .before in
-    let a = p .before .args in
-    let h = p .before .pre .1 in
-    let x = u .before .left .x in
-    let g = rw (v .wide-byte2 .ensures .0) at (sym (c .before .greater .ensures) ∙ c .if3 .taken) in
-    let above = above-at (a .table .now .now) (h .1 .0 .0) (a .t .now .now) (w .wide-byte .result) x (u .if1 .left) g
-    in (
-      omega (arith, l .right-test .taken),
-      u .if1 .left,
-      below-more _ _ (p .right .inv .2) (rw (w .wide-byte .ensures .0) at above),
+    let c4 = c .before .before .before .before in
+    let c6 = c4 .before .before in
+    let c8 = c6 .before .before in
+    let c10 = c8 .before .before in
+    let a = c10 .args in
+    let h = c10 .pre .1 in
+    let inside = c4 .if1 .left in
+    let g = rw (c .before .before .wide-byte2 .ensures .0) at (sym (c .before .greater .ensures) ∙ c .if2 .taken) in
+    let x = c4 .before .left .x in
+    let above = above-at (a .table .now .now) (h .1 .0 .0) (a .t .now .now) (c6 .wide-byte .result) x inside g in (
+      omega (arith, c8 .right-test .taken),
+      inside,
+      below-more _ _ (c8 .before .right .inv .2) (rw (c6 .wide-byte .ensures .0) at above),
     )
 
 covers-returns-2 : (t : ℕ) → covers-lts.Need-returns-2 (covers-claims t) (covers-at t) covers.Post covers-Inv-left
@@ -164,6 +144,6 @@ pub covers-closed : {M : Type 1} (t : ℕ) → covers-lts.Closed (covers-claims 
 covers-closed t =
     covers-lts.spec (covers-claims t) (covers-at t) covers.Post covers-Inv-left covers-μ-left covers-Inv-right
     covers-μ-right (covers-right-holds t) (λ c. search needs) (λ c κs. search needs) (covers-left-holds t)
-    (covers-returns t) (covers-element-copy-out-wide-byte-2 t) (λ c κs. search needs) (covers-may-cover-requires t)
+    (covers-returns t) (covers-element-copy-out-wide-byte-2 t) (λ c κs. search needs)
     (covers-greater-requires t) (covers-past-requires t) (covers-add-next t) (covers-left-less t) (covers-left-again t)
     (λ c. search needs) (λ c. search needs) (covers-right-again t) (covers-returns-2 t)

@@ -1,6 +1,6 @@
 use Prim.Native.Nat.{ℕ}
 use Rattle.order.proofs.compare.compare.Reads as compare
-use Rattle.order.proofs.compare.+compare+covers+flattened+greater+rows_greater.Lts-compare as compare-lts
+use Rattle.order.proofs.compare.+compare+covers+exceeds+flattened+greater+rows_greater.Lts-compare as compare-lts
 use Rattle.order.proofs.compare.covers.Reads as covers
 use Rattle.equivalence.proofs.cancel.cancel.Reads as cancel-reads
 use native.Mathlib.Omega.{arith}
@@ -11,7 +11,7 @@ use Rattle.equivalence.specs.Offsets.{termsAt}
 use Rattle.equivalence.proofs.OffsetLaws.{offsets-own}
 use Rattle.order.proofs.CoverLaws.{left-sum}
 use Rattle.order.proofs.CoverLaws.{verdict-equal, verdict-short, verdict-above, verdict-not}
-use Rattle.order.proofs.compare.+compare+covers+flattened+greater+rows_greater.Proof.Measures.{
+use Rattle.order.proofs.compare.+compare+covers+exceeds+flattened+greater+rows_greater.Proof.Measures.{
   compare-at,
   covers-below,
 }

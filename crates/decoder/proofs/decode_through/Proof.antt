@@ -117,7 +117,8 @@ put-file-requires c κs =
       c10 .read-file .kept .1 .1 .0,
     )) in (
       (
-        symbol-count (a .book .now) (c10 .read-file .last .1 .0) (a .nodes .now) (c10 .read-file .last .1 .1 .0) file _ _
+        symbol-count (a .book .now) (c10 .read-file .last .1 .0) (a .nodes .now) (c10 .read-file .last .1 .1 .0) file _
+            _
             _ _ parts,
         parts .head .fewSymbols,
         parts .head .fewRules,

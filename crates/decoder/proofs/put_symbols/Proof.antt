@@ -32,18 +32,17 @@ loop-less c = search needs
 
 loop-again : tie.Need-loop-again Inv-loop μ-loop
 loop-again c =
-    let v = c .before .before .before .before .before .loop .inv in
-    let n : c .before .before .before .before .before .loop .symbol < length (signatureOf (c .before .before .before
-    .before .before .before .before .before .args .table .now) .symbols) = omega (
+    let c5 = c .before .before .before .before .before in
+    let c8 = c5 .before .before .before in
+    let v = c5 .loop .inv in
+    let n : c5 .loop .symbol < length (signatureOf (c8 .args .table .now) .symbols) = omega (
       arith,
-      c .before .before .before
-          .before .before .before .before .before .pre,
+      c8 .pre,
     ) in (
       omega arith,
       c .before .before .put-symbol .kept .1 .0 ∙ v .1,
-      c .before .before .put-symbol .ensures ∙ rw (v .2) (symbols-more (signatureOf (c .before .before .before .before
-          .before .before .before .before .args .table .now)) (c .before .before .before .before .before .before .before
-          .before .args .words .now) (c .before .before .before .before .before .loop .symbol) n),
+      c .before .before .put-symbol .ensures ∙ rw (v .2)
+          (symbols-more (signatureOf (c8 .args .table .now)) (c8 .args .words .now) (c5 .loop .symbol) n),
     )
 
 same-length : tie.Need-same-length Inv-loop μ-loop
@@ -51,10 +50,10 @@ same-length c = c .before .loop .inv .1
 
 returns : tie.Need-returns Inv-loop μ-loop
 returns c =
+    let c4 = c .before .before .before .before in
     let v = c .before .loop .inv in
-    let e : c .before .loop .symbol ≡ length (signatureOf (c .before .before .before .before .args .table .now)
-    .symbols) = omega (arith, c .before .before .before .before .pre) in
-    v .2 ∙ rw (e, take-length (signatureOf (c .before .before .before .before .args .table .now) .symbols))
+    let e : c .before .loop .symbol ≡ length (signatureOf (c4 .args .table .now) .symbols) = omega (arith, c4 .pre) in
+    v .2 ∙ rw (e, take-length (signatureOf (c4 .args .table .now) .symbols))
 
 pub put-symbols-spec : {M : Type 1} → statement M
 put-symbols-spec =

@@ -26,21 +26,21 @@ add-result c = search needs
 
 returns-2 : tie.Need-returns-2
 returns-2 c =
-    let σ = signatureOf (c .before .before .before .before .before .args .table .now) in
-    let k = ltb-true (c .before .before .before .before .before .args .word) (length (σ .symbols)) (sym (c .before
-    .before .has-symbol .ensures) ∙ c .before .if2 .taken) in
-    rw (symbol-cell σ (c .before .before .before .before .before .args .word) (omega arith) k) (omega (
+    let c5 = c .before .before .before .before .before in
+    let σ = signatureOf (c5 .args .table .now) in
+    let k = ltb-true (c5 .args .word) (length (σ .symbols))
+    (sym (c .before .before .has-symbol .ensures) ∙ c .before .if2 .taken) in
+    rw (symbol-cell σ (c5 .args .word) (omega arith) k) (omega (
       arith,
-      c .arity
-          .ensures .0,
+      c .arity .ensures .0,
     ))
 
 returns-3 : tie.Need-returns-3
 returns-3 c =
-    let σ = signatureOf (c .before .before .before .before .args .table .now) in
-    let k = ltb-false (c .before .before .before .before .args .word) (length (σ .symbols)) (sym (c .before .has-symbol
-    .ensures) ∙ c .if2 .left) in
-    sym (no-cell σ (c .before .before .before .before .args .word) (omega arith) k)
+    let c4 = c .before .before .before .before in
+    let σ = signatureOf (c4 .args .table .now) in
+    let k = ltb-false (c4 .args .word) (length (σ .symbols)) (sym (c .before .has-symbol .ensures) ∙ c .if2 .left) in
+    sym (no-cell σ (c4 .args .word) (omega arith) k)
 
 pub cell-spec : {M : Type 1} → statement M
 cell-spec =

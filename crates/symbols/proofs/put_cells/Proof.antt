@@ -45,14 +45,15 @@ loop-less c = search needs
 
 loop-again : tie.Need-loop-again Inv-loop μ-loop
 loop-again c =
-    let v = c .before .before .before .loop .inv in (
+    let c3 = c .before .before .before in
+    let c5 = c3 .before .before in
+    let v = c3 .loop .inv in (
       omega arith,
       omega arith,
       simp length-set (v .2),
-      rw (c .wide .ensures .0) (between-more (signatureOf (c .before .before .before .before .before .args .table
-          .now)) (c .before .before .before .before .before .args .from) (c .before .before .before .loop .word) (c
-          .before .cell .result)
-          (c .before .before .before .before .before .args .cells .now) (c .before .before .before .loop .cells) (v .0)
+      rw (c .wide .ensures .0)
+          (between-more (signatureOf (c5 .args .table .now)) (c5 .args .from) (c3 .loop .word) (c .before .cell .result)
+          (c5 .args .cells .now) (c3 .loop .cells) (v .0)
           (omega arith) (c .before .cell .ensures) (v .3)),
     )
 

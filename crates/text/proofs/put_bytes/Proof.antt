@@ -34,12 +34,13 @@ loop-less c = search needs
 
 loop-again : tie.Need-loop-again Inv-loop μ-loop
 loop-again c =
-    let a = c .before .before .before .before .before .before .before .before .before .args in (
+    let c5 = c .before .before .before .before .before in
+    let c9 = c5 .before .before .before .before in
+    let a = c9 .args in (
       omega arith,
-      put-next (a .out .now) (a .at) (c .before .before .before .before .before .before .loop .i) (a .bytes .now)
-          (c .before .before .before .before .before .before .loop .out) _
-          (c .before .before .before .before .before .loop-test .taken)
-          (c .before .before .before .before .before .before .loop .inv .1) (c .before .before .put-byte .ensures .1),
+      put-next (a .out .now) (a .at) (c5 .before .loop .i) (a .bytes .now) (c5 .before .loop .out) _
+          (c5 .loop-test .taken)
+          (c5 .before .loop .inv .1) (c .before .before .put-byte .ensures .1),
     )
 
 add-result : tie.Need-add-result Inv-loop μ-loop

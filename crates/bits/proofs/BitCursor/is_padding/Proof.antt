@@ -38,27 +38,26 @@ shl-result : tie.Need-shl-result
 shl-result c = search needs
 
 rem-result : tie.Need-rem-result
-rem-result c = let w : 8 * length (c .before .before .before .before .args .book .now) - c .before .before .before
-    .before .args .self .at ≤ 24 = omega arith in rw (one-shl (8 * length (c .before .before .before .before .args .book
-    .now) - c .before .before .before .before .args .self .at) w) (pow-pos (8 * length (c .before .before .before
-    .before .args .book .now) - c .before .before .before .before .args .self .at))
+rem-result c =
+    let c4 = c .before .before .before .before in
+    let w : 8 * length (c4 .args .book .now) - c4 .args .self .at ≤ 24 = omega arith in rw
+    (one-shl (8 * length (c4 .args .book .now) - c4 .args .self .at) w)
+    (pow-pos (8 * length (c4 .args .book .now) - c4 .args .self .at))
 
 returns-3 : tie.Need-returns-3
 returns-3 c =
-    let left = 8 * length (c .before .before .before .before .args .book .now) - c .before .before .before .before .args
-    .self .at in
+    let c3 = c .before .before .before in
+    let left = 8 * length (c3 .before .args .book .now) - c3 .before .args .self .at in
     let w : left ≤ 24 = omega arith in
-    let small : (i : ℕ) → getD (c .before .before .before .before .args .book .now) i 0 < 256 = λ i. omega (
+    let small : (i : ℕ) → getD (c3 .before .args .book .now) i 0 < 256 = λ i. omega (
       arith,
-      c
-          .before .before .before .shared-slice-known .given i,
+      c3 .shared-slice-known .given i,
     ) in
-    let e : c .before .before .before .before .args .self .at % 8 + left ≡ 8 = omega arith in
+    let e : c3 .before .args .self .at % 8 + left ≡ 8 = omega arith in
     rw (
       one-shl left w,
       lt-ltb left 8 (c .before .if2 .left),
-      field-last (c .before .before .before .before .args .book
-          .now) small (c .before .before .before .before .args .self .at) left e,
+      field-last (c3 .before .args .book .now) small (c3 .before .args .self .at) left e,
       c .byte-at .ensures .0,
     )
 

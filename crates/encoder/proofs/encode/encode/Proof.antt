@@ -95,18 +95,17 @@ same-length c = search needs
 
 returns-4 : tie.Need-returns-4
 returns-4 c =
-    let a = c .before .before .before .before .before .before .before .before .before .before .before .before
-    .before .before .args in
-    let x = encode-done (a .words .now) (a .bytes .now) _ (sym (c .before .before .before .before .before .before
-    .before .before .before .before .before .read-file .ensures) ∙ c .before .before .before .before .before
-    .before .before .before .before .counts .given .1)
-    (rw (c .before .before .before .before .before .before .before .packed-bits .ensures) at (c .before .before
-    .before .before .before .before .if1 .left)) (rw (c .before .before .before .before .before .before .before
-    .packed-bits .ensures) at (c .before .before .before .before .before .if2 .left)) in
-    rw (c .before .before .before .before .before .before .before .packed-bits .ensures) (
+    let c5 = c .before .before .before .before .before in
+    let c7 = c5 .before .before in
+    let c9 = c7 .before .before in
+    let c11 = c9 .before .before in
+    let c14 = c11 .before .before .before in
+    let a = c14 .args in
+    let x = encode-done (a .words .now) (a .bytes .now) _ (sym (c11 .read-file .ensures) ∙ c9 .counts .given .1)
+    (rw (c7 .packed-bits .ensures) at (c5 .before .if1 .left)) (rw (c7 .packed-bits .ensures) at (c5 .if2 .left)) in
+    rw (c7 .packed-bits .ensures) (
       x .0,
-      c .before .before
-          .write-items .ensures ∙ x .1,
+      c .before .before .write-items .ensures ∙ x .1,
     )
 
 pub encode-spec : {M : Type 1} → statement M

@@ -73,26 +73,24 @@ loop-less c = search needs
 
 loop-again : tie.Need-loop-again Inv-loop μ-loop
 loop-again c =
-    let l = c .before .before .before .before .before .before .before .before .before .before
-    .before .args .words .now in
-    let n = c .before .before .before .before .before .before .before .before .before .before .before .args .nodes in
-    let i = c .before .before .before .before .before .before .before .before .loop .i in
-    let w = c .before .before .before .before .before .before .field-width in
-    let e = ap (bitsOf (w .result)) (c .before .before .before .last-bits .ensures .0) ∙ bits-last (w .result)
-    (getD l i 0)
+    let c3 = c .before .before .before in
+    let c6 = c3 .before .before .before in
+    let c8 = c6 .before .before in
+    let c11 = c8 .before .before .before in
+    let l = c11 .args .words .now in
+    let n = c11 .args .nodes in
+    let i = c8 .loop .i in
+    let w = c6 .field-width in
+    let e = ap (bitsOf (w .result)) (c3 .last-bits .ensures .0) ∙ bits-last (w .result) (getD l i 0)
     ∙ ap (λ (k : ℕ). bitsOf k (getD l i 0)) (w .ensures .0) in (
       omega arith,
-      c .before .before .put .kept .1 .0 ∙
-          c .before .before .before .before .before .before .before .before .loop .inv .1,
+      c .before .before .put .kept .1 .0 ∙ c8 .loop .inv .1,
       c .before .before .put .ensures .0,
       rw (
         bits-more l n i,
-        field-bits l n i
-            (c .before .before .before .before .before .before .before .loop-test .taken),
+        field-bits l n i (c6 .before .loop-test .taken),
         ← e,
-      )
-          (c .before .before .put .ensures .1 _ _
-          (c .before .before .before .before .before .before .before .before .loop .inv .3)),
+      ) (c .before .before .put .ensures .1 _ _ (c8 .loop .inv .3)),
     )
 
 same-length : tie.Need-same-length Inv-loop μ-loop

@@ -51,20 +51,19 @@ shared-slice-read-write-two-2 c = search needs
 
 write-two-requires : tie.Need-write-two-requires Inv-loop μ-loop
 write-two-requires c κs =
-    let h = c .before .before .before .before .loop .inv .4 _
-    (c .before .before .before .before .before .before .before .write-fields .ensures .1) in (
-      (c .before .before .before .before .loop .inv .3, pending-lt _ _ _ _ h),
+    let c3 = c .before .before .before in
+    let c7 = c3 .before .before .before .before in
+    let c11 = c7 .before .before .before .before in
+    let h = c3 .before .loop .inv .4 _ (c7 .write-fields .ensures .1) in (
+      (c3 .before .loop .inv .3, pending-lt _ _ _ _ h),
       omega (
         arith,
         h .total,
-        room-two (c .before .before .before .before .before .before .before .before .before .before
-            .before .args .words .now)
-            (c .before .before .before .before .before .before .before .before .before .before .before .args .nodes)
-            (c .before .before .before .before .loop .i) (c .before .before .before .before .loop .inv .0)
-            (c .before .before .before .loop-test .taken),
-        c .before .before .before .before .before .before .before .before .before .before .before .pre .1,
-        c .before .before .before .before .loop .inv .2,
-        c .before .before .before .before .before .before .before .write-fields .kept .1 .1 .0,
+        room-two (c11 .args .words .now) (c11 .args .nodes) (c3 .before .loop .i) (c3 .before .loop .inv .0)
+            (c3 .loop-test .taken),
+        c11 .pre .1,
+        c3 .before .loop .inv .2,
+        c7 .write-fields .kept .1 .1 .0,
       ),
     )
 
@@ -76,34 +75,30 @@ loop-less c = search needs
 
 loop-again : tie.Need-loop-again Inv-loop μ-loop
 loop-again c =
-    let l = c .before .before .before .before .before .before .before .before .before .before .before
-    .before .before .before .args .words .now in
-    let n = c .before .before .before .before .before .before .before .before .before .before .before
-    .before .before .before .args .nodes in (
+    let c7 = c .before .before .before .before .before .before .before in
+    let c14 = c7 .before .before .before .before .before .before .before in
+    let l = c14 .args .words .now in
+    let n = c14 .args .nodes in (
       omega arith,
       omega arith,
-      c .before .before .write-two .kept .1 .1 .1 .0 ∙
-          c .before .before .before .before .before .before .before .loop .inv .2,
+      c .before .before .write-two .kept .1 .1 .1 .0 ∙ c7 .loop .inv .2,
       c .before .before .write-two .ensures .0,
-      λ old h. rw (two-more l n (c .before .before .before .before .before .before .before .loop .i)
-          (c .before .before .before .before .before .before .before .loop .inv .0))
-          (c .before .before .write-two .ensures .1 old _
-          (c .before .before .before .before .before .before .before .loop .inv .4 old h)),
+      λ old h. rw (two-more l n (c7 .loop .i) (c7 .loop .inv .0)) (c .before .before .write-two .ensures .1 old _
+          (c7 .loop .inv .4 old h)),
     )
 
 finish-requires : tie.Need-finish-requires Inv-loop μ-loop
 finish-requires c κs =
-    let h = c .before .before .before .loop .inv .4 _
-    (c .before .before .before .before .before .before .write-fields .ensures .1) in (
+    let c3 = c .before .before .before in
+    let c6 = c3 .before .before .before in
+    let c10 = c6 .before .before .before .before in
+    let h = c3 .loop .inv .4 _ (c6 .write-fields .ensures .1) in (
       omega (
         arith,
         h .total,
-        bits-le
-            (c .before .before .before .before .before .before .before .before .before .before .args .words .now)
-            (c .before .before .before .before .before .before .before .before .before .before .args .nodes)
-            (c .before .before .before .loop .i),
+        bits-le (c10 .args .words .now) (c10 .args .nodes) (c3 .loop .i),
       ),
-      c .before .before .before .loop .inv .3,
+      c3 .loop .inv .3,
       pending-lt _ _ _ _ h,
     )
 
@@ -130,41 +125,36 @@ shared-slice-read-write-node c = search needs
 
 write-node-requires : tie.Need-write-node-requires Inv-loop μ-loop
 write-node-requires c κs =
-    let h = c .before .before .before .before .loop .inv .4 _
-    (c .before .before .before .before .before .before .before .write-fields .ensures .1) in (
-      (c .before .before .before .before .loop .inv .3, pending-lt _ _ _ _ h),
+    let c4 = c .before .before .before .before in
+    let c7 = c4 .before .before .before in
+    let c11 = c7 .before .before .before .before in
+    let h = c4 .loop .inv .4 _ (c7 .write-fields .ensures .1) in (
+      (c4 .loop .inv .3, pending-lt _ _ _ _ h),
       omega (
         arith,
         h .total,
-        room-one (c .before .before .before .before .before .before .before .before .before .before
-            .before .args .words .now)
-            (c .before .before .before .before .before .before .before .before .before .before .before .args .nodes)
-            (c .before .before .before .before .loop .i) (c .before .before .before
-            .before .loop .inv .0) (omega arith),
-        c .before .before .before .before .before .before .before .before .before .before .before .pre .1,
-        c .before .before .before .before .loop .inv .2,
-        c .before .before .before .before .before .before .before .write-fields .kept .1 .1 .0,
+        room-one (c11 .args .words .now) (c11 .args .nodes) (c4 .loop .i) (c4 .loop .inv .0) (omega arith),
+        c11 .pre .1,
+        c4 .loop .inv .2,
+        c7 .write-fields .kept .1 .1 .0,
       ),
     )
 
 finish-requires-2 : tie.Need-finish-requires-2 Inv-loop μ-loop
 finish-requires-2 c κs =
-    let h = c .before .before .before .write-node .ensures .1 _ _
-    (c .before .before .before .before .before .before .before .before .loop .inv .4 _
-    (c .before .before .before .before .before .before .before .before .before .before
-    .before .write-fields .ensures .1)) in
-    let a = c .before .before .before .before .before .before .before .before .before .before .before
-    .before .before .before .before .args in (
+    let c3 = c .before .before .before in
+    let c8 = c3 .before .before .before .before .before in
+    let c11 = c8 .before .before .before in
+    let c15 = c11 .before .before .before .before in
+    let h = c3 .write-node .ensures .1 _ _ (c8 .loop .inv .4 _ (c11 .write-fields .ensures .1)) in
+    let a = c15 .args in (
       omega (
         arith,
         h .total,
-        ap length (node-more (a .words .now) (a .nodes)
-            (c .before .before .before .before .before .before .before .before .loop .i)
-            (c .before .before .before .before .before .before .before .before .loop .inv .0)),
-        bits-le (a .words .now) (a .nodes)
-            (c .before .before .before .before .before .before .before .before .loop .i + 1),
+        ap length (node-more (a .words .now) (a .nodes) (c8 .loop .i) (c8 .loop .inv .0)),
+        bits-le (a .words .now) (a .nodes) (c8 .loop .i + 1),
       ),
-      c .before .before .before .write-node .ensures .0,
+      c3 .write-node .ensures .0,
       pending-lt _ _ _ _ h,
     )
 
@@ -178,19 +168,20 @@ same-length-2 c =
 
 returns-2 : tie.Need-returns-2 Inv-loop μ-loop
 returns-2 c =
-    let a = c .before .before .before .before .before .before .before .before .before .before .before
-    .before .before .before .before .before .before .before .args in
-    let e : c .before .before .before .before .before .before .before .before .before .before .before .loop .i + 1 ≡
-    length (a .words .now) = omega arith in
+    let c6 = c .before .before .before .before .before .before in
+    let c11 = c6 .before .before .before .before .before in
+    let c14 = c11 .before .before .before in
+    let c18 = c14 .before .before .before .before in
+    let a = c18 .args in
+    let e : c11 .loop .i + 1 ≡ length (a .words .now) = omega arith in
     c .before .before .finish2 .ensures _ _
-    (c .before .before .before .before .before .before .write-node .ensures .1 _ _
-    (c .before .before .before .before .before .before .before .before .before .before .before .loop .inv .4 _
-    (c .before .before .before .before .before .before .before .before .before .before .before .before
-    .before .before .write-fields .ensures .1)))
+    (c6 .write-node .ensures .1 _ _
+    (c11 .loop .inv .4 _
+    (c14 .write-fields .ensures .1)))
     ∙ ap (λ (bits : List ℕ). sets (a .bytes .now) 0 (bytesOf bits))
     (sym (node-more (a .words .now) (a .nodes)
-    (c .before .before .before .before .before .before .before .before .before .before .before .loop .i)
-    (c .before .before .before .before .before .before .before .before .before .before .before .loop .inv .0))
+    (c11 .loop .i)
+    (c11 .loop .inv .0))
     ∙ ap (bitsTo (a .words .now) (a .nodes)) e)
 
 pub write-items-spec : {M : Type 1} → statement M

@@ -41,12 +41,12 @@ same-length c = search needs
 
 returns : tie.Need-returns
 returns c =
-    let v = c .before .before .before .before .before .node-value in
-    let w = c .before .before .before .node-value2 in
-    let e = ap (λ (k : ℕ). bitsOf k (v .result))
-    (c .before .before .before .before .before .before .node-width .ensures .0) ∙ v .ensures .0 in
-    let f = ap (λ (k : ℕ). bitsOf k (w .result)) (c .before .before .before .before .node-width2 .ensures .0) ∙
-    w .ensures .0 in
+    let c3 = c .before .before .before in
+    let c5 = c3 .before .before in
+    let v = c5 .node-value in
+    let w = c3 .node-value2 in
+    let e = ap (λ (k : ℕ). bitsOf k (v .result)) (c5 .before .node-width .ensures .0) ∙ v .ensures .0 in
+    let f = ap (λ (k : ℕ). bitsOf k (w .result)) (c3 .before .node-width2 .ensures .0) ∙ w .ensures .0 in
     (c .before .before .put-two .ensures .0, rw (e, f) at (c .before .before .put-two .ensures .1))
 
 pub write-two-spec : {M : Type 1} → statement M

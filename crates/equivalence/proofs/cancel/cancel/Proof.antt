@@ -25,11 +25,11 @@ wide-byte-requires c κs = search needs
 
 partner-requires : tie.Need-partner-requires Inv-loop μ-loop
 partner-requires c κs =
-    let g = c .before .before .before .before .loop .inv in (
-      c .before .before .before .before .before .pre .0,
+    let c4 = c .before .before .before .before in
+    let g = c4 .loop .inv in (
+      c4 .before .pre .0,
       (
-        rw (c .before .wide-byte .ensures .0) (g .left .inside (c .before .before .before .before .loop .k)
-            (omega arith)),
+        rw (c .before .wide-byte .ensures .0) (g .left .inside (c4 .loop .k) (omega arith)),
         g .right,
       ),
     )

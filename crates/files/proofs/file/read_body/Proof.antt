@@ -57,18 +57,19 @@ arities-requires c κs =
 
 read-rules-requires : tie.Need-read-rules-requires
 read-rules-requires c κs =
-    let a = c .before .before .before .before .before .before .before .before .args in
-    let s = c .before .before .before .before .before .before .read-symbols in
-    let b = nodes-begin (a .words .now) (a .symbols) (a .w0) (a .rules) (s .result) (s .ensures)
-    (c .before .before .before .before .before .before .before .before .pre) _
-    (c .before .before .before .before .next .given .1) in (
+    let c4 = c .before .before .before .before in
+    let c6 = c4 .before .before in
+    let c8 = c6 .before .before in
+    let a = c8 .args in
+    let s = c6 .read-symbols in
+    let b = nodes-begin (a .words .now) (a .symbols) (a .w0) (a .rules) (s .result) (s .ensures) (c8 .pre) _
+    (c4 .next .given .1) in (
       (
-        omega (arith, b .0, c .before .before .before .before .before .before .before .before .pre .fewSymbols),
-        omega (arith, c .before .before .before .before .before .before .before .before .pre .fewRules),
+        omega (arith, b .0, c8 .pre .fewSymbols),
+        omega (arith, c8 .pre .fewRules),
       ),
-      part-known (a .words .now) (a .symbols) (a .w0) (a .rules) (s .result) (s .ensures)
-          (c .before .before .before .before .before .before .before .before .pre) _
-          (c .before .before .before .before .next .given .1)
+      part-known (a .words .now) (a .symbols) (a .w0) (a .rules) (s .result) (s .ensures) (c8 .pre) _
+          (c4 .next .given .1)
           (c .before .arities .result) (c .before .arities .ensures),
     )
 

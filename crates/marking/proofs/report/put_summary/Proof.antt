@@ -25,17 +25,18 @@ same-length c = search needs
 
 returns : tie.Need-returns
 returns c =
+    let c5 = c .before .before .before .before .before in
+    let c8 = c5 .before .before .before in
+    let c13 = c8 .before .before .before .before .before in
     let a =
-    c .before .before .before .before .before .before .before .before .before .before .before .before .before .args
+    c13 .args
     in
-    let n = c .before .before .before .before .before .before .before .before .put-count .ensures in (
-      put-verdict (a .out .now) (a .at) (a .rules) (a .decreasing)
-          (c .before .before .before .before .before .before .before .before .before .score .result) _ _ _ _ "accepted"
-          (c .before .before .before .before .before .before .before .before .before .score .ensures .0)
-          (rw (eq-eqb (a .decreasing) (a .rules) (c .before .before .before .before .before .if1 .taken)))
+    let n = c8 .put-count .ensures in (
+      put-verdict (a .out .now) (a .at) (a .rules) (a .decreasing) (c8 .before .score .result) _ _ _ _ "accepted"
+          (c8 .before .score .ensures .0)
+          (rw (eq-eqb (a .decreasing) (a .rules) (c5 .if1 .taken)))
           (n .0, n .1 .0) (c .before .before .put-bytes .ensures),
-      omega
-          (arith, n .1 .1, c .before .before .put-bytes .ensures .0),
+      omega (arith, n .1 .1, c .before .before .put-bytes .ensures .0),
     )
 
 slice-aggregate-put-bytes-2 : tie.Need-slice-aggregate-put-bytes-2
@@ -49,17 +50,18 @@ same-length-2 c = search needs
 
 returns-2 : tie.Need-returns-2
 returns-2 c =
+    let c5 = c .before .before .before .before .before in
+    let c8 = c5 .before .before .before in
+    let c13 = c8 .before .before .before .before .before in
     let a =
-    c .before .before .before .before .before .before .before .before .before .before .before .before .before .args
+    c13 .args
     in
-    let n = c .before .before .before .before .before .before .before .before .put-count .ensures in (
-      put-verdict (a .out .now) (a .at) (a .rules) (a .decreasing)
-          (c .before .before .before .before .before .before .before .before .before .score .result) _ _ _ _ "returned"
-          (c .before .before .before .before .before .before .before .before .before .score .ensures .0)
-          (rw (ne-eqb (a .decreasing) (a .rules) (c .before .before .before .before .before .if1 .left)))
+    let n = c8 .put-count .ensures in (
+      put-verdict (a .out .now) (a .at) (a .rules) (a .decreasing) (c8 .before .score .result) _ _ _ _ "returned"
+          (c8 .before .score .ensures .0)
+          (rw (ne-eqb (a .decreasing) (a .rules) (c5 .if1 .left)))
           (n .0, n .1 .0) (c .before .before .put-bytes2 .ensures),
-      omega
-          (arith, n .1 .1, c .before .before .put-bytes2 .ensures .0),
+      omega (arith, n .1 .1, c .before .before .put-bytes2 .ensures .0),
     )
 
 pub put-summary-spec : {M : Type 1} → statement M

@@ -23,23 +23,23 @@ returns c =
 
 returns-2 : tie.Need-returns-2
 returns-2 c =
-    let p = c .before .before .before .before .before .before .before .before .before .before .before in
-    let a = p .args in
-    let (S, (A, B, N)) = p .pre in
+    let c6 = c .before .before .before .before .before .before in
+    let c11 = c6 .before .before .before .before .before in
+    let a = c11 .args in
+    let (S, (A, B, N)) = c11 .pre in
     let σ = signatureOf (a .table .now) in
-    let none = sym (c .before .before .before .before .before .before .if1 .taken) ∙
-    c .before .before .before .before .before .before .before .within .ensures ∙ within-none S A B in
+    let none = sym (c6 .if1 .taken) ∙ c6 .before .within .ensures ∙ within-none S A B in
     whole-eight σ (termOf σ (a .s .now)) (termOf σ (a .t .now)) none (left-weight S A B) (right-weight S A B)
     (c .if3 .taken)
 
 mark-level-requires : tie.Need-mark-level-requires
 mark-level-requires c κs =
-    let p = c .before .before .before .before .before .before .before .before .before .before .before in
-    let (S, (A, B, N)) = p .pre in (
+    let c6 = c .before .before .before .before .before .before in
+    let c11 = c6 .before .before .before .before .before in
+    let (S, (A, B, N)) = c11 .pre in (
       S,
       (
-        sym (c .before .before .before .before .before .before .if1 .taken) ∙
-            c .before .before .before .before .before .before .before .within .ensures ∙ within-none S A B,
+        sym (c6 .if1 .taken) ∙ c6 .before .within .ensures ∙ within-none S A B,
         omega (arith, left-weight S A B, right-weight S A B),
         N,
       ),

@@ -24,7 +24,8 @@ returns c =
     let σ = signatureOf table in
     let count : (length table + 2) / 4 ≡ length (σ .symbols) = sym (symbol-count table) in
     let put = c .before .before .put-weights in
-    node-sums σ (put .last .1 .0) (c .put-variables .last .1 .0) (few-at table (c5 .pre)) (rw count at (put .ensures .0))
+    node-sums σ (put .last .1 .0) (c .put-variables .last .1 .0) (few-at table (c5 .pre))
+    (rw count at (put .ensures .0))
     (c .put-variables .ensures .0)
 
 pub node-sums-spec : {M : Type 1} → statement M

@@ -33,13 +33,13 @@ mul-result-4 c = search needs
 
 element-copy-out-result-2 : tie.Need-element-copy-out-result-2
 element-copy-out-result-2 c =
+    let c4 = c .before .before .before .before in
     omega (
       arith,
-      part-fits (c .before .before .before .before .pre .0) (c .before .before .before .before .args .i)
-          (c .before .before .before .before .pre .1 .1 .1),
+      part-fits (c4 .pre .0) (c4 .args .i) (c4 .pre .1 .1 .1),
       c .before .size-at .ensures .0,
-      c .before .before .before .before .pre .1 .0 .room,
-      c .before .before .before .before .pre .0 .short,
+      c4 .pre .1 .0 .room,
+      c4 .pre .0 .short,
     )
 
 sub-result : tie.Need-sub-result

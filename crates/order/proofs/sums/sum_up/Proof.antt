@@ -23,17 +23,17 @@ put-sums-requires c κs = search needs
 
 loop-holds : tie.Need-loop-holds Inv-loop μ-loop
 loop-holds c =
-    let a = c .before .before .before .before .args in
+    let c4 = c .before .before .before .before in
+    let a = c4 .args in
     let σ = signatureOf (a .table .now) in
     let T = totalled-none σ (a .words .now) in
     let n = length (a .words .now) in (
       omega arith,
-      rw (c .put-sums .ensures) (stored-room (a .sums .now) n _ (omega arith)
-          (c .before .before .before .before .pre .1)),
+      rw (c .put-sums .ensures) (stored-room (a .sums .now) n _ (omega arith) (c4 .pre .1)),
       T,
       record { weight = omega arith; low = omega arith; high = omega arith },
       rw (c .put-sums .ensures) (stored-from (a .sums .now) n _ (omega arith)
-          (c .before .before .before .before .pre .1) σ (a .words .now) (c .before .before .before .before .pre .0) T
+          (c4 .pre .1) σ (a .words .now) (c4 .pre .0) T
           λ kind l k p q. absurd (omega arith)),
     )
 

@@ -102,23 +102,22 @@ same-length-3 c = search needs
 
 returns-2 : tie.Need-returns-2
 returns-2 c =
-    let a = c .before .before .before .before .before .before .before .before .before .before .args in
+    let c4 = c .before .before .before .before in
+    let c10 = c4 .before .before .before .before .before .before in
+    let a = c10 .args in
     let v = c .before .before .arity .given .0 in
     let earlier = symbolsAt (a .table .now) 0 (a .number) in
-    let e = sym (c .before .before .before .before .read-symbol .ensures .0 earlier (c .before .before .before .before
-    .before .before .before .before .before .before .pre .3)) ∙ ap entryReading (c .before .before .arity .given .1) in
-    let small : v .1 .1 .1 .0 < 256 = rw (c .before .before .arity .given .1) at (c .before .before .before .before
-    .read-symbol .ensures .1) in
+    let e = sym (c4 .read-symbol .ensures .0 earlier (c10 .pre .3)) ∙ ap entryReading
+    (c .before .before .arity .given .1) in
+    let small : v .1 .1 .1 .0 < 256 = rw (c .before .before .arity .given .1) at (c4 .read-symbol .ensures .1) in
     let room : 4 * a .number + 4 < length (a .table .now) = omega arith in
     let all = symbols-put (a .table .now) (a .number) (v .0) (v .1 .0) (v .1 .1 .0) (v .1 .1 .1 .0) room in (
       (λ n. symbol-past (bitSource (a .book .now)) _ n earlier (a .cursor .at) _ _ e ∙
-          ap (λ (ss : List Symbol). symbolsReader (bitSource (a .book .now)) (getD (a .table .now) 0 0) n ss (v .1 .1 .1
-          .1 .0 .at)) (sym all)),
+          ap (λ (ss : List Symbol). symbolsReader (bitSource (a .book .now)) (getD (a .table .now) 0 0) n ss
+          (v .1 .1 .1 .1 .0 .at)) (sym all)),
       (
         getD-put-before (a .table .now) (a .number) (v .0) (v .1 .0) (v .1 .1 .0) (v .1 .1 .1 .0) 0 (omega arith),
-        rw (all, c .wide .ensures .0) (taken-put earlier _ (a .taken .now) (c .before .before .before .before .before
-            .before .before .before .before .before .pre .2) small (c .before .before .before .before .before .before
-            .before .before .before .before .pre .3)),
+        rw (all, c .wide .ensures .0) (taken-put earlier _ (a .taken .now) (c10 .pre .2) small (c10 .pre .3)),
       ),
     )
 

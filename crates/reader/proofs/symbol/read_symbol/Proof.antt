@@ -126,133 +126,111 @@ enum-told-4 c = search needs
 
 returns-6 : tie.Need-returns-6
 unfolding symbolReader
-returns-6 c = (
-  (λ earlier h.
-      rw (
-        sym (c .before .before .before .before .before .before .before .before .before .before .before .before .before
-            .before .before .before .before .before .field .ensures) ∙ ap (fieldReading _) (c .before .before .before
-            .before .before .before .before .before .before .before .before .before .before .before .before
-            .before .arity
-            .given .1),
-        sym (c .before .before .before .before .before .before .before .before .before .before .before .before .before
-            .before .field2 .ensures) ∙ ap (fieldReading _) (c .before .before .before .before .before .before .before
-            .before .before .before .before .before .ac .given .1),
-        sym (c .before .before .before .before .before .before .before .before .before .before .binary-if-ac .ensures) ∙
-            not-false _ (c .before .before .before .before .before .before .before .before .before .if1 .left),
-        sym (c .before .before .before .before .before .before .before .before .field3 .ensures) ∙ ap (fieldReading _)
-            (c .before .before .before .before .before .before .weight .given .1),
-        le-leb _ _ (rw (c .before .before .before .before .least-weight .ensures) at (c .before .before .before .if2
-            .left)),
-        sym (c .before .before .field4 .ensures) ∙ ap (fieldReading _) (c .enum-told4 .given .1),
-      )),
-  tt,
-)
+returns-6 c =
+    let c3 = c .before .before .before in
+    let c6 = c3 .before .before .before in
+    let c8 = c6 .before .before in
+    let c10 = c8 .before .before in
+    let c12 = c10 .before .before in
+    let c14 = c12 .before .before in
+    let c16 = c14 .before .before in
+    let c18 = c16 .before .before in (
+      (λ earlier h.
+          rw (
+            sym (c18 .field .ensures) ∙ ap (fieldReading _) (c16 .arity .given .1),
+            sym (c14 .field2 .ensures) ∙ ap (fieldReading _) (c12 .ac .given .1),
+            sym (c10 .binary-if-ac .ensures) ∙ not-false _ (c8 .before .if1 .left),
+            sym (c8 .field3 .ensures) ∙ ap (fieldReading _) (c6 .weight .given .1),
+            le-leb _ _ (rw (c3 .before .least-weight .ensures) at (c3 .if2 .left)),
+            sym (c .before .before .field4 .ensures) ∙ ap (fieldReading _) (c .enum-told4 .given .1),
+          )),
+      tt,
+    )
 
 wide-requires : tie.Need-wide-requires
 wide-requires c κs = search needs
 
 shared-slice-read-if3 : tie.Need-shared-slice-read-if3
 unfolding symbolReader
-shared-slice-read-if3 c = omega (
-  arith,
-  c .before .before .before .before .before .before .before .before .before
-      .before .before .before .before .before .before .before .before .before .before .before .before .before .before
-      .before .pre .1,
-  c .before .wide .ensures .0,
-  field-lt (c .before .before .before .before .before .before .before
-      .before .before .before .before .before .before .before .before .before .before .before .before .before .before
-      .before .before .before .args .book .now) 8 _ _ _ (sym (c .before .before .before .before .before .field4
-      .ensures)
-      ∙ ap (fieldReading _) (c .before .before .before .rank .given .1)),
-)
+shared-slice-read-if3 c =
+    let c3 = c .before .before .before in
+    let c5 = c3 .before .before in
+    let c15 = c5 .before .before .before .before .before .before .before .before .before .before in
+    let c24 = c15 .before .before .before .before .before .before .before .before .before in
+    omega (
+      arith,
+      c24 .pre .1,
+      c .before .wide .ensures .0,
+      field-lt (c24 .args .book .now) 8 _ _ _ (sym (c5 .field4 .ensures)
+          ∙ ap (fieldReading _) (c3 .rank .given .1)),
+    )
 
 returns-7 : tie.Need-returns-7
 unfolding symbolReader
-returns-7 c = (
-  (λ earlier h.
-      let t : getD (c .before .before .before .before .before .before .before .before .before .before .before .before
-      .before .before .before .before .before .before .before .before .before .before .before .before .before .args
-      .taken .now) (c .before .before .wide .result) false ≡ true = c .if3 .taken in
-      rw (
-        sym (c .before .before .before .before .before .before .before .before .before .before .before .before .before
-            .before .before .before .before .before .before .before .before .before .field .ensures) ∙ ap
-            (fieldReading _)
-            (c .before .before .before .before .before .before .before .before .before .before .before .before .before
-            .before .before .before .before .before .before .before .arity .given .1),
-        sym (c .before .before .before .before .before .before .before .before .before .before .before .before .before
-            .before .before .before .before .before .field2 .ensures) ∙ ap (fieldReading _) (c .before .before .before
-            .before .before .before .before .before .before .before .before .before .before .before .before .before .ac
-            .given .1),
-        sym (c .before .before .before .before .before .before .before .before .before .before .before .before .before
-            .before .binary-if-ac .ensures) ∙ not-false _ (c .before .before .before .before .before .before
-            .before .before
-            .before .before .before .before .before .if1 .left),
-        sym (c .before .before .before .before .before .before .before .before .before .before .before .before .field3
-            .ensures) ∙ ap (fieldReading _) (c .before .before .before .before .before .before .before .before .before
-            .before .weight .given .1),
-        le-leb _ _ (rw (c .before .before .before .before .before .before .before .before .least-weight .ensures) at (c
-            .before .before .before .before .before .before .before .if2 .left)),
-        sym (c .before .before .before .before .before .before .field4 .ensures) ∙ ap (fieldReading _) (c .before
-            .before .before .before .rank .given .1),
-        sym (h (c .before .before .before .before .rank .given .0 .0) (omega (
-          arith,
-          field-lt (c .before .before .before
-              .before .before .before .before .before .before .before .before .before .before .before .before
-              .before .before
-              .before .before .before .before .before .before .before .before .args .book .now) 8 _ _ _ (sym (c .before
-              .before .before .before .before .before .field4 .ensures) ∙ ap (fieldReading _) (c .before .before .before
-              .before .rank .given .1)),
-        ))) ∙ rw (c .before .before .wide .ensures .0) at t,
-      )),
-  tt,
-)
+returns-7 c =
+    let c4 = c .before .before .before .before in
+    let c6 = c4 .before .before in
+    let c8 = c6 .before .before in
+    let c10 = c8 .before .before in
+    let c12 = c10 .before .before in
+    let c14 = c12 .before .before in
+    let c16 = c14 .before .before in
+    let c18 = c16 .before .before in
+    let c20 = c18 .before .before in
+    let c22 = c20 .before .before in
+    let c25 = c22 .before .before .before in (
+      (λ earlier h.
+          let t : getD (c25 .args .taken .now) (c .before .before .wide .result) false ≡ true = c .if3 .taken in
+          rw (
+            sym (c22 .field .ensures) ∙ ap (fieldReading _) (c20 .arity .given .1),
+            sym (c18 .field2 .ensures) ∙ ap (fieldReading _) (c16 .ac .given .1),
+            sym (c14 .binary-if-ac .ensures) ∙ not-false _ (c12 .before .if1 .left),
+            sym (c12 .field3 .ensures) ∙ ap (fieldReading _) (c10 .weight .given .1),
+            le-leb _ _ (rw (c8 .least-weight .ensures) at (c6 .before .if2 .left)),
+            sym (c6 .field4 .ensures) ∙ ap (fieldReading _) (c4 .rank .given .1),
+            sym (h (c4 .rank .given .0 .0) (omega (
+              arith,
+              field-lt (c25 .args .book .now) 8 _ _ _
+                  (sym (c6 .field4 .ensures) ∙ ap (fieldReading _) (c4 .rank .given .1)),
+            ))) ∙ rw (c .before .before .wide .ensures .0) at t,
+          )),
+      tt,
+    )
 
 returns-8 : tie.Need-returns-8
 unfolding symbolReader
-returns-8 c = (
-  (λ earlier h.
-      let t : getD (c .before .before .before .before .before .before .before .before .before .before .before .before
-      .before .before .before .before .before .before .before .before .before .before .before .before .before .args
-      .taken .now) (c .before .before .wide .result) false ≡ false = c .if3 .left in
-      rw (
-        sym (c .before .before .before .before .before .before .before .before .before .before .before .before .before
-            .before .before .before .before .before .before .before .before .before .field .ensures) ∙ ap
-            (fieldReading _)
-            (c .before .before .before .before .before .before .before .before .before .before .before .before .before
-            .before .before .before .before .before .before .before .arity .given .1),
-        sym (c .before .before .before .before .before .before .before .before .before .before .before .before .before
-            .before .before .before .before .before .field2 .ensures) ∙ ap (fieldReading _) (c .before .before .before
-            .before .before .before .before .before .before .before .before .before .before .before .before .before .ac
-            .given .1),
-        sym (c .before .before .before .before .before .before .before .before .before .before .before .before .before
-            .before .binary-if-ac .ensures) ∙ not-false _ (c .before .before .before .before .before .before
-            .before .before
-            .before .before .before .before .before .if1 .left),
-        sym (c .before .before .before .before .before .before .before .before .before .before .before .before .field3
-            .ensures) ∙ ap (fieldReading _) (c .before .before .before .before .before .before .before .before .before
-            .before .weight .given .1),
-        le-leb _ _ (rw (c .before .before .before .before .before .before .before .before .least-weight .ensures) at (c
-            .before .before .before .before .before .before .before .if2 .left)),
-        sym (c .before .before .before .before .before .before .field4 .ensures) ∙ ap (fieldReading _) (c .before
-            .before .before .before .rank .given .1),
-        sym (h (c .before .before .before .before .rank .given .0 .0) (omega (
-          arith,
-          field-lt (c .before .before .before
-              .before .before .before .before .before .before .before .before .before .before .before .before
-              .before .before
-              .before .before .before .before .before .before .before .before .args .book .now) 8 _ _ _ (sym (c .before
-              .before .before .before .before .before .field4 .ensures) ∙ ap (fieldReading _) (c .before .before .before
-              .before .rank .given .1)),
-        ))) ∙ rw (c .before .before .wide .ensures .0) at t,
-      )),
-  omega (
-    arith,
-    field-lt (c .before .before .before .before .before .before .before .before .before .before .before
-        .before .before .before .before .before .before .before .before .before .before .before .before .before .before
-        .args .book .now) 8 _ _ _ (sym (c .before .before .before .before .before .before .field4 .ensures) ∙ ap
-        (fieldReading _) (c .before .before .before .before .rank .given .1)),
-  ),
-)
+returns-8 c =
+    let c4 = c .before .before .before .before in
+    let c6 = c4 .before .before in
+    let c8 = c6 .before .before in
+    let c10 = c8 .before .before in
+    let c12 = c10 .before .before in
+    let c14 = c12 .before .before in
+    let c16 = c14 .before .before in
+    let c18 = c16 .before .before in
+    let c20 = c18 .before .before in
+    let c22 = c20 .before .before in
+    let c25 = c22 .before .before .before in (
+      (λ earlier h.
+          let t : getD (c25 .args .taken .now) (c .before .before .wide .result) false ≡ false = c .if3 .left in
+          rw (
+            sym (c22 .field .ensures) ∙ ap (fieldReading _) (c20 .arity .given .1),
+            sym (c18 .field2 .ensures) ∙ ap (fieldReading _) (c16 .ac .given .1),
+            sym (c14 .binary-if-ac .ensures) ∙ not-false _ (c12 .before .if1 .left),
+            sym (c12 .field3 .ensures) ∙ ap (fieldReading _) (c10 .weight .given .1),
+            le-leb _ _ (rw (c8 .least-weight .ensures) at (c6 .before .if2 .left)),
+            sym (c6 .field4 .ensures) ∙ ap (fieldReading _) (c4 .rank .given .1),
+            sym (h (c4 .rank .given .0 .0) (omega (
+              arith,
+              field-lt (c25 .args .book .now) 8 _ _ _
+                  (sym (c6 .field4 .ensures) ∙ ap (fieldReading _) (c4 .rank .given .1)),
+            ))) ∙ rw (c .before .before .wide .ensures .0) at t,
+          )),
+      omega (
+        arith,
+        field-lt (c25 .args .book .now) 8 _ _ _ (sym (c6 .field4 .ensures) ∙ ap (fieldReading _) (c4 .rank .given .1)),
+      ),
+    )
 
 pub read-symbol-spec : {M : Type 1} → statement M
 read-symbol-spec =

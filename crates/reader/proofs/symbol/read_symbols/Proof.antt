@@ -49,28 +49,27 @@ enum-known-code c = search needs
 
 same-length : tie.Need-same-length Inv-loop μ-loop
 same-length c =
-    let v = c .before .before .before .before .before .before .before .before .before .before .loop .inv in
-    c .before .before .before .before .before .before .next-symbol .kept .1 .0 ∙ v .1 ∙ length-set (c .before .before
-    .before .before .before .before .before .before .before .before .before .before .before .args .table .now) 0 (c
-    .before .before .before .before .before .before .before .before .before .before .before .before .before .args .w0)
+    let c6 = c .before .before .before .before .before .before in
+    let c10 = c6 .before .before .before .before in
+    let c13 = c10 .before .before .before in
+    let v = c10 .loop .inv in
+    c6 .next-symbol .kept .1 .0 ∙ v .1 ∙ length-set (c13 .args .table .now) 0 (c13 .args .w0)
 
 returns : tie.Need-returns Inv-loop μ-loop
 returns c =
-    let v = c .before .before .before .before .before .before .before .before .before .before .loop .inv in
-    let number = c .before .before .before .before .before .before .before .before .before .before .loop .number in (
-      rw (c .before .code .given .1) at (symbols-onward (bitSource (c .before .before .before .before .before .before
-          .before .before .before .before .before .before .before .args .book .now)) (c .before .before .before .before
-          .before .before .before .before .before .before .before .before .before .args .w0) _ (c .before
-          .before .before
-          .before .before .before .before .before .before .before .before .before .before .args .count) number
+    let c6 = c .before .before .before .before .before .before in
+    let c10 = c6 .before .before .before .before in
+    let c13 = c10 .before .before .before in
+    let v = c10 .loop .inv in
+    let number = c10 .loop .number in (
+      rw (c .before .code .given .1) at
+          (symbols-onward (bitSource (c13 .args .book .now)) (c13 .args .w0) _ (c13 .args .count) number
           (omega arith)
           (v .3) _
-          (symbolsAt (c .before .before .before .before .before .before .before .before .before .before .loop .table) 0
-          number) (symbolsAt (c .before .before .before .before .before .before .next-symbol .last .1 .0) 0 (number +
-          1)) (c .before .before .before .before .before .before .before .before .before .before .loop .here .at) (c
-          .before .before .before .before .before .before .next-symbol .result) (v .5) (c .before .before .before
-          .before .before .before .next-symbol .ensures .0)),
-      c .before .before .before .before .before .before .next-symbol .ensures .1 .0 ∙ v .3,
+          (symbolsAt (c10 .loop .table) 0
+          number) (symbolsAt (c6 .next-symbol .last .1 .0) 0 (number +
+          1)) (c10 .loop .here .at) (c6 .next-symbol .result) (v .5) (c6 .next-symbol .ensures .0)),
+      c6 .next-symbol .ensures .1 .0 ∙ v .3,
     )
 
 enum-known-next : tie.Need-enum-known-next Inv-loop μ-loop
@@ -84,31 +83,25 @@ loop-less c = search needs
 
 loop-again : tie.Need-loop-again Inv-loop μ-loop
 loop-again c =
-    let v = c .before .before .before .before .before .before .before .before .before .before .loop .inv in
-    let number = c .before .before .before .before .before .before .before .before .before .before .loop .number in
-    let n : length (c .before .before .before .before .before .before .next-symbol .last .1 .0) ≡ length (c .before
-    .before .before .before .before .before .before .before .before .before .loop .table) = c .before .before .before
-    .before .before .before .next-symbol .kept .1 .0 in
-    let m : length (c .before .before .before .before .before .before .next-symbol .last .1 .1 .0) ≡ length (c .before
-    .before .before .before .before .before .before .before .before .before .loop .taken) = c .before .before .before
-    .before .before .before .next-symbol .kept .1 .1 .0 in (
+    let c6 = c .before .before .before .before .before .before in
+    let c10 = c6 .before .before .before .before in
+    let c13 = c10 .before .before .before in
+    let v = c10 .loop .inv in
+    let number = c10 .loop .number in
+    let n : length (c6 .next-symbol .last .1 .0) ≡ length (c10 .loop .table) = c6 .next-symbol .kept .1 .0 in
+    let m : length (c6 .next-symbol .last .1 .1 .0) ≡ length (c10 .loop .taken) = c6 .next-symbol .kept .1 .1 .0 in (
       omega arith,
       n ∙ v .1,
       m ∙ v .2,
-      c .before .before .before .before .before .before .next-symbol .ensures .1 .0 ∙ v .3,
-      rw (c .before .next .given .1) at (c .before .before .before .before .before .before .next-symbol .ensures .1 .1),
-      rw (c .before .next .given .1) at (symbols-onward (bitSource (c .before .before .before .before .before .before
-          .before .before .before .before .before .before .before .args .book .now)) (c .before .before .before .before
-          .before .before .before .before .before .before .before .before .before .args .w0) _ (c .before
-          .before .before
-          .before .before .before .before .before .before .before .before .before .before .args .count) number
+      c6 .next-symbol .ensures .1 .0 ∙ v .3,
+      rw (c .before .next .given .1) at (c6 .next-symbol .ensures .1 .1),
+      rw (c .before .next .given .1) at
+          (symbols-onward (bitSource (c13 .args .book .now)) (c13 .args .w0) _ (c13 .args .count) number
           (omega arith)
           (v .3) _
-          (symbolsAt (c .before .before .before .before .before .before .before .before .before .before .loop .table) 0
-          number) (symbolsAt (c .before .before .before .before .before .before .next-symbol .last .1 .0) 0 (number +
-          1)) (c .before .before .before .before .before .before .before .before .before .before .loop .here .at) (c
-          .before .before .before .before .before .before .next-symbol .result) (v .5) (c .before .before .before
-          .before .before .before .next-symbol .ensures .0)),
+          (symbolsAt (c10 .loop .table) 0
+          number) (symbolsAt (c6 .next-symbol .last .1 .0) 0 (number +
+          1)) (c10 .loop .here .at) (c6 .next-symbol .result) (v .5) (c6 .next-symbol .ensures .0)),
     )
 
 same-length-2 : tie.Need-same-length-2 Inv-loop μ-loop
@@ -119,13 +112,13 @@ same-length-2 c =
 
 returns-2 : tie.Need-returns-2 Inv-loop μ-loop
 returns-2 c =
+    let c4 = c .before .before .before .before in
     let v = c .before .loop .inv in
     let number = c .before .loop .number in
-    let e : number ≡ c .before .before .before .before .args .count = omega arith in
-    let z : c .before .before .before .before .args .count - number ≡ 0 = omega arith in (
-      v .5 ∙ symbols-done (bitSource (c .before .before .before .before .args .book .now)) (c .before .before .before
-          .before .args .w0) (c .before .before .before .before .args .count - number) (symbolsAt (c .before
-          .loop .table) 0
+    let e : number ≡ c4 .args .count = omega arith in
+    let z : c4 .args .count - number ≡ 0 = omega arith in (
+      v .5 ∙ symbols-done (bitSource (c4 .args .book .now)) (c4 .args .w0) (c4 .args .count - number)
+          (symbolsAt (c .before .loop .table) 0
           number) (c .before .loop .here .at) z ∙
           ap (λ (n : ℕ). got (symbolsAt (c .before .loop .table) 0 n) (c .before .loop .here .at)) e,
       v .3,

@@ -28,18 +28,18 @@ store-requires-3 c κs =
 
 pad-requires : tie.Need-pad-requires
 pad-requires c κs =
-    let s = c .before .before .before .before .before .before .before .before .before .before .before .before
-    .before .before .args .self in
-    let f = shifted-facts s 24 (omega arith) (omega arith) (c .before .before .before .before .before .before
-    .before .before .before .before .before .before .before .before .pre .2) in
+    let c3 = c .before .before .before in
+    let c7 = c3 .before .before .before .before in
+    let c11 = c7 .before .before .before .before in
+    let c14 = c11 .before .before .before in
+    let s = c14 .args .self in
+    let f = shifted-facts s 24 (omega arith) (omega arith) (c14 .pre .2) in
     let g = shifted-facts (shifted s) 16 (omega arith) (f .0) (f .2) in
     let k = shifted-facts (shifted (shifted s)) 8 (omega arith) (g .0) (g .2) in
     rw (
-      c .before .before .before .store3 .ensures .0,
-      c .before .before .before .before .before .before .before
-          .store2 .ensures .0,
-      c .before .before .before .before .before .before .before .before .before .before
-          .before .store .ensures .0,
+      c3 .store3 .ensures .0,
+      c7 .store2 .ensures .0,
+      c11 .store .ensures .0,
     ) (k .0, k .2)
 
 same-length : tie.Need-same-length
@@ -47,17 +47,18 @@ same-length c = search needs
 
 returns : tie.Need-returns
 returns c =
-    let s = c .before .before .before .before .before .before .before .before .before .before .before .before
-    .before .before .before .before .before .args .self in
+    let c6 = c .before .before .before .before .before .before in
+    let c10 = c6 .before .before .before .before in
+    let c14 = c10 .before .before .before .before in
+    let c17 = c14 .before .before .before in
+    let s = c17 .args .self in
     λ old bits h. c .before .before .pad .ensures old bits (rw (
-      c .before .before .before .before .before .before .store3 .ensures .0,
-      c .before .before .before .before .before .before .store3 .ensures .1,
-      c .before .before .before .before .before .before .before .before .before .before .store2 .ensures .0,
-      c .before .before .before .before .before .before .before .before .before .before .store2 .ensures .1,
-      c .before .before .before .before .before .before .before .before .before .before .before .before .before
-          .before .store .ensures .0,
-      c .before .before .before .before .before .before .before .before .before .before .before .before .before
-          .before .store .ensures .1,
+      c6 .store3 .ensures .0,
+      c6 .store3 .ensures .1,
+      c10 .store2 .ensures .0,
+      c10 .store2 .ensures .1,
+      c14 .store .ensures .0,
+      c14 .store .ensures .1,
     )
     (writes-shifted old bits (shifted (shifted s)) _ (writes-shifted old bits (shifted s) _
     (writes-shifted old bits s _ h))))

@@ -20,11 +20,11 @@ push-requires-2 c κs =
 
 store-four-requires : tie.Need-store-four-requires
 store-four-requires c κs =
-    let a = c .before .before .before .before .args in
-    let h = c .before .before .before .before .pre .1 .0 in
+    let c4 = c .before .before .before .before in
+    let a = c4 .args in
+    let h = c4 .pre .1 .0 in
     let first = pushed (a .self) (a .m) (a .u) in
-    let p = pushed-lt first (a .n) (a .v) (h .3)
-    (pushed-lt (a .self) (a .m) (a .u) (h .1) (c .before .before .before .before .pre .0 .1)) in
+    let p = pushed-lt first (a .n) (a .v) (h .3) (pushed-lt (a .self) (a .m) (a .u) (h .1) (c4 .pre .0 .1)) in
     rw (c .before .push2 .ensures, c .before .before .push .ensures) (omega arith, (omega arith, p))
 
 same-length : tie.Need-same-length

@@ -69,8 +69,8 @@ fn compare_read(table: &[u16], left: &[u16], right: &[u16]) -> Comparison
     let mut sw = [0u64; 387];
     let mut tw = [0u64; 387];
     let adds = node_sums(table);
-    let s = sum_up(table, &adds, left, &mut sw);
-    let t = sum_up(table, &adds, right, &mut tw);
+    let s = sum_up(&adds, left, &mut sw);
+    let t = sum_up(&adds, right, &mut tw);
     Comparison {
         relation: numbered(relation(table, &adds, left, s, &sw, right, t, &tw)),
         margin: margin(s, t),

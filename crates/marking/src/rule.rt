@@ -49,8 +49,8 @@ fn orient_sides(
         ⌝ }
     ensures { λ o. ⌜ (o .left < 10 ^ 19) × (o .right < 10 ^ 19) × (o .next .at ≡ next .at) ⌝ }
 {
-    let s = total(table, adds, left);
-    let t = total(table, adds, right);
+    let s = total(adds, left);
+    let t = total(adds, right);
     Oriented {
         mark: mark(table, adds, left, s, right, t),
         left: s.weight,

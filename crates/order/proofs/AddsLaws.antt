@@ -152,11 +152,13 @@ module _ (σ : Signature) where
           let i : 3 * word + kind ≡ 768 + (3 * (word - 256) + kind) = omega arith in
           let e : 256 + (word - 256) ≡ word = omega arith in
           rw i (v .0 kind (word - 256) k (omega arith) ∙ ap (nodeSum σ kind) e);
-      weight = λ word h. byOrder word 256 (λ l. first word l .1) λ l.
-          let i : 3 * word ≡ 768 + 3 * (word - 256) = omega arith in
-          rw i (v .1 (word - 256) (omega arith));
-      place = λ j h. byOrder j 768
-          (λ l. byOrder 0 (j % 3) (λ m. rw (second j l (λ e. absurd (omega arith))) (omega arith))
-          λ m. let i : j ≡ 3 * (j / 3) = omega arith in rw i (omega (arith, first (j / 3) (omega arith) .1)))
-          λ l. v .2 j (omega arith) l;
+      small = record {
+        weight = λ word h. byOrder word 256 (λ l. first word l .1) λ l.
+            let i : 3 * word ≡ 768 + 3 * (word - 256) = omega arith in
+            rw i (v .1 (word - 256) (omega arith));
+        place = λ j h. byOrder j 768
+            (λ l. byOrder 0 (j % 3) (λ m. rw (second j l (λ e. absurd (omega arith))) (omega arith))
+            λ m. let i : j ≡ 3 * (j / 3) = omega arith in rw i (omega (arith, first (j / 3) (omega arith) .1)))
+            λ l. v .2 j (omega arith) l;
+      };
     }

@@ -2,7 +2,7 @@
 --     nodes-part                  the words from an offset on are those of the part there and those after it
 --     place-below, place-at       the place value of a variable
 --     part-sum                    the sum of a part
---     weight-node, occurrence-node     what a node adds
+--     occurrence-node             what a node adds to the digits
 use mathlib.Core.List.{List, [], _∷_, _++_}
 use mathlib.Core.Path.{_≡_, refl, sym, ap, _∙_}
 use mathlib.Core.Bool.{cond}
@@ -102,13 +102,6 @@ power-shift (suc (suc (suc (suc (suc (suc (suc zero))))))) h = (refl, omega arit
 power-shift (suc (suc (suc (suc (suc (suc (suc (suc d)))))))) h = absurd (omega arith)
 
 -- ---- what a node adds
-
-pub weight-node : (table : List ℕ) (w : ℕ) →
-    getD table (cond (ltb w 256) (4 * w + 3) 0) 0 ≡ nodeSum (signatureOf table) 0 w
-unfolding signatureOf
-weight-node table w =
-    byOrder w 256 (λ h. rw (lt-ltb w 256 h) (sym (ap (λ (f : Symbol). f .weight) (symbol-at table w))))
-    λ h. rw (le-ltb w 256 h)
 
 -- The eight variables from k on have the words from 8 * e on.
 pub occurrence-node : (k e w : ℕ) → 8 * e ≡ 256 + k →

@@ -2,7 +2,7 @@
 --     totalled-none, totalled-more, bounded-more     the sums, node by node from the right
 --     stored-room, stored-from                       storing them
 use mathlib.Core.List.{List}
-use mathlib.Core.Path.{_≡_, refl, _∙_}
+use mathlib.Core.Path.{_≡_, _∙_}
 use Prim.Native.Nat.{ℕ, suc, zero, _+_, _-_, _*_, _≤_, _<_}
 use native.Mathlib.Omega.{arith}
 use native.Mathlib.Numerals.{add-one}
@@ -11,7 +11,7 @@ use lib.Seq.{drop-cons, drop-length, getD-set-same, getD-set-other}
 use Rattle.multisets.proofs.Relations.{byOrder}
 use Rattle.terms.specs.Signature.{Signature}
 use Rattle.order.specs.declared.sums.Totals.{Totals}
-use Rattle.order.specs.Sums.{nodeSum, wordSum, Bounded, Added, Totalled}
+use Rattle.order.specs.Sums.{nodeSum, wordSum, Bounded, Added, Totalled, NodeSums}
 
 pub bounded-more : {m n : ℕ} {r : Totals} → m ≤ n → Bounded m r → Bounded n r
 bounded-more h b = record {
@@ -38,13 +38,18 @@ module _ (σ : Signature) where
   pub totalled-none : (ws : List ℕ) → Totalled σ (drop (length ws) ws) (record { weight = 0; low = 0; high = 0 })
   totalled-none ws = record { weight = rw (drop-length ws); low = rw (drop-length ws); high = rw (drop-length ws) }
 
-  pub totalled-more : (ws : List ℕ) (i : ℕ) (here more : Totals) → 0 < i → i ≤ length ws →
-      Totalled σ (drop i ws) here → Added σ (getD ws (i - 1) 0) here more → Totalled σ (drop (i - 1) ws) more
-  totalled-more ws i here more p h t a = record {
-    weight = a .weight ∙ sum-more σ 0 ws i (here .weight) _ p h (t .weight) refl;
-    low = a .low ∙ sum-more σ 1 ws i (here .low) _ p h (t .low) refl;
-    high = a .high ∙ sum-more σ 2 ws i (here .high) _ p h (t .high) refl;
-  }
+  pub totalled-more : {adds : List ℕ} → NodeSums σ adds → (ws : List ℕ) (i : ℕ) (here more : Totals) → 0 < i →
+      i ≤ length ws → getD ws (i - 1) 0 < 272 → Totalled σ (drop i ws) here → Added adds (getD ws (i - 1) 0) here more →
+      Totalled σ (drop (i - 1) ws) more
+  totalled-more N ws i here more p h small t a =
+      let w = getD ws (i - 1) 0 in
+      let z : 3 * w + 0 ≡ 3 * w = omega arith in
+      let e = rw z at (N .sum 0 w (omega arith) small) in
+      record {
+        weight = a .weight ∙ sum-more σ 0 ws i (here .weight) _ p h (t .weight) e;
+        low = a .low ∙ sum-more σ 1 ws i (here .low) _ p h (t .low) (N .sum 1 w (omega arith) small);
+        high = a .high ∙ sum-more σ 2 ws i (here .high) _ p h (t .high) (N .sum 2 w (omega arith) small);
+      }
 
 -- The sums of all kinds from an offset on.
 abbrev pub AllFrom : Signature → List ℕ → List ℕ → ℕ → Type 0

@@ -1,5 +1,5 @@
 -- Whole terms: the sums over their words, and what is prepared of them.
---     whole-sum, -small, -formed, -digits      the words of one term
+--     whole-sum, -small, -formed, -digits, all-nodes     the words of one term
 --     left-some, left-formed, turned, ..       two terms, and scales-turned what is prepared of them
 --     left-weight, right-weight, totals-small, totals-margin, within-none     what their totals say
 --     whole-sides                              both sides, prepared
@@ -23,9 +23,10 @@ use Rattle.symbols.specs.Table.{signatureOf}
 use Rattle.symbols.proofs.TableLaws.{few-at}
 use Rattle.equivalence.specs.Parts.{IsTerm, Complete, partAt}
 use Rattle.equivalence.specs.Keys.{Prepared, Sides}
+use Rattle.equivalence.proofs.StepLaws.{node-range}
 use Rattle.equivalence.proofs.FormedLaws.{term-some, term-complete}
 use Rattle.order.specs.Sums.{nodes, atVariable, atSymbol, wordSum, termSum, digitsWithin, SmallTotals}
-use Rattle.order.specs.Sums.{totalsWithin, Totalled}
+use Rattle.order.specs.Sums.{totalsWithin, AllNodes, Totalled}
 use Rattle.order.specs.declared.sums.Totals.{Totals}
 use Rattle.order.specs.Compared.{Whole, Scales, weightAt, noneOftenerAt}
 use Rattle.order.proofs.OccurrenceLaws.{packed-small, none-oftener-of, oftener-low, oftener-high}
@@ -67,6 +68,9 @@ whole-digits σ few ws f h R =
     let small = packed-small (termOf σ ws) (omega (arith, whole-small σ few ws f)) in
     (rw (R .low ∙ whole-sum σ few 1 ws f) (small 8 0), rw (R .high ∙ whole-sum σ few 2 ws f) (small 8 8))
 
+pub all-nodes : (table ws : List ℕ) → length table ≤ 1025 → Complete (signatureOf table) ws → AllNodes ws
+all-nodes table ws small c k h = node-range (signatureOf table) ws c k h (few-at table small)
+
 -- ---- two terms
 
 module _ {table s t : List ℕ} (S : Whole table s t) where
@@ -84,6 +88,12 @@ module _ {table s t : List ℕ} (S : Whole table s t) where
 
   pub right-complete : Complete (signatureOf table) t
   right-complete = term-complete (signatureOf table) few t (S .right)
+
+  pub left-nodes : AllNodes s
+  left-nodes = all-nodes table s (S .small) left-complete
+
+  pub right-nodes : AllNodes t
+  right-nodes = all-nodes table t (S .small) right-complete
 
   pub left-formed : WellFormed (signatureOf table) (termOf (signatureOf table) s)
   left-formed = whole-formed (signatureOf table) few s (S .left)

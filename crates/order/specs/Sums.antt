@@ -47,6 +47,21 @@ pub record Bounded (n : ℕ) (r : Totals) : Type 0 where
   pub low : r .low ≤ 72057594037927936 * n
   pub high : r .high ≤ 72057594037927936 * n
 
+-- Each word is a node's.
+abbrev pub AllNodes : List ℕ → Type 0
+AllNodes ws = (k : ℕ) → k < length ws → getD ws k 0 < 272
+
+-- What is stored for the node words, three numbers for each, is small.
+pub record SmallSums (adds : List ℕ) : Type 0 where
+  pub weight : (word : ℕ) → word < 272 → getD adds (3 * word) 0 < 65536
+  pub place : (j : ℕ) → j < 816 → getD adds j 0 ≤ 72057594037927936
+
+-- The sums with what is stored for one more word.
+pub record Added (adds : List ℕ) (word : ℕ) (after r : Totals) : Type 0 where
+  pub weight : r .weight ≡ after .weight + getD adds (3 * word) 0
+  pub low : r .low ≡ after .low + getD adds (3 * word + 1) 0
+  pub high : r .high ≡ after .high + getD adds (3 * word + 2) 0
+
 module _ (σ : Signature) where
   -- What is summed up: weights, the occurrences of the variables 0 to 7, those of the variables 8 to 15.
   abbrev pub atVariable : ℕ → ℕ → ℕ
@@ -63,12 +78,6 @@ module _ (σ : Signature) where
 
   abbrev pub wordSum : ℕ → List ℕ → ℕ
   wordSum kind = nodes (atVariable kind) (atSymbol kind)
-
-  -- What a word adds to the sums.
-  pub record Added (word : ℕ) (after r : Totals) : Type 0 where
-    pub weight : r .weight ≡ after .weight + nodeSum 0 word
-    pub low : r .low ≡ after .low + nodeSum 1 word
-    pub high : r .high ≡ after .high + nodeSum 2 word
 
   abbrev pub termSum : ℕ → Term → ℕ
   termSum kind = measure (atVariable kind) (atSymbol kind)
@@ -88,11 +97,10 @@ module _ (σ : Signature) where
   abbrev pub SummedUp : List ℕ → List ℕ → Type 0
   SummedUp ws sums = (kind : ℕ) → kind < 3 → Summed kind ws sums
 
-  -- What the node words add to the sums, three numbers for each: the same number, and small.
+  -- What is stored for the node words is what each adds to the sums.
   pub record NodeSums (adds : List ℕ) : Type 0 where
     pub sum : (kind word : ℕ) → kind < 3 → word < 272 → getD adds (3 * word + kind) 0 ≡ nodeSum kind word
-    pub weight : (word : ℕ) → word < 272 → getD adds (3 * word) 0 < 65536
-    pub place : (j : ℕ) → j < 816 → getD adds j 0 ≤ 72057594037927936
+    pub small : SmallSums adds
 
   -- Stored so far: the weights of so many symbols, and what so many variables add; all else as it was.
   abbrev pub Weighed : ℕ → List ℕ → List ℕ → Type 0

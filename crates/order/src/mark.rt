@@ -82,8 +82,8 @@ fn mark_unlike(
 {
     let mut sw = [0u64; 387];
     let mut tw = [0u64; 387];
-    sum_up(table, adds, s, &mut sw);
-    sum_up(table, adds, t, &mut tw);
+    sum_up(adds, s, &mut sw);
+    sum_up(adds, t, &mut tw);
     let m = arguments_mark(table, s, sk, &sw, t, tk, &tw);
     if m > 0 {
         return m;

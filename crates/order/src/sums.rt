@@ -1,20 +1,19 @@
 // Sums by offset, prepared once from right to left: of weights, and of the occurrences of the variables.
 use equivalence::keys::size_at;
-use symbols::long;
 use symbols::variable_weight;
 use symbols::weight;
 use symbols::wide;
-use symbols::word_at;
 ghost use mathlib.Core.Path.{_≡_};
 ghost use mathlib.Core.Bool.{cond};
 ghost use Prim.Native.Nat.{ℕ, _+_, _*_, _/_, _%_, _^_, _≤_, _<_};
-ghost use lib.Dec.{eqb, ltb};
+ghost use lib.Dec.{eqb};
 ghost use lib.ListN.{length, set};
+ghost use Rattle.terms.specs.Signature.{Signature};
 ghost use Rattle.symbols.specs.Table.{signatureOf};
 ghost use Rattle.equivalence.specs.Parts.{partAt};
 ghost use Rattle.equivalence.specs.Keys.{Prepared};
-ghost use Rattle.order.specs.Sums.{digitsWithin, SmallDigits, nodeSum, termSum, Bounded, Added, Totalled};
-ghost use Rattle.order.specs.Sums.{Summed, SummedUp, NodeSums, Weighed, Occurring};
+ghost use Rattle.order.specs.Sums.{digitsWithin, SmallDigits, termSum, Bounded, AllNodes, SmallSums, Added};
+ghost use Rattle.order.specs.Sums.{Totalled, Summed, SummedUp, NodeSums, Weighed, Occurring};
 
 // The highest bit of each of eight digits.
 const EIGHTH_BITS: u64 = 0x8080808080808080;
@@ -26,39 +25,12 @@ pub struct Totals {
     pub high: u64,
 }
 
-// The index in the table of a node's weight.
-fn weight_index(word: u16) -> usize
-    ensures { λ r. ⌜ r ≡ cond (ltb word 256) (4 * word + 3) 0 ⌝ }
-{
-    if word < 256 { 4 * wide(word) + 3 } else { 0 }
-}
-
-// What a node adds to the weight.
-fn node_weight(table: &[u16], word: u16) -> u64
-    ensures { λ r. ⌜ (r ≡ nodeSum (signatureOf (now (table .entry))) 0 word) × (r < 65536) ⌝ }
-{
-    long(word_at(table, weight_index(word)))
-}
-
 // What a node adds to the digits of the eight variables whose words are 8 times `eight` and on.
 fn occurrence(eight: u16, word: u16) -> u64
     ensures { λ r. ⌜ (r ≡ cond (eqb (word / 8) eight) (256 ^ (word % 8)) 0) × (r ≤ 72057594037927936) ⌝ }
 {
     let unit = 1u64 << (8 * (word % 8));
     if word / 8 == eight { unit } else { 0 }
-}
-
-// The sums with those of one more node.
-fn with_node(table: &[u16], word: u16, after: Totals) -> Totals
-    requires { ⌜ Bounded 127 after ⌝ }
-    ensures { λ r. ⌜ Added (signatureOf (now (table .entry))) word after r ⌝ }
-    ensures { λ r. ⌜ ((n : ℕ) → Bounded n after → Bounded (n + 1) r) ⌝ }
-{
-    Totals {
-        weight: after.weight + node_weight(table, word),
-        low: after.low + occurrence(32, word),
-        high: after.high + occurrence(33, word),
-    }
 }
 
 // Stores the weights of that many symbols.
@@ -106,15 +78,12 @@ pub fn node_sums(table: &[u16]) -> [u64; 816]
     adds
 }
 
-// The sums with those of one more node, looked up.
-fn with_known(table: &[u16], adds: &[u64; 816], word: u16, after: Totals) -> Totals
-    requires { ⌜ Bounded 127 after × NodeSums (signatureOf (now table)) (now adds) ⌝ }
-    ensures { λ r. ⌜ Added (signatureOf (now (table .entry))) word after r ⌝ }
+// The sums with those of one more node.
+fn with_node(adds: &[u64; 816], word: u16, after: Totals) -> Totals
+    requires { ⌜ Bounded 127 after × SmallSums (now adds) × (word < 272) ⌝ }
+    ensures { λ r. ⌜ Added (now (adds .entry)) word after r ⌝ }
     ensures { λ r. ⌜ ((n : ℕ) → Bounded n after → Bounded (n + 1) r) ⌝ }
 {
-    if 272 <= word {
-        return with_node(table, word, after);
-    }
     let at = 3 * wide(word);
     Totals {
         weight: after.weight + adds[at],
@@ -123,10 +92,12 @@ fn with_known(table: &[u16], adds: &[u64; 816], word: u16, after: Totals) -> Tot
     }
 }
 
-// The sums over all words.
-pub fn total(table: &[u16], adds: &[u64; 816], words: &[u16]) -> Totals
-    requires { ⌜ (length (now words) ≤ 128) × NodeSums (signatureOf (now table)) (now adds) ⌝ }
-    ensures { λ r. ⌜ Totalled (signatureOf (now (table .entry))) (now (words .entry)) r ⌝ }
+// The sums over all words, under each signature whose node sums are lent.
+pub fn total(adds: &[u64; 816], words: &[u16]) -> Totals
+    requires { ⌜ (length (now words) ≤ 128) × SmallSums (now adds) × AllNodes (now words) ⌝ }
+    ensures { λ r. ⌜
+        ((σ : Signature) → NodeSums σ (now (adds .entry)) → Totalled σ (now (words .entry)) r)
+        ⌝ }
     ensures { λ r. ⌜ r .weight ≤ 8388608 ⌝ }
 {
     let mut i = words.len();
@@ -137,7 +108,7 @@ pub fn total(table: &[u16], adds: &[u64; 816], words: &[u16]) -> Totals
     };
     while i > 0 {
         i -= 1;
-        here = with_known(table, adds, words[i], here);
+        here = with_node(adds, words[i], here);
     }
     here
 }
@@ -156,12 +127,17 @@ fn put_sums(sums: &mut [u64; 387], i: usize, here: Totals)
 }
 
 // Writes the sums of all kinds over all words from each offset on, and gives those over all words.
-pub fn sum_up(table: &[u16], adds: &[u64; 816], words: &[u16], sums: &mut [u64; 387]) -> Totals
+pub fn sum_up(adds: &[u64; 816], words: &[u16], sums: &mut [u64; 387]) -> Totals
     requires { ⌜
-        (length (now words) ≤ 128) × (length (now sums) ≡ 387) × NodeSums (signatureOf (now table)) (now adds)
+        (length (now words) ≤ 128) × (length (now sums) ≡ 387) × SmallSums (now adds) × AllNodes (now words)
         ⌝ }
-    ensures { λ r. ⌜ SummedUp (signatureOf (now (table .entry))) (now (words .entry)) (now (sums .exit)) ⌝ }
-    ensures { λ r. ⌜ Totalled (signatureOf (now (table .entry))) (now (words .entry)) r × (r .weight ≤ 8388608) ⌝ }
+    ensures { λ r. ⌜
+        ((σ : Signature) → NodeSums σ (now (adds .entry)) → SummedUp σ (now (words .entry)) (now (sums .exit)))
+        ⌝ }
+    ensures { λ r. ⌜
+        ((σ : Signature) → NodeSums σ (now (adds .entry)) → Totalled σ (now (words .entry)) r)
+        ⌝ }
+    ensures { λ r. ⌜ r .weight ≤ 8388608 ⌝ }
 {
     let mut i = words.len();
     let mut here = Totals {
@@ -172,7 +148,7 @@ pub fn sum_up(table: &[u16], adds: &[u64; 816], words: &[u16], sums: &mut [u64; 
     put_sums(sums, i, here);
     while i > 0 {
         i -= 1;
-        here = with_known(table, adds, words[i], here);
+        here = with_node(adds, words[i], here);
         put_sums(sums, i, here);
     }
     here

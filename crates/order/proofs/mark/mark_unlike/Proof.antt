@@ -1,25 +1,32 @@
 use mathlib.Core.Path.{refl}
 use Rattle.terms.specs.Words.{termOf}
 use Rattle.symbols.specs.Table.{signatureOf}
+use Rattle.order.proofs.WholeLaws.{all-nodes}
 use Rattle.order.proofs.MarkLaws.{whole-root, whole-ten}
-use borrow.Author.Needs.{needs}
 use Rattle.order.proofs.mark.mark_unlike.Statement.{statement}
 use Rattle.order.proofs.mark.mark_unlike.Tie as tie
 
 sum-up-requires : tie.Need-sum-up-requires
-sum-up-requires c κs = search needs
+sum-up-requires c κs =
+    let c4 = c .before .before .before .before in
+    let a = c4 .args in
+    let (S, (p, q, R, N, u)) = c4 .pre in
+    (S .left .short, refl, N .small, all-nodes (a .table .now) (a .s .now) (S .small) (S .left .complete))
 
 sum-up-requires-2 : tie.Need-sum-up-requires-2
-sum-up-requires-2 c κs = search needs
+sum-up-requires-2 c κs =
+    let c6 = c .before .before .before .before .before .before in
+    let a = c6 .args in
+    let (S, (p, q, R, N, u)) = c6 .pre in
+    (S .right .short, refl, N .small, all-nodes (a .table .now) (a .t .now) (S .small) (S .right .complete))
 
 arguments-mark-requires : tie.Need-arguments-mark-requires
 arguments-mark-requires c κs =
     let c4 = c .before .before .before .before in
     let c9 = c4 .before .before .before .before .before in
-    let (S, (p, q, R, N, u)) = c9 .pre in (
-      record { sides = S; left = c4 .sum-up .ensures .0; right = c .before .before .sum-up2 .ensures .0 },
-      (p, q, R .root),
-    )
+    let σ = signatureOf (c9 .args .table .now) in
+    let (S, (p, q, R, N, u)) = c9 .pre in
+    (record { sides = S; left = c4 .sum-up .ensures .0 σ N; right = c .before .before .sum-up2 .ensures .0 σ N }, (p, q, R .root))
 
 returns : tie.Need-returns
 returns c =

@@ -1,55 +1,55 @@
-use borrow.Author.Needs.{needs}
-use native.Mathlib.Omega.{arith}
 use mathlib.Core.Path.{_≡_}
-use Prim.Native.Nat.{_-_, _≤_}
+use mathlib.Core.List.{List}
+use Prim.Native.Nat.{ℕ, _-_, _≤_}
+use native.Mathlib.Omega.{arith}
 use lib.ListN.{length, drop}
-use Rattle.symbols.specs.Table.{signatureOf}
-use Rattle.order.specs.Sums.{Totalled, Bounded}
+use Rattle.terms.specs.Signature.{Signature}
+use Rattle.order.specs.Sums.{NodeSums, Totalled, Bounded}
 use Rattle.order.proofs.TotalLaws.{AllFrom, totalled-none, totalled-more, bounded-more}
 use Rattle.order.proofs.TotalLaws.{stored-room, stored-from}
+use borrow.Author.Needs.{needs}
 use Rattle.order.proofs.sums.sum_up.Statement.{statement}
 use Rattle.order.proofs.sums.sum_up.Tie as tie
 
 abbrev Inv-loop : tie.InvT-loop
-Inv-loop table adds words sums₀ i₀ here₀ sums i here =
-    (i ≤ length words) × (length sums ≡ 387) × Totalled (signatureOf table) (drop i words) here
-    × Bounded (length words - i) here × AllFrom (signatureOf table) words sums i
+Inv-loop adds words sums₀ i₀ here₀ sums i here =
+    (i ≤ length words) × (length sums ≡ 387)
+    × ((σ : Signature) → NodeSums σ adds → Totalled σ (drop i words) here) × Bounded (length words - i) here
+    × ((σ : Signature) → NodeSums σ adds → AllFrom σ words sums i)
 
 abbrev μ-loop : tie.MeasureT-loop
-μ-loop table adds words sums₀ i₀ here₀ sums i here = i
+μ-loop adds words sums₀ i₀ here₀ sums i here = i
 
 put-sums-requires : tie.Need-put-sums-requires Inv-loop μ-loop
 put-sums-requires c κs = search needs
 
 loop-holds : tie.Need-loop-holds Inv-loop μ-loop
 loop-holds c =
-    let c4 = c .before .before .before .before in
-    let a = c4 .args in
-    let σ = signatureOf (a .table .now) in
-    let T = totalled-none σ (a .words .now) in
+    let c3 = c .before .before .before in
+    let a = c3 .args in
     let n = length (a .words .now) in (
       omega arith,
-      rw (c .put-sums .ensures) (stored-room (a .sums .now) n _ (omega arith) (c4 .pre .1)),
-      T,
+      rw (c .put-sums .ensures) (stored-room (a .sums .now) n _ (omega arith) (c3 .pre .1)),
+      (λ σ N. totalled-none σ (a .words .now)),
       record { weight = omega arith; low = omega arith; high = omega arith },
-      rw (c .put-sums .ensures) (stored-from (a .sums .now) n _ (omega arith)
-          (c4 .pre .1) σ (a .words .now) (c4 .pre .0) T
-          λ kind l k p q. absurd (omega arith)),
+      (λ σ N. rw (c .put-sums .ensures) (stored-from (a .sums .now) n _ (omega arith) (c3 .pre .1) σ (a .words .now)
+          (c3 .pre .0) (totalled-none σ (a .words .now)) λ kind l k p q. absurd (omega arith))),
     )
 
 sub-i : tie.Need-sub-i Inv-loop μ-loop
 sub-i c = search needs
 
-mul-with-known : tie.Need-mul-with-known Inv-loop μ-loop
-mul-with-known c = search needs
+mul-with-node : tie.Need-mul-with-node Inv-loop μ-loop
+mul-with-node c = search needs
 
-shared-slice-read-with-known : tie.Need-shared-slice-read-with-known Inv-loop μ-loop
-shared-slice-read-with-known c = search needs
+shared-slice-read-with-node : tie.Need-shared-slice-read-with-node Inv-loop μ-loop
+shared-slice-read-with-node c = search needs
 
-with-known-requires : tie.Need-with-known-requires Inv-loop μ-loop
-with-known-requires c κs =
-    let c7 = c .before .before .before .before .before .before .before in
-    (bounded-more (omega arith) (c .before .before .loop .inv .3), c7 .pre .2)
+with-node-requires : tie.Need-with-node-requires Inv-loop μ-loop
+with-node-requires c κs =
+    let c6 = c .before .before .before .before .before .before in
+    let l = c .before .before .loop in
+    (bounded-more (omega arith) (l .inv .3), c6 .pre .2, c6 .pre .3 (l .i - 1) (omega arith))
 
 put-sums-requires-2 : tie.Need-put-sums-requires-2 Inv-loop μ-loop
 put-sums-requires-2 c κs = search needs
@@ -59,41 +59,31 @@ loop-less c = search needs
 
 loop-again : tie.Need-loop-again Inv-loop μ-loop
 loop-again c =
-    let a = c .before .before .before .before .before .before .before .before .before .before .args in
-    let l = c .before .before .before .before .before .loop in
-    let σ = signatureOf (a .table .now) in
-    let more = c .before .before .with-known .ensures in
-    let T = totalled-more σ (a .words .now) (l .i) (l .here) _ (omega arith) (l .inv .0) (l .inv .2) (more .0) in (
+    let c5 = c .before .before .before .before .before in
+    let c9 = c5 .before .before .before .before in
+    let ws = c9 .args .words .now in
+    let l = c5 .loop in
+    let h = c9 .pre in
+    let more = c .before .before .with-node .ensures in
+    let T : (σ : Signature) → NodeSums σ (c9 .args .adds .now) → Totalled σ (drop (l .i - 1) ws) _ =
+    λ σ N. totalled-more σ N ws (l .i) (l .here) _ (omega arith) (l .inv .0) (h .3 (l .i - 1) (omega arith))
+    (l .inv .2 σ N) (more .0) in (
       omega arith,
       rw (c .put-sums2 .ensures) (stored-room (l .sums) (l .i - 1) _ (omega arith) (l .inv .1)),
       T,
-      bounded-more (omega arith) (more .1 (length (a .words .now) - l .i) (l .inv .3)),
-      rw (c .put-sums2 .ensures) (stored-from (l .sums) (l .i - 1) _ (omega arith) (l .inv .1) σ (a .words .now)
-          (c .before .before .before .before .before .before .before .before .before .before .pre .0) T
-          λ kind p k q. l .inv .4 kind p k (omega arith)),
+      bounded-more (omega arith) (more .1 (length ws - l .i) (l .inv .3)),
+      (λ σ N. rw (c .put-sums2 .ensures) (stored-from (l .sums) (l .i - 1) _ (omega arith) (l .inv .1) σ ws (h .0)
+          (T σ N) λ kind p k q. l .inv .4 σ N kind p k (omega arith))),
     )
 
 returns : tie.Need-returns Inv-loop μ-loop
 returns c =
     let l = c .before .loop in
     let z : l .i ≡ 0 = omega arith in (
-      λ kind p. record { room = l .inv .1; sum = λ k q. l .inv .4 kind p k (omega arith) q },
-      (rw z at (l .inv .2), omega (arith, l .inv .3 .weight)),
+      (λ σ N kind p. record { room = l .inv .1; sum = λ k q. l .inv .4 σ N kind p k (omega arith) q }),
+      ((λ σ N. rw z at (l .inv .2 σ N)), omega (arith, l .inv .3 .weight)),
     )
 
 pub sum-up-spec : {M : Type 1} → statement M
 sum-up-spec =
-    tie.close
-    (tie.spec
-    Inv-loop
-    μ-loop
-    put-sums-requires
-    loop-holds
-    sub-i
-    mul-with-known
-    shared-slice-read-with-known
-    with-known-requires
-    put-sums-requires-2
-    loop-less
-    loop-again
-    returns)
+    tie.close (tie.spec Inv-loop μ-loop put-sums-requires loop-holds sub-i mul-with-node shared-slice-read-with-node with-node-requires put-sums-requires-2 loop-less loop-again returns)

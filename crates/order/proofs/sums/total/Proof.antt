@@ -1,74 +1,67 @@
 use mathlib.Core.Path.{_≡_}
-use Prim.Native.Nat.{_-_, _≤_}
+use mathlib.Core.List.{List}
+use Prim.Native.Nat.{ℕ, _-_, _≤_}
 use native.Mathlib.Omega.{arith}
 use lib.ListN.{length, drop}
-use Rattle.symbols.specs.Table.{signatureOf}
-use Rattle.order.specs.Sums.{Totalled, Bounded}
+use Rattle.terms.specs.Signature.{Signature}
+use Rattle.order.specs.Sums.{NodeSums, Totalled, Bounded}
 use Rattle.order.proofs.TotalLaws.{totalled-none, totalled-more, bounded-more}
 use borrow.Author.Needs.{needs}
 use Rattle.order.proofs.sums.total.Statement.{statement}
 use Rattle.order.proofs.sums.total.Tie as tie
 
 abbrev Inv-loop : tie.InvT-loop
-Inv-loop table adds words i₀ here₀ i here =
-    (i ≤ length words) × Totalled (signatureOf table) (drop i words) here × Bounded (length words - i) here
+Inv-loop adds words i₀ here₀ i here =
+    (i ≤ length words) × ((σ : Signature) → NodeSums σ adds → Totalled σ (drop i words) here)
+    × Bounded (length words - i) here
 
 abbrev μ-loop : tie.MeasureT-loop
-μ-loop table adds words i₀ here₀ i here = i
+μ-loop adds words i₀ here₀ i here = i
 
 loop-holds : tie.Need-loop-holds Inv-loop μ-loop
-loop-holds c =
-    let a = c .before .before .args in (
-      omega arith,
-      totalled-none (signatureOf (a .table .now)) (a .words .now),
-      record { weight = omega arith; low = omega arith; high = omega arith },
-    )
+loop-holds c = (
+  omega arith,
+  (λ σ N. totalled-none σ (c .before .args .words .now)),
+  record { weight = omega arith; low = omega arith; high = omega arith },
+)
 
 sub-i : tie.Need-sub-i Inv-loop μ-loop
 sub-i c = search needs
 
-mul-with-known : tie.Need-mul-with-known Inv-loop μ-loop
-mul-with-known c = search needs
+mul-with-node : tie.Need-mul-with-node Inv-loop μ-loop
+mul-with-node c = search needs
 
-shared-slice-read-with-known : tie.Need-shared-slice-read-with-known Inv-loop μ-loop
-shared-slice-read-with-known c = search needs
+shared-slice-read-with-node : tie.Need-shared-slice-read-with-node Inv-loop μ-loop
+shared-slice-read-with-node c = search needs
 
-with-known-requires : tie.Need-with-known-requires Inv-loop μ-loop
-with-known-requires c κs =
-    let c5 = c .before .before .before .before .before in
-    (bounded-more (omega arith) (c .before .before .loop .inv .2), c5 .pre .1)
+with-node-requires : tie.Need-with-node-requires Inv-loop μ-loop
+with-node-requires c κs =
+    let c4 = c .before .before .before .before in
+    let l = c .before .before .loop in
+    (bounded-more (omega arith) (l .inv .2), c4 .pre .1, c4 .pre .2 (l .i - 1) (omega arith))
 
 loop-less : tie.Need-loop-less Inv-loop μ-loop
 loop-less c = search needs
 
 loop-again : tie.Need-loop-again Inv-loop μ-loop
 loop-again c =
-    let a = c .before .before .before .before .before .before .args in
-    let l = c .before .before .before .loop in
-    let more = c .with-known .ensures in (
+    let c3 = c .before .before .before in
+    let c5 = c3 .before .before in
+    let ws = c5 .args .words .now in
+    let l = c3 .loop in
+    let more = c .with-node .ensures in (
       omega arith,
-      totalled-more (signatureOf (a .table .now)) (a .words .now) (l .i) (l .here) _ (omega arith) (l .inv .0)
-          (l .inv .1) (more .0),
-      bounded-more (omega arith) (more .1 (length (a .words .now) - l .i) (l .inv .2)),
+      (λ σ N. totalled-more σ N ws (l .i) (l .here) _ (omega arith) (l .inv .0) (c5 .pre .2 (l .i - 1) (omega arith))
+          (l .inv .1 σ N) (more .0)),
+      bounded-more (omega arith) (more .1 (length ws - l .i) (l .inv .2)),
     )
 
 returns : tie.Need-returns Inv-loop μ-loop
 returns c =
     let l = c .before .loop in
     let z : l .i ≡ 0 = omega arith in
-    (rw z at (l .inv .1), omega (arith, l .inv .2 .weight))
+    ((λ σ N. rw z at (l .inv .1 σ N)), omega (arith, l .inv .2 .weight))
 
 pub total-spec : {M : Type 1} → statement M
 total-spec =
-    tie.close
-    (tie.spec
-    Inv-loop
-    μ-loop
-    loop-holds
-    sub-i
-    mul-with-known
-    shared-slice-read-with-known
-    with-known-requires
-    loop-less
-    loop-again
-    returns)
+    tie.close (tie.spec Inv-loop μ-loop loop-holds sub-i mul-with-node shared-slice-read-with-node with-node-requires loop-less loop-again returns)

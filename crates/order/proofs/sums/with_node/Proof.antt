@@ -1,55 +1,72 @@
+use mathlib.Core.Path.{refl}
+use Prim.Native.Nat.{_+_, _*_}
 use native.Mathlib.Omega.{arith}
-use mathlib.Core.Path.{refl, ap, _∙_}
-use Prim.Native.Nat.{ℕ, _+_}
-use Rattle.order.proofs.SumLaws.{occurrence-node}
 use borrow.Author.Needs.{needs}
 use Rattle.order.proofs.sums.with_node.Statement.{statement}
 use Rattle.order.proofs.sums.with_node.Tie as tie
 
-node-weight-requires : tie.Need-node-weight-requires
-node-weight-requires c κs = search needs
+wide-requires : tie.Need-wide-requires
+wide-requires c κs = search needs
 
-add-t5 : tie.Need-add-t5
-add-t5 c = search needs
+mul-at : tie.Need-mul-at
+mul-at c = search needs
 
-occurrence-requires : tie.Need-occurrence-requires
-occurrence-requires c κs = search needs
+mul-t5 : tie.Need-mul-t5
+mul-t5 c = search needs
 
-add-t7 : tie.Need-add-t7
-add-t7 c = search needs
-
-occurrence-requires-2 : tie.Need-occurrence-requires-2
-occurrence-requires-2 c κs = search needs
+element-copy-out-t8 : tie.Need-element-copy-out-t8
+element-copy-out-t8 c = search needs
 
 add-t9 : tie.Need-add-t9
-add-t9 c = search needs
+add-t9 c =
+    let c3 = c .before .before .before in
+    let w = c .before .before .wide in
+    omega (arith, c3 .pre .0 .weight, c3 .pre .1 .weight (w .result) (omega (arith, c3 .pre .2, w .ensures .0)))
+
+add-t10 : tie.Need-add-t10
+add-t10 c = search needs
+
+mul-t11 : tie.Need-mul-t11
+mul-t11 c = search needs
+
+element-copy-out-t14 : tie.Need-element-copy-out-t14
+element-copy-out-t14 c = search needs
+
+add-t15 : tie.Need-add-t15
+add-t15 c =
+    let c4 = c .before .before .before .before in
+    let w = c4 .wide in
+    omega (arith, c4 .before .pre .0 .low, c4 .before .pre .1 .place (3 * w .result + 1) (omega (arith, c4 .before .pre .2, w .ensures .0)))
+
+add-t16 : tie.Need-add-t16
+add-t16 c = search needs
+
+mul-t17 : tie.Need-mul-t17
+mul-t17 c = search needs
+
+element-copy-out-t20 : tie.Need-element-copy-out-t20
+element-copy-out-t20 c = search needs
+
+add-t21 : tie.Need-add-t21
+add-t21 c =
+    let c6 = c .before .before .before .before .before .before in
+    let w = c6 .wide in
+    omega (arith, c6 .before .pre .0 .high, c6 .before .pre .1 .place (3 * w .result + 2) (omega (arith, c6 .before .pre .2, w .ensures .0)))
 
 returns : tie.Need-returns
 returns c =
-    let a = c .before .before .before .before .before .before .before .args in
-    let w = c .before .before .before .before .before .node-weight .ensures in
-    let l = c .before .before .before .occurrence .ensures in
-    let h = c .before .occurrence2 .ensures in (
-      record {
-        weight = ap (λ (n : ℕ). a .after .weight + n) (w .0);
-        low = ap (λ (n : ℕ). a .after .low + n) (l .0 ∙ occurrence-node 0 32 (a .word) refl);
-        high = ap (λ (n : ℕ). a .after .high + n) (h .0 ∙ occurrence-node 8 33 (a .word) refl);
-      },
+    let c6 = c .before .before .before .before .before .before in
+    let word = c6 .before .args .word in
+    let (_, N, h) = c6 .before .pre in
+    rw (c6 .wide .ensures .0) (
+      record { weight = refl; low = refl; high = refl },
       λ n b. record {
-        weight = omega (arith, b .weight, w .1);
-        low = omega (arith, b .low, l .1);
-        high = omega (arith, b .high, h .1);
+        weight = omega (arith, b .weight, N .weight word h);
+        low = omega (arith, b .low, N .place (3 * word + 1) (omega (arith, h)));
+        high = omega (arith, b .high, N .place (3 * word + 2) (omega (arith, h)));
       },
     )
 
 pub with-node-spec : {M : Type 1} → statement M
 with-node-spec =
-    tie.close
-    (tie.spec
-    node-weight-requires
-    add-t5
-    occurrence-requires
-    add-t7
-    occurrence-requires-2
-    add-t9
-    returns)
+    tie.close (tie.spec wide-requires mul-at mul-t5 element-copy-out-t8 add-t9 add-t10 mul-t11 element-copy-out-t14 add-t15 add-t16 mul-t17 element-copy-out-t20 add-t21 returns)

@@ -11,7 +11,8 @@ use lib.Seq.{getD-set-same, getD-set-other}
 use borrow.Author.Tests.{lt-ltb, le-ltb}
 use Rattle.multisets.proofs.Relations.{byOrder}
 use Rattle.terms.specs.Signature.{Signature, symbolOf}
-use Rattle.order.specs.Sums.{nodeSum, NodeSums, Weighed, Occurring}
+use Rattle.order.specs.Sums.{nodeSum, triple, NodeSums, Weighed, Occurring}
+use Rattle.order.proofs.TripleLaws.{which, triple-other, triple-same}
 
 abbrev most : ℕ
 most = 72057594037927936
@@ -38,90 +39,52 @@ module _ (σ : Signature) where
       λ j h. other j (λ q. absurd (omega arith)) ∙ so .3 j (omega arith),
     )
 
-  pub variable-node : (x : ℕ) → nodeSum σ 0 (256 + x) ≡ σ .w0
-  variable-node x = rw (le-ltb (256 + x) 256 (omega arith))
+  pub variable-node : (word : ℕ) → 256 ≤ word → nodeSum σ 0 word ≡ σ .w0
+  variable-node word h = rw (le-ltb word 256 h)
 
-  pub occurring-none : (cells : List ℕ) → Occurring σ 0 cells cells
+  pub occurring-none : (cells : List ℕ) → Occurring σ 256 cells cells
   occurring-none cells = (
-    λ kind x k h. absurd (omega arith),
-    λ x h. absurd (omega arith),
+    λ kind word k h l. absurd (omega arith),
+    λ word h l. absurd (omega arith),
     λ j h l. absurd (omega arith),
     λ j h. refl,
     λ j h. refl,
   )
 
-  module _ (x a b c : ℕ) (before cells : List ℕ) (few : x < 16) (long : length cells ≡ 816)
-      (so : Occurring σ x before cells) (ea : a ≡ nodeSum σ 0 (256 + x)) (sa : a < 65536)
-      (eb : b ≡ nodeSum σ 1 (256 + x)) (sb : b ≤ most) (ec : c ≡ nodeSum σ 2 (256 + x)) (sc : c ≤ most) where
-    abbrev one : List ℕ
-    one = set cells (768 + 3 * x) a
+  module _ (n a b c : ℕ) (before cells : List ℕ) (low : 256 ≤ n) (few : n < 272) (long : length cells ≡ 816)
+      (so : Occurring σ n before cells) (ea : a ≡ nodeSum σ 0 n) (sa : a < 65536) (eb : b ≡ nodeSum σ 1 n)
+      (sb : b ≤ most) (ec : c ≡ nodeSum σ 2 n) (sc : c ≤ most) where
+    numbers : (kind : ℕ) → kind < 3 → (which kind a b c ≡ nodeSum σ kind n) × (which kind a b c ≤ most)
+    numbers zero l = (ea, omega arith)
+    numbers (suc zero) l = (eb, sb)
+    numbers (suc (suc zero)) l = (ec, sc)
+    numbers (suc (suc (suc kind))) l = absurd (omega arith)
 
-    abbrev two : List ℕ
-    two = set one (769 + 3 * x) b
+    there : (kind : ℕ) → kind < 3 → getD (triple cells n a b c) (3 * n + kind) 0 ≡ which kind a b c
+    there = triple-same cells n a b c (omega arith)
 
-    abbrev three : List ℕ
-    three = set two (770 + 3 * x) c
+    apart : (j : ℕ) → (j / 3 ≡ n → ⊥) → getD (triple cells n a b c) j 0 ≡ getD cells j 0
+    apart = triple-other cells n a b c
 
-    at-a : getD three (768 + 3 * x) 0 ≡ a
-    at-a =
-        getD-set-other two (770 + 3 * x) (768 + 3 * x) c 0 (λ q. absurd (omega arith))
-        ∙ getD-set-other one (769 + 3 * x) (768 + 3 * x) b 0 (λ q. absurd (omega arith))
-        ∙ getD-set-same cells (768 + 3 * x) a 0 (omega arith)
+    own-place : (j kind : ℕ) → kind < 3 → j ≡ 3 * n + kind → getD (triple cells n a b c) j 0 ≤ most
+    own-place j kind h e = rw (e, there kind h) (numbers kind h .1)
 
-    at-b : getD three (769 + 3 * x) 0 ≡ b
-    at-b =
-        getD-set-other two (770 + 3 * x) (769 + 3 * x) c 0 (λ q. absurd (omega arith))
-        ∙ getD-set-same one (769 + 3 * x) b 0 (omega (arith, length-set cells (768 + 3 * x) a))
-
-    at-c : getD three (770 + 3 * x) 0 ≡ c
-    at-c =
-        getD-set-same two (770 + 3 * x) c 0
-        (omega (arith, length-set cells (768 + 3 * x) a, length-set one (769 + 3 * x) b))
-
-    apart : (j : ℕ) → (j ≡ 768 + 3 * x → ⊥) → (j ≡ 769 + 3 * x → ⊥) → (j ≡ 770 + 3 * x → ⊥) →
-        getD three j 0 ≡ getD cells j 0
-    apart j p q r =
-        getD-set-other two (770 + 3 * x) j c 0 r ∙ getD-set-other one (769 + 3 * x) j b 0 q
-        ∙ getD-set-other cells (768 + 3 * x) j a 0 p
-
-    before-it : (j : ℕ) → j < 768 + 3 * x → getD three j 0 ≡ getD cells j 0
-    before-it j h = apart j (λ e. absurd (omega arith)) (λ e. absurd (omega arith)) (λ e. absurd (omega arith))
-
-    own-sum : (kind y : ℕ) → kind < 3 → y ≡ x → getD three (768 + (3 * y + kind)) 0 ≡ nodeSum σ kind (256 + y)
-    own-sum zero y k e =
-        let i : 768 + (3 * y + 0) ≡ 768 + 3 * x = omega arith in
-        rw (i, at-a, e) ea
-    own-sum (suc zero) y k e =
-        let i : 768 + (3 * y + 1) ≡ 769 + 3 * x = omega arith in
-        rw (i, at-b, e) eb
-    own-sum (suc (suc zero)) y k e =
-        let i : 768 + (3 * y + 2) ≡ 770 + 3 * x = omega arith in
-        rw (i, at-c, e) ec
-    own-sum (suc (suc (suc kind))) y k e = absurd (omega arith)
-
-    own-place : (j d : ℕ) → d < 3 → j ≡ 768 + 3 * x + d → getD three j 0 ≤ most
-    own-place j zero h e = let i : j ≡ 768 + 3 * x = omega arith in rw (i, at-a) (omega arith)
-    own-place j (suc zero) h e = let i : j ≡ 769 + 3 * x = omega arith in rw (i, at-b) sb
-    own-place j (suc (suc zero)) h e = let i : j ≡ 770 + 3 * x = omega arith in rw (i, at-c) sc
-    own-place j (suc (suc (suc d))) h e = absurd (omega arith)
-
-    pub occurring-more : Occurring σ (x + 1) before three
+    pub occurring-more : Occurring σ (n + 1) before (triple cells n a b c)
     occurring-more = (
-      λ kind y k h. byOrder y x (λ l. before-it (768 + (3 * y + kind)) (omega arith) ∙ so .0 kind y k l)
-          λ l. own-sum kind y k (omega arith),
-      λ y h. byOrder y x (λ l. rw (before-it (768 + 3 * y) (omega arith)) (so .1 y l))
-          λ l. let e : y ≡ x = omega arith in rw (e, at-a) sa,
-      λ j h l. byOrder j (768 + 3 * x) (λ m. rw (before-it j m) (so .2 j m l))
-          λ m. own-place j (j - (768 + 3 * x)) (omega arith) (omega arith),
-      λ j h. before-it j (omega arith) ∙ so .3 j h,
-      λ j h. apart j (λ e. absurd (omega arith)) (λ e. absurd (omega arith)) (λ e. absurd (omega arith))
-          ∙ so .4 j (omega arith),
+      λ kind word k h l. byOrder word n (λ m. apart (3 * word + kind) (λ e. omega arith) ∙ so .0 kind word k h m)
+          λ m. let e : word ≡ n = omega arith in rw e (there kind k ∙ numbers kind k .0),
+      λ word h l. byOrder word n (λ m. rw (apart (3 * word) (λ e. omega arith)) (so .1 word h m))
+          λ m. let e : 3 * word ≡ 3 * n + 0 = omega arith in rw (e, there 0 (omega arith)) sa,
+      λ j h l. byOrder j (3 * n) (λ m. rw (apart j (λ e. omega arith)) (so .2 j m l))
+          λ m. own-place j (j - 3 * n) (omega arith) (omega arith),
+      λ j h. apart j (λ e. omega arith) ∙ so .3 j h,
+      λ j h. apart j (λ e. omega arith) ∙ so .4 j (omega arith),
     )
 
   -- ---- all of them
 
   module _ (middle after : List ℕ) (few : length (σ .symbols) ≤ 256)
-      (w : Weighed σ (length (σ .symbols)) (replicate 816 0) middle) (v : Occurring σ 16 middle after) where
+      (w : Weighed σ (length (σ .symbols)) (replicate 816 0) middle) (v : Occurring σ 272 middle after) where
     no-weight : (f : ℕ) → length (σ .symbols) ≤ f → symbolOf σ f .weight ≡ 0
     no-weight f h = rw (List·getD-eq-default (σ .symbols) _ h)
 
@@ -148,14 +111,9 @@ module _ (σ : Signature) where
 
     pub node-sums : NodeSums σ after
     node-sums = record {
-      sum = λ kind word k h. byOrder word 256 (symbol-sum kind word k) λ l.
-          let i : 3 * word + kind ≡ 768 + (3 * (word - 256) + kind) = omega arith in
-          let e : 256 + (word - 256) ≡ word = omega arith in
-          rw i (v .0 kind (word - 256) k (omega arith) ∙ ap (nodeSum σ kind) e);
+      sum = λ kind word k h. byOrder word 256 (symbol-sum kind word k) λ l. v .0 kind word k l h;
       small = record {
-        weight = λ word h. byOrder word 256 (λ l. first word l .1) λ l.
-            let i : 3 * word ≡ 768 + 3 * (word - 256) = omega arith in
-            rw i (v .1 (word - 256) (omega arith));
+        weight = λ word h. byOrder word 256 (λ l. first word l .1) λ l. v .1 word l h;
         place = λ j h. byOrder j 768
             (λ l. byOrder 0 (j % 3) (λ m. rw (second j l (λ e. absurd (omega arith))) (omega arith))
             λ m. let i : j ≡ 3 * (j / 3) = omega arith in rw i (omega (arith, first (j / 3) (omega arith) .1)))

@@ -1,5 +1,6 @@
 -- The laws that the functions' proofs cite, in reading order.
 pub mod SumLaws
+mod TripleLaws
 mod AddsLaws
 pub mod TotalLaws
 pub mod OccurrenceLaws

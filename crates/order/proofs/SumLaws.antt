@@ -59,8 +59,8 @@ module _ {σ : Signature} {ws keys : List ℕ} (P : Prepared σ ws keys) (i : �
       ∙ rw (prepared-size P i h)
 
   pub part-sum : {kind : ℕ} {sums : List ℕ} (S : Summed σ kind ws sums) {w : ℕ} → w ≡ sizeIn keys i →
-      (getD sums (129 * kind + (i + w)) 0 ≤ getD sums (129 * kind + i) 0)
-      × (getD sums (129 * kind + i) 0 - getD sums (129 * kind + (i + w)) 0 ≡ termSum σ kind (partAt σ ws i))
+      (getD sums (3 * (i + w) + kind) 0 ≤ getD sums (3 * i + kind) 0)
+      × (getD sums (3 * i + kind) 0 - getD sums (3 * (i + w) + kind) 0 ≡ termSum σ kind (partAt σ ws i))
   part-sum {kind} S {w} d =
       let a = S .sum i (omega arith) in
       let b = S .sum (i + w) (omega (arith, part-fits)) in

@@ -6,12 +6,13 @@ use mathlib.Core.Path.{_≡_, _∙_}
 use Prim.Native.Nat.{ℕ, suc, zero, _+_, _-_, _*_, _≤_, _<_}
 use native.Mathlib.Omega.{arith}
 use native.Mathlib.Numerals.{add-one}
-use lib.ListN.{length, getD, drop, set, length-set}
-use lib.Seq.{drop-cons, drop-length, getD-set-same, getD-set-other}
+use lib.ListN.{length, getD, drop}
+use lib.Seq.{drop-cons, drop-length}
 use Rattle.multisets.proofs.Relations.{byOrder}
 use Rattle.terms.specs.Signature.{Signature}
 use Rattle.order.specs.declared.sums.Totals.{Totals}
-use Rattle.order.specs.Sums.{nodeSum, wordSum, Bounded, Added, Totalled, NodeSums}
+use Rattle.order.specs.Sums.{nodeSum, wordSum, triple, Bounded, Added, Totalled, NodeSums}
+use Rattle.order.proofs.TripleLaws.{which, triple-length, triple-other, triple-same}
 
 pub bounded-more : {m n : ℕ} {r : Totals} → m ≤ n → Bounded m r → Bounded n r
 bounded-more h b = record {
@@ -22,7 +23,7 @@ bounded-more h b = record {
 
 abbrev pub SummedFrom : Signature → ℕ → List ℕ → List ℕ → ℕ → Type 0
 SummedFrom σ kind ws sums i =
-    (k : ℕ) → i ≤ k → k ≤ length ws → getD sums (129 * kind + k) 0 ≡ wordSum σ kind (drop k ws)
+    (k : ℕ) → i ≤ k → k ≤ length ws → getD sums (3 * k + kind) 0 ≡ wordSum σ kind (drop k ws)
 
 pub sum-more : (σ : Signature) (kind : ℕ) (ws : List ℕ) (i sum v : ℕ) → 0 < i → i ≤ length ws →
     sum ≡ wordSum σ kind (drop i ws) → v ≡ nodeSum σ kind (getD ws (i - 1) 0) →
@@ -55,49 +56,16 @@ module _ (σ : Signature) where
 abbrev pub AllFrom : Signature → List ℕ → List ℕ → ℕ → Type 0
 AllFrom σ ws sums i = (kind : ℕ) → kind < 3 → SummedFrom σ kind ws sums i
 
--- What the sums of one kind are.
-abbrev total : ℕ → Totals → ℕ
-total zero r = r .weight
-total (suc zero) r = r .low
-total (suc (suc kind)) r = r .high
-
--- The sums as they are stored at an offset.
+-- The sums as they are stored for an offset.
 abbrev pub stored : List ℕ → ℕ → Totals → List ℕ
-stored sums i r = set (set (set sums i (r .weight)) (129 + i) (r .low)) (258 + i) (r .high)
+stored sums i r = triple sums i (r .weight) (r .low) (r .high)
 
 module _ (sums : List ℕ) (i : ℕ) (r : Totals) (h : i < 129) (room : length sums ≡ 387) where
-  -- With one sum stored, and with two.
-  abbrev one : List ℕ
-  one = set sums i (r .weight)
-
-  abbrev two : List ℕ
-  two = set one (129 + i) (r .low)
-
-  stored-same : (kind : ℕ) → kind < 3 → getD (stored sums i r) (129 * kind + i) 0 ≡ total kind r
-  stored-same zero l =
-      let e : 129 * 0 + i ≡ i = omega arith in
-      rw e (getD-set-other two (258 + i) i (r .high) 0 (λ z. omega arith)
-      ∙ getD-set-other one (129 + i) i (r .low) 0 (λ z. omega arith) ∙ getD-set-same sums i (r .weight) 0 (omega arith))
-  stored-same (suc zero) l =
-      getD-set-other two (258 + i) (129 + i) (r .high) 0 (λ z. omega arith)
-      ∙ getD-set-same one (129 + i) (r .low) 0 (omega (arith, length-set sums i (r .weight)))
-  stored-same (suc (suc zero)) l =
-      getD-set-same two (258 + i) (r .high) 0
-      (omega (arith, length-set sums i (r .weight), length-set one (129 + i) (r .low)))
-  stored-same (suc (suc (suc kind))) l = absurd (omega arith)
-
-  stored-other : (kind k : ℕ) → kind < 3 → k < 129 → (k ≡ i → ⊥) →
-      getD (stored sums i r) (129 * kind + k) 0 ≡ getD sums (129 * kind + k) 0
-  stored-other kind k l p d =
-      getD-set-other two (258 + i) (129 * kind + k) (r .high) 0 (λ e. d (omega arith))
-      ∙ getD-set-other one (129 + i) (129 * kind + k) (r .low) 0 (λ e. d (omega arith))
-      ∙ getD-set-other sums i (129 * kind + k) (r .weight) 0 (λ e. d (omega arith))
-
   pub stored-room : length (stored sums i r) ≡ 387
-  stored-room = simp length-set room
+  stored-room = triple-length sums i (r .weight) (r .low) (r .high) ∙ room
 
   module _ (σ : Signature) (ws : List ℕ) (short : length ws ≤ 128) (T : Totalled σ (drop i ws) r) where
-    total-kind : (kind : ℕ) → kind < 3 → total kind r ≡ wordSum σ kind (drop i ws)
+    total-kind : (kind : ℕ) → kind < 3 → which kind (r .weight) (r .low) (r .high) ≡ wordSum σ kind (drop i ws)
     total-kind zero l = T .weight
     total-kind (suc zero) l = T .low
     total-kind (suc (suc zero)) l = T .high
@@ -105,5 +73,8 @@ module _ (sums : List ℕ) (i : ℕ) (r : Totals) (h : i < 129) (room : length s
 
     pub stored-from : AllFrom σ ws sums (i + 1) → AllFrom σ ws (stored sums i r) i
     stored-from m kind l k p q =
-        byOrder i k (λ a. stored-other kind k l (omega arith) (λ e. omega arith) ∙ m kind l k (omega arith) q)
-        λ a. let e : k ≡ i = omega arith in rw e (stored-same kind l ∙ total-kind kind l)
+        byOrder i k
+        (λ a. triple-other sums i (r .weight) (r .low) (r .high) (3 * k + kind) (λ e. omega arith)
+        ∙ m kind l k (omega arith) q)
+        λ a. let e : k ≡ i = omega arith in
+        rw e (triple-same sums i (r .weight) (r .low) (r .high) (omega arith) kind l ∙ total-kind kind l)

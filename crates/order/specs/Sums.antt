@@ -4,7 +4,7 @@ use mathlib.Core.Bool.{Bool, true, cond, _&&_}
 use mathlib.Core.Path.{_≡_}
 use Prim.Native.Nat.{ℕ, suc, zero, _+_, _-_, _*_, _/_, _%_, _≤_, _<_}
 use lib.Dec.{ltb, eqb, leb}
-use lib.ListN.{length, getD, drop}
+use lib.ListN.{length, getD, drop, set}
 use Rattle.terms.specs.Signature.{Signature, symbolOf}
 use Rattle.terms.specs.Term.{Term, measure}
 use Rattle.terms.specs.Words.{firstVariable}
@@ -47,6 +47,10 @@ pub record Bounded (n : ℕ) (r : Totals) : Type 0 where
   pub low : r .low ≤ 72057594037927936 * n
   pub high : r .high ≤ 72057594037927936 * n
 
+-- Three numbers stored for an index.
+abbrev pub triple : List ℕ → ℕ → ℕ → ℕ → ℕ → List ℕ
+triple cells n a b c = set (set (set cells (3 * n) a) (3 * n + 1) b) (3 * n + 2) c
+
 -- Each word is a node's.
 abbrev pub AllNodes : List ℕ → Type 0
 AllNodes ws = (k : ℕ) → k < length ws → getD ws k 0 < 272
@@ -88,10 +92,10 @@ module _ (σ : Signature) where
     pub low : r .low ≡ wordSum 1 ws
     pub high : r .high ≡ wordSum 2 ws
 
-  -- sums has, from 129 times kind on, the sum over all words from each offset on.
+  -- sums has for each offset, as one of three numbers, the sum over all words from there on.
   pub record Summed (kind : ℕ) (ws sums : List ℕ) : Type 0 where
     pub room : length sums ≡ 387
-    pub sum : (k : ℕ) → k ≤ length ws → getD sums (129 * kind + k) 0 ≡ wordSum kind (drop k ws)
+    pub sum : (k : ℕ) → k ≤ length ws → getD sums (3 * k + kind) 0 ≡ wordSum kind (drop k ws)
 
   -- The same for all kinds.
   abbrev pub SummedUp : List ℕ → List ℕ → Type 0
@@ -102,7 +106,7 @@ module _ (σ : Signature) where
     pub sum : (kind word : ℕ) → kind < 3 → word < 272 → getD adds (3 * word + kind) 0 ≡ nodeSum kind word
     pub small : SmallSums adds
 
-  -- Stored so far: the weights of so many symbols, and what so many variables add; all else as it was.
+  -- Stored so far: the weights of the symbols below n; what the variables with words below n add; all else as it was.
   abbrev pub Weighed : ℕ → List ℕ → List ℕ → Type 0
   Weighed n before after =
       ((f : ℕ) → f < n → getD after (3 * f) 0 ≡ symbolOf σ f .weight)
@@ -112,8 +116,8 @@ module _ (σ : Signature) where
 
   abbrev pub Occurring : ℕ → List ℕ → List ℕ → Type 0
   Occurring n before after =
-      ((kind x : ℕ) → kind < 3 → x < n → getD after (768 + (3 * x + kind)) 0 ≡ nodeSum kind (256 + x))
-      × ((x : ℕ) → x < n → getD after (768 + 3 * x) 0 < 65536)
-      × ((j : ℕ) → j < 768 + 3 * n → 768 ≤ j → getD after j 0 ≤ 72057594037927936)
+      ((kind word : ℕ) → kind < 3 → 256 ≤ word → word < n → getD after (3 * word + kind) 0 ≡ nodeSum kind word)
+      × ((word : ℕ) → 256 ≤ word → word < n → getD after (3 * word) 0 < 65536)
+      × ((j : ℕ) → j < 3 * n → 768 ≤ j → getD after j 0 ≤ 72057594037927936)
       × ((j : ℕ) → j < 768 → getD after j 0 ≡ getD before j 0)
-      × ((j : ℕ) → 768 + 3 * n ≤ j → getD after j 0 ≡ getD before j 0)
+      × ((j : ℕ) → 3 * n ≤ j → getD after j 0 ≡ getD before j 0)

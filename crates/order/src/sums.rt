@@ -7,13 +7,13 @@ ghost use mathlib.Core.Path.{_≡_};
 ghost use mathlib.Core.Bool.{cond};
 ghost use Prim.Native.Nat.{ℕ, _+_, _*_, _/_, _%_, _^_, _≤_, _<_};
 ghost use lib.Dec.{eqb};
-ghost use lib.ListN.{length, set};
+ghost use lib.ListN.{length};
 ghost use Rattle.terms.specs.Signature.{Signature};
 ghost use Rattle.symbols.specs.Table.{signatureOf};
 ghost use Rattle.equivalence.specs.Parts.{partAt};
 ghost use Rattle.equivalence.specs.Keys.{Prepared};
-ghost use Rattle.order.specs.Sums.{digitsWithin, SmallDigits, termSum, Bounded, AllNodes, SmallSums, Added};
-ghost use Rattle.order.specs.Sums.{Totalled, Summed, SummedUp, NodeSums, Weighed, Occurring};
+ghost use Rattle.order.specs.Sums.{digitsWithin, SmallDigits, termSum, triple, Bounded, AllNodes, SmallSums};
+ghost use Rattle.order.specs.Sums.{Added, Totalled, Summed, SummedUp, NodeSums, Weighed, Occurring};
 
 // The highest bit of each of eight digits.
 const EIGHTH_BITS: u64 = 0x8080808080808080;
@@ -52,18 +52,17 @@ fn put_weights(table: &[u16], adds: &mut [u64; 816], count: usize)
 fn put_variables(table: &[u16], adds: &mut [u64; 816])
     requires { ⌜ length (now adds) ≡ 816 ⌝ }
     ensures { λ _. ⌜
-        Occurring (signatureOf (now (table .entry))) 16 (now (adds .entry)) (now (adds .exit))
+        Occurring (signatureOf (now (table .entry))) 272 (now (adds .entry)) (now (adds .exit))
         × (length (now (adds .exit)) ≡ 816)
         ⌝ }
 {
     let own = variable_weight(table);
-    let mut x = 0;
-    while x < 16 {
-        let word = 256 + x;
-        adds[768 + 3 * x] = own;
-        adds[769 + 3 * x] = occurrence(32, word as u16);
-        adds[770 + 3 * x] = occurrence(33, word as u16);
-        x += 1;
+    let mut word = 256;
+    while word < 272 {
+        adds[3 * word] = own;
+        adds[3 * word + 1] = occurrence(32, word as u16);
+        adds[3 * word + 2] = occurrence(33, word as u16);
+        word += 1;
     }
 }
 
@@ -113,17 +112,16 @@ pub fn total(adds: &[u64; 816], words: &[u16]) -> Totals
     here
 }
 
-// Stores the sums of each kind at an offset.
+// Stores the sums for an offset.
 fn put_sums(sums: &mut [u64; 387], i: usize, here: Totals)
     requires { ⌜ i < 129 ⌝ }
     ensures { λ _. ⌜
-        now (sums .exit)
-        ≡ set (set (set (now (sums .entry)) i (here .weight)) (129 + i) (here .low)) (258 + i) (here .high)
+        now (sums .exit) ≡ triple (now (sums .entry)) i (here .weight) (here .low) (here .high)
         ⌝ }
 {
-    sums[i] = here.weight;
-    sums[129 + i] = here.low;
-    sums[258 + i] = here.high;
+    sums[3 * i] = here.weight;
+    sums[3 * i + 1] = here.low;
+    sums[3 * i + 2] = here.high;
 }
 
 // Writes the sums of all kinds over all words from each offset on, and gives those over all words.
@@ -173,7 +171,7 @@ pub fn sum_at(
         ⌝ }
 {
     let end = i + size_at(keys, i);
-    sums[129 * kind + i] - sums[129 * kind + end]
+    sums[3 * i + kind] - sums[3 * end + kind]
 }
 
 // Is each of the eight digits of `right` at most that of `left`? All are below 128: 128 more than the left digit, less

@@ -1,42 +1,31 @@
 use mathlib.Core.Path.{_≡_, refl, sym, _∙_}
-use Prim.Native.Nat.{_+_, _-_, _≤_}
+use Prim.Native.Nat.{_-_, _≤_}
 use native.Mathlib.Omega.{arith}
 use lib.ListN.{length, length-set}
 use Rattle.symbols.specs.Table.{signatureOf}
 use Rattle.order.specs.Sums.{Occurring}
 use Rattle.order.proofs.SumLaws.{occurrence-node}
-use Rattle.order.proofs.AddsLaws.{occurring-none, occurring-more}
-use Rattle.order.proofs.AddsLaws.{variable-node}
+use Rattle.order.proofs.AddsLaws.{variable-node, occurring-none, occurring-more}
 use borrow.Author.Needs.{needs}
 use Rattle.order.proofs.sums.put_variables.Statement.{statement}
 use Rattle.order.proofs.sums.put_variables.Tie as tie
 
 abbrev Inv-loop : tie.InvT-loop
-Inv-loop table adds₀ own x₀ adds x =
-    (x ≤ 16) × (length adds ≡ 816) × Occurring (signatureOf table) x adds₀ adds
+Inv-loop table adds₀ own word₀ adds word =
+    (256 ≤ word) × (word ≤ 272) × (length adds ≡ 816) × Occurring (signatureOf table) word adds₀ adds
 
 abbrev μ-loop : tie.MeasureT-loop
-μ-loop table adds₀ own x₀ adds x = 16 - x
+μ-loop table adds₀ own word₀ adds word = 272 - word
 
 variable-weight-requires : tie.Need-variable-weight-requires Inv-loop μ-loop
 variable-weight-requires c κs = search needs
 
 loop-holds : tie.Need-loop-holds Inv-loop μ-loop
-loop-holds c = (
-  omega arith,
-  c .before .before .pre,
-  occurring-none (signatureOf (c .before .before .args .table .now))
-      (c .before .before .args .adds .now),
-)
-
-add-word : tie.Need-add-word Inv-loop μ-loop
-add-word c = search needs
+loop-holds c =
+    (omega arith, omega arith, c .before .before .pre, occurring-none (signatureOf (c .before .before .args .table .now)) (c .before .before .args .adds .now))
 
 mul-adds : tie.Need-mul-adds Inv-loop μ-loop
 mul-adds c = search needs
-
-add-adds : tie.Need-add-adds Inv-loop μ-loop
-add-adds c = search needs
 
 mul-adds-2 : tie.Need-mul-adds-2 Inv-loop μ-loop
 mul-adds-2 c = search needs
@@ -53,8 +42,8 @@ occurrence-requires c κs = search needs
 mul-adds-3 : tie.Need-mul-adds-3 Inv-loop μ-loop
 mul-adds-3 c = search needs
 
-add-adds-2 : tie.Need-add-adds-2 Inv-loop μ-loop
-add-adds-2 c = search needs
+add-adds : tie.Need-add-adds Inv-loop μ-loop
+add-adds c = search needs
 
 mul-adds-4 : tie.Need-mul-adds-4 Inv-loop μ-loop
 mul-adds-4 c = search needs
@@ -71,8 +60,8 @@ occurrence-requires-2 c κs = search needs
 mul-adds-5 : tie.Need-mul-adds-5 Inv-loop μ-loop
 mul-adds-5 c = search needs
 
-add-adds-3 : tie.Need-add-adds-3 Inv-loop μ-loop
-add-adds-3 c = search needs
+add-adds-2 : tie.Need-add-adds-2 Inv-loop μ-loop
+add-adds-2 c = search needs
 
 mul-adds-6 : tie.Need-mul-adds-6 Inv-loop μ-loop
 mul-adds-6 c = search needs
@@ -80,8 +69,8 @@ mul-adds-6 c = search needs
 element-write-adds-3 : tie.Need-element-write-adds-3 Inv-loop μ-loop
 element-write-adds-3 c = search needs
 
-add-x : tie.Need-add-x Inv-loop μ-loop
-add-x c = search needs
+add-word : tie.Need-add-word Inv-loop μ-loop
+add-word c = search needs
 
 loop-less : tie.Need-loop-less Inv-loop μ-loop
 loop-less c = search needs
@@ -89,53 +78,28 @@ loop-less c = search needs
 loop-again : tie.Need-loop-again Inv-loop μ-loop
 loop-again c =
     let c3 = c .before .before .before in
-    let c4 = c3 .before in
-    let c6 = c4 .before .before in
-    let a = c6 .args in
+    let c6 = c3 .before .before .before in
+    let σ = signatureOf (c6 .args .table .now) in
     let l = c3 .loop in
+    let own = c3 .before .variable-weight in
     let low = c .before .occurrence .ensures in
     let high = c .occurrence2 .ensures in (
       omega arith,
-      simp length-set (l .inv .1),
-      occurring-more (signatureOf (a .table .now)) (l .x) (c4 .variable-weight .result) (c .before .occurrence .result)
-          (c .occurrence2 .result) (a .adds .now) (l .adds) (omega arith) (l .inv .1) (l .inv .2)
-          (c4 .variable-weight .ensures .0 ∙ sym (variable-node (signatureOf (a .table .now)) (l .x)))
-          (c4 .variable-weight .ensures .1) (low .0 ∙ occurrence-node 0 32 (256 + l .x) refl) (low .1)
-          (high .0 ∙ occurrence-node 8 33 (256 + l .x) refl) (high .1),
+      omega arith,
+      simp length-set (l .inv .2),
+      occurring-more σ (l .word) (own .result) (c .before .occurrence .result) (c .occurrence2 .result) (c6 .args .adds .now)
+          (l .adds) (l .inv .0) (omega arith) (l .inv .2) (l .inv .3)
+          (own .ensures .0 ∙ sym (variable-node σ (l .word) (l .inv .0))) (own .ensures .1)
+          (low .0 ∙ occurrence-node 0 32 (l .word) refl) (low .1)
+          (high .0 ∙ occurrence-node 8 33 (l .word) refl) (high .1),
     )
 
 returns : tie.Need-returns Inv-loop μ-loop
 returns c =
     let l = c .before .loop in
-    let e : l .x ≡ 16 = omega arith in
-    (rw e at (l .inv .2), l .inv .1)
+    let e : l .word ≡ 272 = omega arith in
+    (rw e at (l .inv .3), l .inv .2)
 
 pub put-variables-spec : {M : Type 1} → statement M
 put-variables-spec =
-    tie.close
-    (tie.spec
-    Inv-loop
-    μ-loop
-    variable-weight-requires
-    loop-holds
-    add-word
-    mul-adds
-    add-adds
-    mul-adds-2
-    element-write-adds
-    cast-occurrence
-    occurrence-requires
-    mul-adds-3
-    add-adds-2
-    mul-adds-4
-    element-write-adds-2
-    cast-occurrence-2
-    occurrence-requires-2
-    mul-adds-5
-    add-adds-3
-    mul-adds-6
-    element-write-adds-3
-    add-x
-    loop-less
-    loop-again
-    returns)
+    tie.close (tie.spec Inv-loop μ-loop variable-weight-requires loop-holds mul-adds mul-adds-2 element-write-adds cast-occurrence occurrence-requires mul-adds-3 add-adds mul-adds-4 element-write-adds-2 cast-occurrence-2 occurrence-requires-2 mul-adds-5 add-adds-2 mul-adds-6 element-write-adds-3 add-word loop-less loop-again returns)

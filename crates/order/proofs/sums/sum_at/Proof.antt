@@ -34,37 +34,19 @@ mul-result-4 c = search needs
 element-copy-out-result-2 : tie.Need-element-copy-out-result-2
 element-copy-out-result-2 c =
     let c4 = c .before .before .before .before in
-    omega (
-      arith,
-      part-fits (c4 .pre .0) (c4 .args .i) (c4 .pre .1 .1 .1),
-      c .before .size-at .ensures .0,
-      c4 .pre .1 .0 .room,
-      c4 .pre .0 .short,
-    )
+    let (P, (T, (k, h))) = c4 .pre in
+    omega (arith, part-fits P (c4 .args .i) h, c .before .size-at .ensures .0, T .room, P .short, k)
 
 sub-result : tie.Need-sub-result
-sub-result c = part-sum (c .before .before .before .before .before .pre .0)
-    (c .before .before .before .before .before .args .i) (c .before .before .before .before .before .pre .1 .1 .1)
-    (c .before .before .before .before .before .pre .1 .0) (c .before .before .size-at .ensures .0) .0
+sub-result c =
+    let c5 = c .before .before .before .before .before in
+    let (P, (T, (k, h))) = c5 .pre in part-sum P (c5 .args .i) h T (c .before .before .size-at .ensures .0) .0
 
 returns : tie.Need-returns
-returns c = part-sum (c .before .before .before .before .before .pre .0)
-    (c .before .before .before .before .before .args .i) (c .before .before .before .before .before .pre .1 .1 .1)
-    (c .before .before .before .before .before .pre .1 .0) (c .before .before .size-at .ensures .0) .1
+returns c =
+    let c5 = c .before .before .before .before .before in
+    let (P, (T, (k, h))) = c5 .pre in part-sum P (c5 .args .i) h T (c .before .before .size-at .ensures .0) .1
 
 pub sum-at-spec : {M : Type 1} → statement M
 sum-at-spec =
-    tie.close
-    (tie.spec
-    size-at-requires
-    add-end
-    mul-result
-    add-result
-    mul-result-2
-    element-copy-out-result
-    mul-result-3
-    add-result-2
-    mul-result-4
-    element-copy-out-result-2
-    sub-result
-    returns)
+    tie.close (tie.spec size-at-requires add-end mul-result add-result mul-result-2 element-copy-out-result mul-result-3 add-result-2 mul-result-4 element-copy-out-result-2 sub-result returns)

@@ -4,8 +4,8 @@ use Rattle.symbols.specs.Table.{signatureOf}
 use Rattle.order.proofs.MarkLaws.{relation-greater, relation-equivalent, relation-less, relation-none}
 use Rattle.order.proofs.WholeLaws.{left-formed, right-formed, turned}
 use borrow.Author.Needs.{needs}
-use Rattle.order.proofs.mark.relation_marked.Statement.{statement}
-use Rattle.order.proofs.mark.relation_marked.Tie as tie
+use Rattle.order.proofs.relation.relation_marked.Statement.{statement}
+use Rattle.order.proofs.relation.relation_marked.Tie as tie
 
 mark-requires : tie.Need-mark-requires
 mark-requires c κs = search needs

@@ -1,7 +1,7 @@
 use Rattle.order.proofs.WholeLaws.{left-some, right-some}
 use borrow.Author.Needs.{needs}
-use Rattle.order.proofs.mark.relation.Statement.{statement}
-use Rattle.order.proofs.mark.relation.Tie as tie
+use Rattle.order.proofs.relation.relation.Statement.{statement}
+use Rattle.order.proofs.relation.relation.Tie as tie
 
 shared-slice-read-if2 : tie.Need-shared-slice-read-if2
 shared-slice-read-if2 c =

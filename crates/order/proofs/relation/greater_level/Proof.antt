@@ -4,8 +4,8 @@ use Rattle.symbols.specs.Table.{signatureOf}
 use Rattle.equivalence.specs.Parts.{partAt}
 use Rattle.order.proofs.GreaterLaws.{greater-oftener, greater-level}
 use Rattle.order.proofs.WholeLaws.{left-some, right-some, left-weight, right-weight, totals-small, within-none}
-use Rattle.order.proofs.mark.greater_level.Statement.{statement}
-use Rattle.order.proofs.mark.greater_level.Tie as tie
+use Rattle.order.proofs.relation.greater_level.Statement.{statement}
+use Rattle.order.proofs.relation.greater_level.Tie as tie
 
 within-requires : tie.Need-within-requires
 within-requires c κs =

@@ -5,8 +5,8 @@ use Rattle.order.proofs.EquivalentLaws.{mark-of-equivalent}
 use Rattle.order.proofs.MarkLaws.{relation-equivalent}
 use Rattle.order.proofs.WholeLaws.{left-formed, right-formed}
 use borrow.Author.Needs.{needs}
-use Rattle.order.proofs.mark.relation_prepared.Statement.{statement}
-use Rattle.order.proofs.mark.relation_prepared.Tie as tie
+use Rattle.order.proofs.relation.relation_prepared.Statement.{statement}
+use Rattle.order.proofs.relation.relation_prepared.Tie as tie
 
 prepare-both-requires : tie.Need-prepare-both-requires
 prepare-both-requires c κs =

@@ -4,8 +4,8 @@ use mir.Syntax.{w64}
 use mir.ValLaws.{toZ-ofZ}
 use Rattle.order.proofs.MarginLaws.{difference, difference-fits}
 use borrow.Author.Needs.{needs}
-use Rattle.order.proofs.mark.margin.Statement.{statement}
-use Rattle.order.proofs.mark.margin.Tie as tie
+use Rattle.order.proofs.relation.margin.Statement.{statement}
+use Rattle.order.proofs.relation.margin.Tie as tie
 
 cast-result : tie.Need-cast-result
 cast-result c = search needs

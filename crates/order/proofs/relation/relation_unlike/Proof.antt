@@ -3,8 +3,8 @@ use Rattle.terms.specs.Words.{termOf}
 use Rattle.symbols.specs.Table.{signatureOf}
 use Rattle.order.proofs.MarkLaws.{level-one, level-two, level-four}
 use Rattle.order.proofs.WholeLaws.{turned, scales-turned}
-use Rattle.order.proofs.mark.relation_unlike.Statement.{statement}
-use Rattle.order.proofs.mark.relation_unlike.Tie as tie
+use Rattle.order.proofs.relation.relation_unlike.Statement.{statement}
+use Rattle.order.proofs.relation.relation_unlike.Tie as tie
 
 greater-level-requires : tie.Need-greater-level-requires
 greater-level-requires c κs =

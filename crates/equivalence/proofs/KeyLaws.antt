@@ -53,9 +53,6 @@ module _ (σ : Signature) where
     unfolding hash
     hash-pair s t = rw (a, added-ac, added-ac)
 
-    own-part : (s t : Term) → part f f (hash σ (app f (pair s t))) ≡ hash σ (app f (pair s t))
-    own-part s t = rw (eqb-self f)
-
   mutual
     unfolding hash
 

@@ -2,7 +2,7 @@
 --     nothing-owed, none-allowed                               its ends
 --     node-fault, unknown-symbol, variable-read, symbol-read   its step, by what the source gives as a node
 --     forest-short                                             how many nodes were read
-use mathlib.Core.Path.{_≡_, refl, sym, ap, _∙_}
+use mathlib.Core.Path.{_≡_, refl, ap, _∙_}
 use mathlib.Core.List.{List, [], _∷_}
 use mathlib.Core.Bool.{Bool, true, false, cond, _||_}
 use Prim.Native.Nat.{ℕ, suc, zero, _+_, _-_, _≤_, _<_}

@@ -1,7 +1,7 @@
 -- Node counts, by which the comparison ends: of what is chosen, of what is left, of the terms inside and after.
 --     choose-sum, cancel-within          what is chosen and what is left is no more
 --     joined-sum, above-variables        the joined high part
---     elements-sum, chosen-sum           the elements of a flattening
+--     elements-sum                       the elements of a flattening
 --     next-total                         the terms after a term
 --     partNodes, rowNodes, offsetNodes   what falls
 --     inner-rows, -nodes, -elements      the arguments of two terms with the same root
@@ -128,9 +128,6 @@ module _ (σ : Signature) (f : ℕ) (xs ys : List Term) where
 module _ (σ : Signature) (f : ℕ) (ws : List ℕ) (i n : ℕ) where
   pub elements-sum : sum size (elementsAt σ f ws i n) ≤ total (partsAt σ ws i n)
   elements-sum = flat-sums f (arguments (partsAt σ ws i n))
-
-  pub chosen-sum : (p : Term → Bool) → sum size (choose p (elementsAt σ f ws i n)) ≤ total (partsAt σ ws i n)
-  chosen-sum p = omega (arith, elements-sum, choose-sum size p (elementsAt σ f ws i n))
 
 module _ {σ : Signature} {ws ps : List ℕ} {m : ℕ} {l : List Term} (P : Offsets σ ws ps m l) where
   pub offset-size : (k : ℕ) → k < m → size (partAt σ ws (getD ps k 0)) ≤ sum size l

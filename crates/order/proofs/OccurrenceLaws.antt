@@ -1,16 +1,16 @@
 -- Occurrences of eight variables as digits of one number: comparing digits compares occurrences.
 --     packed-small                         each digit is small
---     none-oftener-of, oftener-low, -high  the test of all sixteen variables
---     few-small, few-low, few-both         that test, by the sums at two offsets
+--     halves-none                          the test of all sixteen variables
+--     few-small, few-halves                that test, by the sums at two offsets
 use mathlib.Core.List.{List}
-use mathlib.Core.Path.{_≡_, refl, sym, _∙_}
-use mathlib.Core.Bool.{Bool, true, false, cond, false≢true, and-eq-true-iff as both}
+use mathlib.Core.Path.{_≡_, refl}
+use mathlib.Core.Bool.{Bool, true, cond, _&&_, and-eq-true-iff as both}
 use Prim.Native.Nat.{ℕ, suc, zero, _+_, _-_, _*_, _/_, _%_, _≤_, _<_}
 use native.Mathlib.Omega.{arith}
 use lib.Dec.{eqb, leb}
 use lib.ListN.{length}
 use borrow.Author.Tests.{leb-true, le-leb}
-use Rattle.multisets.proofs.Relations.{byTest, byOrder}
+use Rattle.multisets.proofs.Relations.{byTest, byOrder, sameTest}
 use Rattle.terms.specs.Signature.{Signature}
 use Rattle.terms.specs.Term.{Term, Terms, size, sizes, measure, measures, occurrences, variableCount}
 use Rattle.terms.specs.Term.Term.{var, app}
@@ -100,25 +100,21 @@ module _ (s t : Term) (p : size s ≤ 128) (q : size t ≤ 128) where
       byOrder k x (λ z. within-each n (suc k) (g .1) x (omega arith) (omega arith))
       λ z. let y : x ≡ k = omega arith in rw y (leb-true _ _ (g .0))
 
-  pub none-oftener-of : digitsWithin 8 (packed 0 8 s) (packed 0 8 t) ≡ true →
-      digitsWithin 8 (packed 8 8 s) (packed 8 8 t) ≡ true → true ≡ noneOftener variableCount s t
-  none-oftener-of e d =
-      sym (noneOftener-facts variableCount s t .1 λ x l.
-      byOrder x 8 (λ a. within-each 8 0 e x (omega arith) (omega arith)) λ a. within-each 8 8 d x a (omega arith))
+  -- The digits of both halves, and all sixteen variables.
+  abbrev halves : Bool
+  halves = digitsWithin 8 (packed 0 8 s) (packed 0 8 t) && digitsWithin 8 (packed 8 8 s) (packed 8 8 t)
 
-  oftener-of : (k : ℕ) → k + 8 ≤ variableCount → digitsWithin 8 (packed k 8 s) (packed k 8 t) ≡ false →
-      false ≡ noneOftener variableCount s t
-  oftener-of k h e =
-      byTest (noneOftener variableCount s t)
-      (λ d. absurd (false≢true (sym e ∙ within-all 8 k λ x l m. noneOftener-facts variableCount s t .0 d x
-      (omega arith))))
-      λ d. sym d
-
-  pub oftener-low : digitsWithin 8 (packed 0 8 s) (packed 0 8 t) ≡ false → false ≡ noneOftener variableCount s t
-  oftener-low e = oftener-of 0 (omega arith) e
-
-  pub oftener-high : digitsWithin 8 (packed 8 8 s) (packed 8 8 t) ≡ false → false ≡ noneOftener variableCount s t
-  oftener-high e = oftener-of 8 (omega arith) e
+  pub halves-none : halves ≡ noneOftener variableCount s t
+  halves-none =
+      let facts = noneOftener-facts variableCount s t in
+      sameTest halves (noneOftener variableCount s t)
+      (λ e. let (low, high) = both (digitsWithin 8 (packed 0 8 s) (packed 0 8 t)) _ .0 e in
+      facts .1 λ x l. byOrder x 8 (λ a. within-each 8 0 low x (omega arith) (omega arith))
+      λ a. within-each 8 8 high x a (omega arith))
+      λ d. both _ _ .1 (
+        within-all 8 0 (λ x l m. facts .0 d x (omega arith)),
+        within-all 8 8 (λ x l m. facts .0 d x (omega arith)),
+      )
 
 -- ---- by the sums at two offsets
 
@@ -139,15 +135,7 @@ module _ (table : List ℕ) {s sk t tk : List ℕ} (P : Prepared (signatureOf ta
   few-small n m d e =
       (rw d (packed-small (partAt σ s i) small-left n m), rw e (packed-small (partAt σ t j) small-right n m))
 
-  module _ {a b : ℕ} (d : a ≡ termSum σ 1 (partAt σ s i)) (e : b ≡ termSum σ 1 (partAt σ t j)) where
-    pub few-low : digitsWithin 8 a b ≡ false → false ≡ noneOftener variableCount (partAt σ s i) (partAt σ t j)
-    few-low w = oftener-low (partAt σ s i) (partAt σ t j) small-left small-right (rw (d, e) at w)
-
-    pub few-both : digitsWithin 8 a b ≡ true → {a' b' : ℕ} → a' ≡ termSum σ 2 (partAt σ s i) →
-        b' ≡ termSum σ 2 (partAt σ t j) → {r : Bool} → r ≡ digitsWithin 8 a' b' →
-        r ≡ noneOftener variableCount (partAt σ s i) (partAt σ t j)
-    few-both w d' e' {r} q =
-        byTest r
-        (λ z. rw z (none-oftener-of (partAt σ s i) (partAt σ t j) small-left small-right (rw (d, e) at w)
-        (rw (d', e', z) at (sym q))))
-        λ z. rw z (oftener-high (partAt σ s i) (partAt σ t j) small-left small-right (rw (d', e', z) at (sym q)))
+  pub few-halves : {a b a' b' : ℕ} → a ≡ termSum σ 1 (partAt σ s i) → b ≡ termSum σ 1 (partAt σ t j) →
+      a' ≡ termSum σ 2 (partAt σ s i) → b' ≡ termSum σ 2 (partAt σ t j) →
+      (digitsWithin 8 a b && digitsWithin 8 a' b') ≡ noneOftener variableCount (partAt σ s i) (partAt σ t j)
+  few-halves d e d' e' = rw (d, e, d', e') (halves-none (partAt σ s i) (partAt σ t j) small-left small-right)

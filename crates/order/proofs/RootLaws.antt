@@ -2,7 +2,7 @@
 --     lex-none, lex-here, lex-more                                    rows of arguments
 --     root-variable, -differing, -elements, -rows, -row               the mark by the roots
 use mathlib.Core.List.{List}
-use mathlib.Core.Path.{_≡_, refl, sym, ap, ap₂, _∙_}
+use mathlib.Core.Path.{_≡_, ap, ap₂, _∙_}
 use mathlib.Core.Bool.{Bool, true, false, cond}
 use Prim.Native.Nat.{ℕ, _+_, _-_, _≤_, _<_}
 use native.Mathlib.Omega.{arith}

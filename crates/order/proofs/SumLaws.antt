@@ -13,16 +13,14 @@ use lib.Dec.{ltb, eqb}
 use lib.ListN.{length, getD, take, drop, take-append-drop}
 use borrow.Author.Tests.{lt-ltb, le-ltb, eq-eqb, ne-eqb}
 use Rattle.multisets.proofs.Relations.{byTest, byOrder}
-use Rattle.terms.specs.Signature.{Symbol, Signature, symbolOf}
+use Rattle.terms.specs.Signature.{Signature, symbolOf}
 use Rattle.terms.specs.Term.{Term, size, measure, measures, arguments}
 use Rattle.terms.specs.Words.{firstVariable, grow, forestOf}
-use Rattle.symbols.specs.Table.{signatureOf}
-use Rattle.symbols.proofs.TableLaws.{symbol-at}
 use Rattle.equivalence.specs.Parts.{partAt}
 use Rattle.equivalence.specs.Keys.{Prepared, sizeIn}
 use Rattle.equivalence.proofs.PartLaws.{next, stand-one}
 use Rattle.equivalence.proofs.StepLaws.{prepared-size, part-small}
-use Rattle.order.specs.Sums.{node, nodes, digit, atVariable, atSymbol, nodeSum, wordSum, termSum, Summed}
+use Rattle.order.specs.Sums.{node, nodes, digit, atVariable, atSymbol, wordSum, termSum, Summed}
 
 -- ---- sums over words
 

@@ -4,15 +4,13 @@
 --     left-weight, right-weight, totals-small, totals-margin, within-none     what their totals say
 --     whole-sides                              both sides, prepared
 use mathlib.Core.List.{List, [], _∷_, _++_}
-use mathlib.Core.Path.{_≡_, refl, sym, ap, ap₂, _∙_}
-use mathlib.Core.Bool.{Bool, true, false, cond}
+use mathlib.Core.Path.{_≡_, refl, sym, ap₂, _∙_}
 use Prim.Native.Nat.{ℕ, _+_, _-_, _≤_, _<_}
 use native.Mathlib.Omega.{arith}
 use lib.IntN.{subℕ}
-use lib.ListN.{length, getD}
+use lib.ListN.{length}
 use borrow.Author.Tests.{lt-ltb, le-ltb}
-use Rattle.multisets.proofs.Relations.{byTest}
-use Rattle.terms.specs.Signature.{Signature, symbolOf}
+use Rattle.terms.specs.Signature.{Signature}
 use Rattle.terms.specs.Term.{Term, Terms, size, measure, measures, WellFormed, WellFormeds}
 use Rattle.terms.specs.Term.Term.{var, app}
 use Rattle.terms.specs.Term.Terms.{nil, cons}
@@ -21,15 +19,15 @@ use Rattle.terms.specs.Order.{margin}
 use Rattle.terms.proofs.WordsLaws.{length-words, termOf-words}
 use Rattle.symbols.specs.Table.{signatureOf}
 use Rattle.symbols.proofs.TableLaws.{few-at}
-use Rattle.equivalence.specs.Parts.{IsTerm, Complete, partAt}
+use Rattle.equivalence.specs.Parts.{IsTerm, Complete}
 use Rattle.equivalence.specs.Keys.{Prepared, Sides}
 use Rattle.equivalence.proofs.StepLaws.{node-range}
 use Rattle.equivalence.proofs.FormedLaws.{term-some, term-complete}
-use Rattle.order.specs.Sums.{nodes, atVariable, atSymbol, wordSum, termSum, digitsWithin, SmallTotals}
+use Rattle.order.specs.Sums.{nodes, atVariable, atSymbol, wordSum, termSum, SmallTotals}
 use Rattle.order.specs.Sums.{totalsWithin, AllNodes, Totalled}
 use Rattle.order.specs.declared.sums.Totals.{Totals}
 use Rattle.order.specs.Compared.{Whole, Scales, weightAt, noneOftenerAt}
-use Rattle.order.proofs.OccurrenceLaws.{packed-small, none-oftener-of, oftener-low, oftener-high}
+use Rattle.order.proofs.OccurrenceLaws.{packed-small, halves-none}
 
 module _ (σ : Signature) (few : length (σ .symbols) ≤ 256) (v w : ℕ → ℕ) where
   nodes-append : (us vs : List ℕ) → nodes v w (us ++ vs) ≡ nodes v w us + nodes v w vs
@@ -128,19 +126,13 @@ module _ {table s t : List ℕ} (S : Whole table s t) where
     pub within-none : totalsWithin a b ≡ noneOftenerAt table s 0 t 0
     within-none =
         let σ = signatureOf table in
-        let x = termOf σ s in
-        let y = termOf σ t in
-        let p : size x ≤ 128 = omega (arith, whole-small σ few s (S .left), S .leftShort) in
-        let q : size y ≤ 128 = omega (arith, whole-small σ few t (S .right), S .rightShort) in
-        let e = A .low ∙ whole-sum σ few 1 s (S .left) in
-        let f = B .low ∙ whole-sum σ few 1 t (S .right) in
-        let g = A .high ∙ whole-sum σ few 2 s (S .left) in
-        let h = B .high ∙ whole-sum σ few 2 t (S .right) in
-        byTest (digitsWithin 8 (a .low) (b .low))
-        (λ l. byTest (digitsWithin 8 (a .high) (b .high))
-        (λ m. rw (l, m) (none-oftener-of x y p q (rw (e, f) at l) (rw (g, h) at m)))
-        λ m. rw (l, m) (oftener-high x y p q (rw (g, h) at m)))
-        λ l. rw l (oftener-low x y p q (rw (e, f) at l))
+        rw (
+          A .low ∙ whole-sum σ few 1 s (S .left),
+          B .low ∙ whole-sum σ few 1 t (S .right),
+          A .high ∙ whole-sum σ few 2 s (S .left),
+          B .high ∙ whole-sum σ few 2 t (S .right),
+        ) (halves-none (termOf σ s) (termOf σ t) (omega (arith, whole-small σ few s (S .left), S .leftShort))
+        (omega (arith, whole-small σ few t (S .right), S .rightShort)))
 
   module _ {sk tk : List ℕ} (P : Prepared (signatureOf table) s sk) (Q : Prepared (signatureOf table) t tk) where
     pub whole-sides : Sides table s sk t tk

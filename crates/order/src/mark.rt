@@ -11,7 +11,7 @@ use symbols::arity;
 use symbols::is_ac;
 ghost use mathlib.Core.Bool.{true, false};
 ghost use mathlib.Core.Path.{_≡_};
-ghost use Prim.Native.Nat.{_≤_, _<_};
+ghost use Prim.Native.Nat.{_<_};
 ghost use lib.ListN.{length, getD};
 ghost use Rattle.terms.specs.Words.{termOf};
 ghost use Rattle.terms.specs.Order.{mark as markOf};

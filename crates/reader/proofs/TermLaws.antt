@@ -4,7 +4,7 @@
 --     node-read, node-unknown              what follows a node, by its cell in the table of arities
 --     answers-none, answers-many, answers-fault, answers-before     the number that answers a reading
 --     side-read, side-fault                a side, from that number
-use mathlib.Core.Path.{_≡_, refl, sym, ap, _∙_}
+use mathlib.Core.Path.{_≡_, sym, ap, _∙_}
 use mathlib.Core.List.{List, [], _∷_, _++_}
 use Prim.Native.Nat.{ℕ, suc, _+_, _-_, _*_, _/_, _%_, _^_, _≤_, _<_}
 use native.Mathlib.Nat.{add-zero, suc-add, add-suc}
@@ -19,7 +19,7 @@ use Rattle.format.specs.Layout.{maxNodes}
 use Rattle.format.specs.Reading.{Reading, Node, Source}
 use Rattle.format.specs.Reading.Reading.{got, fault}
 use Rattle.format.specs.Format.{forestReader}
-use Rattle.format.proofs.ForestLaws.{before, nothing-owed, none-allowed, node-fault, unknown-symbol, variable-read}
+use Rattle.format.proofs.ForestLaws.{before, nothing-owed, none-allowed, unknown-symbol, variable-read}
 use Rattle.format.proofs.ForestLaws.{symbol-read}
 use Rattle.symbols.specs.Arities.{cellOf, Arities}
 use Rattle.symbols.proofs.ArityLaws.{variable-cell, symbol-cell, no-cell}

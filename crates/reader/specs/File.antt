@@ -11,7 +11,7 @@ use Rattle.format.specs.Reading.Reading.{got, fault}
 use Rattle.format.specs.Format.{Sides, RuleFile, symbolsReader, rulesReader}
 use Rattle.format.specs.Files.{paddingReader}
 use Rattle.terms.specs.Signature.{Symbol, Signature, Admissible}
-use Rattle.format.specs.Packing.{itemWord, symbolItems, unpacked}
+use Rattle.format.specs.Packing.{itemWord, symbolItems}
 use Rattle.symbols.specs.Table.{signatureOf}
 use Rattle.reader.specs.declared.rule.Stored.{Stored}
 use Rattle.reader.specs.declared.rule.Stored.the-variants.{Past}

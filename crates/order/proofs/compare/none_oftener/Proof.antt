@@ -1,6 +1,6 @@
 use native.Mathlib.Omega.{arith}
 use mathlib.Core.Path.{sym, _∙_}
-use Rattle.order.proofs.OccurrenceLaws.{few-small, few-both, few-low}
+use Rattle.order.proofs.OccurrenceLaws.{few-small, few-halves}
 use Rattle.order.proofs.compare.none_oftener.Statement.{statement}
 use Rattle.order.proofs.compare.none_oftener.Tie as tie
 
@@ -51,19 +51,22 @@ returns c =
     let c15 = c12 .before .before .before in
     let a = c15 .args in
     let h = c15 .pre in
-    few-both (a .table .now .now) (h .0 .sides .left) (h .0 .sides .right) (a .i) (a .j) (h .1 .0) (h .1 .1)
-    (c12 .sum-at .ensures) (c9 .sum-at2 .ensures) (sym (c .before .before .digits-within .ensures) ∙ c .if1 .taken)
-    (c6 .sum-at3 .ensures) (c3 .sum-at4 .ensures) (c .before .digits-within2 .ensures)
+    let all = few-halves (a .table .now .now) (h .0 .sides .left) (h .0 .sides .right) (a .i) (a .j) (h .1 .0) (h .1 .1)
+    (c12 .sum-at .ensures) (c9 .sum-at2 .ensures) (c6 .sum-at3 .ensures) (c3 .sum-at4 .ensures) in
+    c .before .digits-within2 .ensures ∙ (rw (sym (c .before .before .digits-within .ensures) ∙ c .if1 .taken) at all)
 
 returns-2 : tie.Need-returns-2
 returns-2 c =
-    let c9 = c .before .before .before .before .before .before .before .before .before in
+    let c3 = c .before .before .before in
+    let c6 = c3 .before .before .before in
+    let c9 = c6 .before .before .before in
     let c12 = c9 .before .before .before in
     let c15 = c12 .before .before .before in
     let a = c15 .args in
     let h = c15 .pre in
-    few-low (a .table .now .now) (h .0 .sides .left) (h .0 .sides .right) (a .i) (a .j) (h .1 .0) (h .1 .1)
-    (c12 .sum-at .ensures) (c9 .sum-at2 .ensures) (sym (c .before .before .digits-within .ensures) ∙ c .if1 .left)
+    let all = few-halves (a .table .now .now) (h .0 .sides .left) (h .0 .sides .right) (a .i) (a .j) (h .1 .0) (h .1 .1)
+    (c12 .sum-at .ensures) (c9 .sum-at2 .ensures) (c6 .sum-at3 .ensures) (c3 .sum-at4 .ensures) in
+    rw (sym (c .before .before .digits-within .ensures) ∙ c .if1 .left) at all
 
 pub none-oftener-spec : {M : Type 1} → statement M
 none-oftener-spec =

@@ -67,7 +67,7 @@ pub fn families() -> Vec<Family> {
     for shape in [RIGHT_COMB, LEFT_COMB, WIDE_CONSTANTS, WIDE_VARIABLES, WIDE_UNARY, WIDE_DEEP] {
         families.extend(kinds(shape));
     }
-    for shape in [ALTERNATING, BALANCED, NESTED] {
+    for shape in [ALTERNATING, DEEPEST, BALANCED, NESTED] {
         families.extend(kinds(shape));
     }
     families.push(Family::new("left-comb/first", |nodes| {

@@ -84,6 +84,9 @@ pub const ALTERNATING: Shape = Shape {
     join: |leaves, regrouped| levels(leaves, regrouped, |tree, _| tree),
 };
 
+/// Two AC symbols in turn, with one leaf at each level: as deep as they nest.
+pub const DEEPEST: Shape = Shape { name: "deepest", join: deepest, ..RIGHT_COMB };
+
 /// Two AC symbols in turn over two halves at each level; all leaves but one are alike.
 pub const BALANCED: Shape = Shape {
     name: "balanced",
@@ -159,6 +162,16 @@ fn levels(mut leaves: Vec<Tree>, regrouped: bool, wrap: fn(Tree, usize) -> Tree)
         let members = if regrouped { vec![tree, second, first] } else { vec![first, second, tree] };
         let join = if regrouped { left_comb } else { right_comb };
         tree = wrap(join([PLUS, TIMES][level % 2], members), level);
+    }
+    tree
+}
+
+/// Levels of two AC symbols in turn, a leaf and the next level at each; the last leaf is innermost.
+fn deepest(mut leaves: Vec<Tree>, regrouped: bool) -> Tree {
+    let mut tree = leaves.pop().expect("there is a leaf");
+    while let Some(leaf) = leaves.pop() {
+        let (left, right) = if regrouped { (tree, leaf) } else { (leaf, tree) };
+        tree = binary([PLUS, TIMES][leaves.len() % 2], left, right);
     }
     tree
 }

@@ -15,8 +15,13 @@ node-sums-requires c κs = search needs
 sum-up-requires : tie.Need-sum-up-requires
 sum-up-requires c κs =
     let c6 = c .before .before .before .before .before .before in
-    let ((small, admissible), (left, right)) = c6 .pre in
-    (left .short, refl, c .before .before .node-sums .ensures .small, left-nodes (whole-terms small admissible left right))
+    let ((small, admissible), (left, right)) = c6 .pre in (
+      left .short,
+      refl,
+      c .before .before .node-sums .ensures .small,
+      left-nodes
+          (whole-terms small admissible left right),
+    )
 
 sum-up-requires-2 : tie.Need-sum-up-requires-2
 sum-up-requires-2 c κs =
@@ -55,7 +60,8 @@ returns c =
     let N = c12 .node-sums .ensures in
     let ((small, admissible), (left, right)) = c16 .pre in
     let S = whole-terms small admissible left right in
-    let margin = c .margin .ensures ∙ totals-margin S (c9 .sum-up .ensures .1 .0 σ N) (c6 .sum-up2 .ensures .1 .0 σ N) in
+    let margin = c .margin .ensures ∙ totals-margin S (c9 .sum-up .ensures .1 .0 σ N) (c6 .sum-up2 .ensures .1 .0 σ N)
+    in
     rw (toZ-ofZ w64 (c .margin .result) (record { sfits = c .margin .ok }))
     (terms-read σ (termOf σ (a .left .now)) (termOf σ (a .right .now)) _ _ _ (c .before .numbered .ensures)
     (c .before .before .relation .ensures) margin)

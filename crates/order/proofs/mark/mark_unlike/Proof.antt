@@ -25,8 +25,10 @@ arguments-mark-requires c κs =
     let c4 = c .before .before .before .before in
     let c9 = c4 .before .before .before .before .before in
     let σ = signatureOf (c9 .args .table .now) in
-    let (S, (p, q, R, N, u)) = c9 .pre in
-    (record { sides = S; left = c4 .sum-up .ensures .0 σ N; right = c .before .before .sum-up2 .ensures .0 σ N }, (p, q, R .root))
+    let (S, (p, q, R, N, u)) = c9 .pre in (
+      record { sides = S; left = c4 .sum-up .ensures .0 σ N; right = c .before .before .sum-up2 .ensures .0 σ N },
+      (p, q, R .root),
+    )
 
 returns : tie.Need-returns
 returns c =

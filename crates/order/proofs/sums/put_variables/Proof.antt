@@ -21,8 +21,13 @@ variable-weight-requires : tie.Need-variable-weight-requires Inv-loop μ-loop
 variable-weight-requires c κs = search needs
 
 loop-holds : tie.Need-loop-holds Inv-loop μ-loop
-loop-holds c =
-    (omega arith, omega arith, c .before .before .pre, occurring-none (signatureOf (c .before .before .args .table .now)) (c .before .before .args .adds .now))
+loop-holds c = (
+  omega arith,
+  omega arith,
+  c .before .before .pre,
+  occurring-none
+      (signatureOf (c .before .before .args .table .now)) (c .before .before .args .adds .now),
+)
 
 mul-adds : tie.Need-mul-adds Inv-loop μ-loop
 mul-adds c = search needs
@@ -87,7 +92,8 @@ loop-again c =
       omega arith,
       omega arith,
       simp length-set (l .inv .2),
-      occurring-more σ (l .word) (own .result) (c .before .occurrence .result) (c .occurrence2 .result) (c6 .args .adds .now)
+      occurring-more σ (l .word) (own .result) (c .before .occurrence .result) (c .occurrence2 .result)
+          (c6 .args .adds .now)
           (l .adds) (l .inv .0) (omega arith) (l .inv .2) (l .inv .3)
           (own .ensures .0 ∙ sym (variable-node σ (l .word) (l .inv .0))) (own .ensures .1)
           (low .0 ∙ occurrence-node 0 32 (l .word) refl) (low .1)
@@ -102,4 +108,6 @@ returns c =
 
 pub put-variables-spec : {M : Type 1} → statement M
 put-variables-spec =
-    tie.close (tie.spec Inv-loop μ-loop variable-weight-requires loop-holds mul-adds mul-adds-2 element-write-adds cast-occurrence occurrence-requires mul-adds-3 add-adds mul-adds-4 element-write-adds-2 cast-occurrence-2 occurrence-requires-2 mul-adds-5 add-adds-2 mul-adds-6 element-write-adds-3 add-word loop-less loop-again returns)
+    tie.close (tie.spec Inv-loop μ-loop variable-weight-requires loop-holds mul-adds mul-adds-2 element-write-adds
+    cast-occurrence occurrence-requires mul-adds-3 add-adds mul-adds-4 element-write-adds-2 cast-occurrence-2
+    occurrence-requires-2 mul-adds-5 add-adds-2 mul-adds-6 element-write-adds-3 add-word loop-less loop-again returns)

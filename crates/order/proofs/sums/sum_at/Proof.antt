@@ -49,4 +49,5 @@ returns c =
 
 pub sum-at-spec : {M : Type 1} → statement M
 sum-at-spec =
-    tie.close (tie.spec size-at-requires add-end mul-result add-result mul-result-2 element-copy-out-result mul-result-3 add-result-2 mul-result-4 element-copy-out-result-2 sub-result returns)
+    tie.close (tie.spec size-at-requires add-end mul-result add-result mul-result-2 element-copy-out-result mul-result-3
+    add-result-2 mul-result-4 element-copy-out-result-2 sub-result returns)

@@ -85,4 +85,5 @@ returns c =
 
 pub sum-up-spec : {M : Type 1} → statement M
 sum-up-spec =
-    tie.close (tie.spec Inv-loop μ-loop put-sums-requires loop-holds sub-i mul-with-node shared-slice-read-with-node with-node-requires put-sums-requires-2 loop-less loop-again returns)
+    tie.close (tie.spec Inv-loop μ-loop put-sums-requires loop-holds sub-i mul-with-node shared-slice-read-with-node
+    with-node-requires put-sums-requires-2 loop-less loop-again returns)

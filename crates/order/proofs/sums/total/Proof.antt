@@ -63,4 +63,5 @@ returns c =
 
 pub total-spec : {M : Type 1} → statement M
 total-spec =
-    tie.close (tie.spec Inv-loop μ-loop loop-holds sub-i mul-with-node shared-slice-read-with-node with-node-requires loop-less loop-again returns)
+    tie.close (tie.spec Inv-loop μ-loop loop-holds sub-i mul-with-node shared-slice-read-with-node with-node-requires
+    loop-less loop-again returns)

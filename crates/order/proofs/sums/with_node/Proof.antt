@@ -36,7 +36,12 @@ add-t15 : tie.Need-add-t15
 add-t15 c =
     let c4 = c .before .before .before .before in
     let w = c4 .wide in
-    omega (arith, c4 .before .pre .0 .low, c4 .before .pre .1 .place (3 * w .result + 1) (omega (arith, c4 .before .pre .2, w .ensures .0)))
+    omega (
+      arith,
+      c4 .before .pre .0 .low,
+      c4 .before .pre .1 .place (3 * w .result + 1)
+          (omega (arith, c4 .before .pre .2, w .ensures .0)),
+    )
 
 add-t16 : tie.Need-add-t16
 add-t16 c = search needs
@@ -51,7 +56,12 @@ add-t21 : tie.Need-add-t21
 add-t21 c =
     let c6 = c .before .before .before .before .before .before in
     let w = c6 .wide in
-    omega (arith, c6 .before .pre .0 .high, c6 .before .pre .1 .place (3 * w .result + 2) (omega (arith, c6 .before .pre .2, w .ensures .0)))
+    omega (
+      arith,
+      c6 .before .pre .0 .high,
+      c6 .before .pre .1 .place (3 * w .result + 2)
+          (omega (arith, c6 .before .pre .2, w .ensures .0)),
+    )
 
 returns : tie.Need-returns
 returns c =
@@ -69,4 +79,5 @@ returns c =
 
 pub with-node-spec : {M : Type 1} → statement M
 with-node-spec =
-    tie.close (tie.spec wide-requires mul-at mul-t5 element-copy-out-t8 add-t9 add-t10 mul-t11 element-copy-out-t14 add-t15 add-t16 mul-t17 element-copy-out-t20 add-t21 returns)
+    tie.close (tie.spec wide-requires mul-at mul-t5 element-copy-out-t8 add-t9 add-t10 mul-t11 element-copy-out-t14
+    add-t15 add-t16 mul-t17 element-copy-out-t20 add-t21 returns)

@@ -9,21 +9,6 @@ use borrow.Author.Needs.{needs}
 use Rattle.ackbo.proofs.ackbo_compare.Statement.{statement}
 use Rattle.ackbo.proofs.ackbo_compare.Tie as tie
 
-compare-requires : tie.Need-compare-requires
-compare-requires c κs = search needs
-
-enum-known-comparison : tie.Need-enum-known-comparison
-enum-known-comparison c = search needs
-
-relation-value-requires : tie.Need-relation-value-requires
-relation-value-requires c κs = search needs
-
-put-reply-requires : tie.Need-put-reply-requires
-put-reply-requires c κs = search needs
-
-enum-known-error : tie.Need-enum-known-error
-enum-known-error c = search needs
-
 put-error-requires : tie.Need-put-error-requires
 put-error-requires c κs =
     let a = c .before .before .before .before .before .before .before .before .args in
@@ -54,13 +39,5 @@ returns-2 c =
 
 pub ackbo-compare-spec : {M : Type 1} → statement M
 ackbo-compare-spec =
-    tie.close
-    (tie.spec
-    compare-requires
-    enum-known-comparison
-    relation-value-requires
-    put-reply-requires
-    enum-known-error
-    put-error-requires
-    returns
-    returns-2)
+    tie.close (tie.spec (λ c κs. search needs) (λ c. search needs) (λ c κs. search needs) (λ c κs. search needs)
+    (λ c. search needs) put-error-requires returns returns-2)

@@ -6,12 +6,6 @@ use borrow.Author.Needs.{needs}
 use Rattle.ackbo.proofs.ackbo_decode.Statement.{statement}
 use Rattle.ackbo.proofs.ackbo_decode.Tie as tie
 
-decode-requires : tie.Need-decode-requires
-decode-requires c κs = search needs
-
-enum-known-count : tie.Need-enum-known-count
-enum-known-count c = search needs
-
 put-counts-requires : tie.Need-put-counts-requires
 put-counts-requires c κs =
     let a = c .before .before .before .before .before .before .before .before .before .before .args in
@@ -20,9 +14,6 @@ put-counts-requires c κs =
     let small = decoded-small (a .book .now) (a .words .now) (omega (arith, good .1 .0 .1)) in
     (value-small (λ n. n) _ small _ (rw (c .before .before .count .given .1) at reply), omega arith, omega arith)
 
-enum-known-error : tie.Need-enum-known-error
-enum-known-error c = search needs
-
 put-error-requires : tie.Need-put-error-requires
 put-error-requires c κs =
     let a = c .before .before .before .before .before .before .before .before .before .before .args in
@@ -30,9 +21,6 @@ put-error-requires c κs =
     let reply = c .before .before .before .before .before .before .decode .ensures .0 in
     let small = decoded-small (a .book .now) (a .words .now) (omega (arith, good .1 .0 .1)) in
     offset-small (λ n. n) _ small _ (rw (c .before .before .error .given .1) at reply)
-
-same-length : tie.Need-same-length
-same-length c = search needs
 
 returns : tie.Need-returns
 returns c =
@@ -43,9 +31,6 @@ returns c =
     let (code, values) =
     accepts countValues _ _ entry _ _ reply (c .put-counts .ensures .0) (c .put-counts .ensures .1) in
     (code, (values, gave .1))
-
-same-length-2 : tie.Need-same-length-2
-same-length-2 c = search needs
 
 returns-2 : tie.Need-returns-2
 returns-2 c =
@@ -59,14 +44,5 @@ returns-2 c =
 
 pub ackbo-decode-spec : {M : Type 1} → statement M
 ackbo-decode-spec =
-    tie.close
-    (tie.spec
-    decode-requires
-    enum-known-count
-    put-counts-requires
-    enum-known-error
-    put-error-requires
-    same-length
-    returns
-    same-length-2
-    returns-2)
+    tie.close (tie.spec (λ c κs. search needs) (λ c. search needs) put-counts-requires (λ c. search needs)
+    put-error-requires (λ c. search needs) returns (λ c. search needs) returns-2)

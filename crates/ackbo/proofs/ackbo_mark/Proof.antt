@@ -6,12 +6,6 @@ use borrow.Author.Needs.{needs}
 use Rattle.ackbo.proofs.ackbo_mark.Statement.{statement}
 use Rattle.ackbo.proofs.ackbo_mark.Tie as tie
 
-mark-requires : tie.Need-mark-requires
-mark-requires c κs = search needs
-
-enum-known-rules : tie.Need-enum-known-rules
-enum-known-rules c = search needs
-
 put-counts-requires : tie.Need-put-counts-requires
 put-counts-requires c κs =
     let a = c .before .before .before .before .before .before .before .before .before .before .args in
@@ -23,18 +17,12 @@ put-counts-requires c κs =
       value-small (λ s. s .score) _ (small (λ s. s .score) score-small) _ reply,
     )
 
-enum-known-error : tie.Need-enum-known-error
-enum-known-error c = search needs
-
 put-error-requires : tie.Need-put-error-requires
 put-error-requires c κs =
     let a = c .before .before .before .before .before .before .before .before .before .before .args in
     let small = marked-small (a .book .now) (a .marks .now) (λ s. s .rules) rules-small in
     let gave = c .before .before .before .before .before .before .mark .ensures .0 in
     offset-small (λ s. s .rules) _ small _ (rw (c .before .before .error .given .1) at gave)
-
-same-length : tie.Need-same-length
-same-length c = search needs
 
 returns : tie.Need-returns
 returns c =
@@ -45,9 +33,6 @@ returns c =
     let (code, values) =
     accepts summaryValues _ _ entry _ _ reply (c .put-counts .ensures .0) (c .put-counts .ensures .1) in
     (code, (values, gave .1))
-
-same-length-2 : tie.Need-same-length-2
-same-length-2 c = search needs
 
 returns-2 : tie.Need-returns-2
 returns-2 c =
@@ -61,14 +46,5 @@ returns-2 c =
 
 pub ackbo-mark-spec : {M : Type 1} → statement M
 ackbo-mark-spec =
-    tie.close
-    (tie.spec
-    mark-requires
-    enum-known-rules
-    put-counts-requires
-    enum-known-error
-    put-error-requires
-    same-length
-    returns
-    same-length-2
-    returns-2)
+    tie.close (tie.spec (λ c κs. search needs) (λ c. search needs) put-counts-requires (λ c. search needs)
+    put-error-requires (λ c. search needs) returns (λ c. search needs) returns-2)

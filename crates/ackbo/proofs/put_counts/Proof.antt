@@ -5,18 +5,6 @@ use borrow.Author.Needs.{needs}
 use Rattle.ackbo.proofs.put_counts.Statement.{statement}
 use Rattle.ackbo.proofs.put_counts.Tie as tie
 
-signed-requires : tie.Need-signed-requires
-signed-requires c κs = search needs
-
-signed-requires-2 : tie.Need-signed-requires-2
-signed-requires-2 c κs = search needs
-
-signed-requires-3 : tie.Need-signed-requires-3
-signed-requires-3 c κs = search needs
-
-put-reply-requires : tie.Need-put-reply-requires
-put-reply-requires c κs = search needs
-
 returns : tie.Need-returns
 returns c =
     let first = c .before .before .before .signed in
@@ -32,5 +20,5 @@ returns c =
 
 pub put-counts-spec : {M : Type 1} → statement M
 put-counts-spec =
-    tie.close
-    (tie.spec signed-requires signed-requires-2 signed-requires-3 put-reply-requires returns)
+    tie.close (tie.spec (λ c κs. search needs) (λ c κs. search needs) (λ c κs. search needs) (λ c κs. search needs)
+    returns)

@@ -6,15 +6,6 @@ use borrow.Author.Needs.{needs}
 use Rattle.ackbo.proofs.put_error.Statement.{statement}
 use Rattle.ackbo.proofs.put_error.Tie as tie
 
-cast-put-reply : tie.Need-cast-put-reply
-cast-put-reply c = search needs
-
-signed-requires : tie.Need-signed-requires
-signed-requires c κs = search needs
-
-put-reply-requires : tie.Need-put-reply-requires
-put-reply-requires c κs = search needs
-
 returns : tie.Need-returns
 returns c =
     let offset = c .before .signed in
@@ -26,4 +17,5 @@ returns c =
     )
 
 pub put-error-spec : {M : Type 1} → statement M
-put-error-spec = tie.close (tie.spec cast-put-reply signed-requires put-reply-requires returns)
+put-error-spec =
+    tie.close (tie.spec (λ c. search needs) (λ c κs. search needs) (λ c κs. search needs) returns)

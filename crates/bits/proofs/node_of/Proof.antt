@@ -12,29 +12,11 @@ word-of : (nine tag : ℕ) → nine < 512 → tag ≡ nine / 256 →
     (nine / 2 ^ (4 * tag) + 240 * tag ≡ nodeWord nine) × (nodeWord nine < 272)
 word-of nine tag h e = (rw e (word-by-tag nine h), word-lt nine h)
 
-mul-unused : tie.Need-mul-unused
-mul-unused c = search needs
-
-shr-t5 : tie.Need-shr-t5
-shr-t5 c = search needs
-
-mul-t6 : tie.Need-mul-t6
-mul-t6 c = search needs
-
 add-t7 : tie.Need-add-t7
 add-t7 c = omega (arith, word-of (c .args .nine) (c .args .tag) (c .pre .0) (c .pre .1))
 
 cast-t8 : tie.Need-cast-t8
 cast-t8 c = omega (arith, word-of (c .args .nine) (c .args .tag) (c .pre .0) (c .pre .1))
-
-add-t9 : tie.Need-add-t9
-add-t9 c = search needs
-
-cast-t10 : tie.Need-cast-t10
-cast-t10 c = search needs
-
-sub-t11 : tie.Need-sub-t11
-sub-t11 c = search needs
 
 returns : tie.Need-returns
 returns c =
@@ -45,4 +27,5 @@ returns c =
 
 pub node-of-spec : {M : Type 1} → statement M
 node-of-spec =
-    tie.close (tie.spec mul-unused shr-t5 mul-t6 add-t7 cast-t8 add-t9 cast-t10 sub-t11 returns)
+    tie.close (tie.spec (λ c. search needs) (λ c. search needs) (λ c. search needs) add-t7 cast-t8 (λ c. search needs)
+    (λ c. search needs) (λ c. search needs) returns)

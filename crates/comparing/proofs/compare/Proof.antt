@@ -7,21 +7,6 @@ use borrow.Author.Needs.{needs}
 use Rattle.comparing.proofs.compare.Statement.{statement}
 use Rattle.comparing.proofs.compare.Tie as tie
 
-slice-aggregate-read-file : tie.Need-slice-aggregate-read-file
-slice-aggregate-read-file c = search needs
-
-slice-aggregate-read-file-2 : tie.Need-slice-aggregate-read-file-2
-slice-aggregate-read-file-2 c = search needs
-
-read-file-requires : tie.Need-read-file-requires
-read-file-requires c κs = search needs
-
-enum-known-code : tie.Need-enum-known-code
-enum-known-code c = search needs
-
-enum-known-symbol-count : tie.Need-enum-known-symbol-count
-enum-known-symbol-count c = search needs
-
 mul-front : tie.Need-mul-front
 mul-front c =
     let c5 = c .before .before .before .before .before in
@@ -78,17 +63,6 @@ returns-2 c =
 
 pub compare-spec : {M : Type 1} → statement M
 compare-spec =
-    tie.close
-    (tie.spec
-    slice-aggregate-read-file
-    slice-aggregate-read-file-2
-    read-file-requires
-    enum-known-code
-    enum-known-symbol-count
-    mul-front
-    add-front
-    array-share-prefix-table
-    slice-aggregate-compare-terms
-    compare-terms-requires
-    returns
-    returns-2)
+    tie.close (tie.spec (λ c. search needs) (λ c. search needs) (λ c κs. search needs) (λ c. search needs)
+    (λ c. search needs) mul-front add-front array-share-prefix-table slice-aggregate-compare-terms
+    compare-terms-requires returns returns-2)

@@ -9,9 +9,6 @@ use borrow.Author.Needs.{needs}
 use Rattle.comparing.proofs.compare_read.Statement.{statement}
 use Rattle.comparing.proofs.compare_read.Tie as tie
 
-node-sums-requires : tie.Need-node-sums-requires
-node-sums-requires c κs = search needs
-
 sum-up-requires : tie.Need-sum-up-requires
 sum-up-requires c κs =
     let c6 = c .before .before .before .before .before .before in
@@ -43,12 +40,6 @@ relation-requires c κs =
     let (T, (B, _)) = c3 .sum-up2 .ensures in
     (whole-terms small admissible left right, ((A σ N, B σ N, N), (S σ N, T σ N)))
 
-numbered-requires : tie.Need-numbered-requires
-numbered-requires c κs = search needs
-
-margin-requires : tie.Need-margin-requires
-margin-requires c κs = search needs
-
 returns : tie.Need-returns
 returns c =
     let c6 = c .before .before .before .before .before .before in
@@ -68,12 +59,5 @@ returns c =
 
 pub compare-read-spec : {M : Type 1} → statement M
 compare-read-spec =
-    tie.close
-    (tie.spec
-    node-sums-requires
-    sum-up-requires
-    sum-up-requires-2
-    relation-requires
-    numbered-requires
-    margin-requires
-    returns)
+    tie.close (tie.spec (λ c κs. search needs) sum-up-requires sum-up-requires-2 relation-requires
+    (λ c κs. search needs) (λ c κs. search needs) returns)

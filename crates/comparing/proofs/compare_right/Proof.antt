@@ -4,15 +4,6 @@ use borrow.Author.Needs.{needs}
 use Rattle.comparing.proofs.compare_right.Statement.{statement}
 use Rattle.comparing.proofs.compare_right.Tie as tie
 
-whole-term-requires : tie.Need-whole-term-requires
-whole-term-requires c κs = search needs
-
-enum-known-code : tie.Need-enum-known-code
-enum-known-code c = search needs
-
-enum-told : tie.Need-enum-told
-enum-told c = search needs
-
 compare-read-requires : tie.Need-compare-read-requires
 compare-read-requires c κs =
     let c6 = c .before .before .before .before .before .before in
@@ -40,11 +31,5 @@ returns-2 c =
 
 pub compare-right-spec : {M : Type 1} → statement M
 compare-right-spec =
-    tie.close
-    (tie.spec
-    whole-term-requires
-    enum-known-code
-    enum-told
-    compare-read-requires
-    returns
+    tie.close (tie.spec (λ c κs. search needs) (λ c. search needs) (λ c. search needs) compare-read-requires returns
     returns-2)

@@ -4,18 +4,6 @@ use borrow.Author.Needs.{needs}
 use Rattle.comparing.proofs.compare_terms.Statement.{statement}
 use Rattle.comparing.proofs.compare_terms.Tie as tie
 
-arities-requires : tie.Need-arities-requires
-arities-requires c κs = search needs
-
-whole-term-requires : tie.Need-whole-term-requires
-whole-term-requires c κs = search needs
-
-enum-known-code : tie.Need-enum-known-code
-enum-known-code c = search needs
-
-enum-told : tie.Need-enum-told
-enum-told c = search needs
-
 compare-right-requires : tie.Need-compare-right-requires
 compare-right-requires c κs =
     let c3 = c .before .before .before in
@@ -48,12 +36,5 @@ returns-2 c =
 
 pub compare-terms-spec : {M : Type 1} → statement M
 compare-terms-spec =
-    tie.close
-    (tie.spec
-    arities-requires
-    whole-term-requires
-    enum-known-code
-    enum-told
-    compare-right-requires
-    returns
-    returns-2)
+    tie.close (tie.spec (λ c κs. search needs) (λ c κs. search needs) (λ c. search needs) (λ c. search needs)
+    compare-right-requires returns returns-2)

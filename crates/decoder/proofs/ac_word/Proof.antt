@@ -3,9 +3,6 @@ use borrow.Author.Needs.{needs}
 use Rattle.decoder.proofs.ac_word.Statement.{statement}
 use Rattle.decoder.proofs.ac_word.Tie as tie
 
-is-ac-requires : tie.Need-is-ac-requires
-is-ac-requires c κs = search needs
-
 returns : tie.Need-returns
 returns c = rw (sym (c .before .is-ac .ensures) ∙ c .if1 .taken)
 
@@ -13,4 +10,5 @@ returns-2 : tie.Need-returns-2
 returns-2 c = rw (sym (c .before .is-ac .ensures) ∙ c .if1 .left)
 
 pub ac-word-spec : {M : Type 1} → statement M
-ac-word-spec = tie.close (tie.spec is-ac-requires returns returns-2)
+ac-word-spec =
+    tie.close (tie.spec (λ c κs. search needs) returns returns-2)

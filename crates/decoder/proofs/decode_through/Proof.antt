@@ -7,18 +7,6 @@ use borrow.Author.Needs.{needs}
 use Rattle.decoder.proofs.decode_through.Statement.{statement}
 use Rattle.decoder.proofs.decode_through.Tie as tie
 
-slice-aggregate-read-file : tie.Need-slice-aggregate-read-file
-slice-aggregate-read-file c = search needs
-
-read-file-requires : tie.Need-read-file-requires
-read-file-requires c κs = search needs
-
-enum-known-code : tie.Need-enum-known-code
-enum-known-code c = search needs
-
-enum-known-symbol-count : tie.Need-enum-known-symbol-count
-enum-known-symbol-count c = search needs
-
 mul-word-count : tie.Need-mul-word-count
 mul-word-count c =
     let c6 = c .before .before .before .before .before .before in
@@ -41,9 +29,6 @@ add-word-count-2 c =
     _ _ _ _ parts (c12 .pre) in
     omega (arith, parts .head .fewSymbols, few)
 
-same-length : tie.Need-same-length
-same-length c = search needs
-
 returns : tie.Need-returns
 returns c =
     let c7 = c .before .before .before .before .before .before .before in
@@ -55,12 +40,6 @@ returns c =
       word-count (a .book .now) (c7 .read-file
           .last .1 .0) (a .nodes .now) (c7 .read-file .last .1 .1 .0) file _ _ _ _ parts,
     ))
-
-mul-front : tie.Need-mul-front
-mul-front c = search needs
-
-add-front : tie.Need-add-front
-add-front c = search needs
 
 array-share-prefix-table : tie.Need-array-share-prefix-table
 array-share-prefix-table c =
@@ -126,21 +105,12 @@ put-file-requires c κs =
       omega (arith, long),
     )
 
-same-length-2 : tie.Need-same-length-2
-same-length-2 c = search needs
-
 returns-2 : tie.Need-returns-2
 returns-2 c =
     let c6 = c .before .before .before .before .before .before in
     let c12 = c6 .before .before .before .before .before .before in
     let a = c12 .args in
     decode-fault (a .book .now) (a .words .now) _ _ (rw (c .before .code .given .1) at (c6 .read-file .ensures))
-
-same-length-3 : tie.Need-same-length-3
-same-length-3 c = search needs
-
-same-length-4 : tie.Need-same-length-4
-same-length-4 c = search needs
 
 returns-3 : tie.Need-returns-3
 returns-3 c =
@@ -158,26 +128,7 @@ returns-3 c =
 
 pub decode-through-spec : {M : Type 1} → statement M
 decode-through-spec =
-    tie.close
-    (tie.spec
-    slice-aggregate-read-file
-    read-file-requires
-    enum-known-code
-    enum-known-symbol-count
-    mul-word-count
-    add-word-count
-    add-word-count-2
-    same-length
-    returns
-    mul-front
-    add-front
-    array-share-prefix-table
-    slice-aggregate-put-file
-    slice-reshare-prefix-put-file
-    slice-aggregate-put-file-2
-    put-file-requires
-    same-length-2
-    returns-2
-    same-length-3
-    same-length-4
-    returns-3)
+    tie.close (tie.spec (λ c. search needs) (λ c κs. search needs) (λ c. search needs) (λ c. search needs)
+    mul-word-count add-word-count add-word-count-2 (λ c. search needs) returns (λ c. search needs) (λ c. search needs)
+    array-share-prefix-table slice-aggregate-put-file slice-reshare-prefix-put-file slice-aggregate-put-file-2
+    put-file-requires (λ c. search needs) returns-2 (λ c. search needs) (λ c. search needs) returns-3)

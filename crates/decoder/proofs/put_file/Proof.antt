@@ -7,48 +7,6 @@ use borrow.Author.Needs.{needs}
 use Rattle.decoder.proofs.put_file.Statement.{statement}
 use Rattle.decoder.proofs.put_file.Tie as tie
 
-put-word-requires : tie.Need-put-word-requires
-put-word-requires c κs = search needs
-
-cast-put-word : tie.Need-cast-put-word
-cast-put-word c = search needs
-
-put-word-requires-2 : tie.Need-put-word-requires-2
-put-word-requires-2 c κs = search needs
-
-variable-weight-requires : tie.Need-variable-weight-requires
-variable-weight-requires c κs = search needs
-
-cast-put-word-2 : tie.Need-cast-put-word-2
-cast-put-word-2 c = search needs
-
-put-word-requires-3 : tie.Need-put-word-requires-3
-put-word-requires-3 c κs = search needs
-
-cast-put-word-3 : tie.Need-cast-put-word-3
-cast-put-word-3 c = search needs
-
-put-word-requires-4 : tie.Need-put-word-requires-4
-put-word-requires-4 c κs = search needs
-
-cast-put-symbols : tie.Need-cast-put-symbols
-cast-put-symbols c = search needs
-
-put-symbols-requires : tie.Need-put-symbols-requires
-put-symbols-requires c κs = search needs
-
-mul-put-words : tie.Need-mul-put-words
-mul-put-words c = search needs
-
-add-put-words : tie.Need-add-put-words
-add-put-words c = search needs
-
-put-words-requires : tie.Need-put-words-requires
-put-words-requires c κs = search needs
-
-same-length : tie.Need-same-length
-same-length c = search needs
-
 returns : tie.Need-returns
 returns c =
     let c6 = c .before .before .before .before .before .before in
@@ -74,20 +32,6 @@ returns c =
 
 pub put-file-spec : {M : Type 1} → statement M
 put-file-spec =
-    tie.close
-    (tie.spec
-    put-word-requires
-    cast-put-word
-    put-word-requires-2
-    variable-weight-requires
-    cast-put-word-2
-    put-word-requires-3
-    cast-put-word-3
-    put-word-requires-4
-    cast-put-symbols
-    put-symbols-requires
-    mul-put-words
-    add-put-words
-    put-words-requires
-    same-length
-    returns)
+    tie.close (tie.spec (λ c κs. search needs) (λ c. search needs) (λ c κs. search needs) (λ c κs. search needs)
+    (λ c. search needs) (λ c κs. search needs) (λ c. search needs) (λ c κs. search needs) (λ c. search needs)
+    (λ c κs. search needs) (λ c. search needs) (λ c. search needs) (λ c κs. search needs) (λ c. search needs) returns)

@@ -9,15 +9,6 @@ use Rattle.symbols.proofs.ArityLaws.{cells-all}
 use Rattle.symbols.proofs.arities.Statement.{statement}
 use Rattle.symbols.proofs.arities.Tie as tie
 
-add-count : tie.Need-add-count
-add-count c = search needs
-
-cast-put-cells : tie.Need-cast-put-cells
-cast-put-cells c = search needs
-
-put-cells-requires : tie.Need-put-cells-requires
-put-cells-requires c κs = search needs
-
 put-cells-requires-2 : tie.Need-put-cells-requires-2
 put-cells-requires-2 c κs = (omega arith, omega arith, c .before .put-cells .ensures .1)
 
@@ -31,4 +22,4 @@ returns c =
 
 pub arities-spec : {M : Type 1} → statement M
 arities-spec =
-    tie.close (tie.spec add-count cast-put-cells put-cells-requires put-cells-requires-2 returns)
+    tie.close (tie.spec (λ c. search needs) (λ c. search needs) (λ c κs. search needs) put-cells-requires-2 returns)

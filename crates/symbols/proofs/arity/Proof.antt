@@ -4,21 +4,6 @@ use borrow.Author.Needs.{needs}
 use Rattle.symbols.proofs.arity.Statement.{statement}
 use Rattle.symbols.proofs.arity.Tie as tie
 
-wide-requires : tie.Need-wide-requires
-wide-requires c κs = search needs
-
-mul-word-at : tie.Need-mul-word-at
-mul-word-at c = search needs
-
-add-word-at : tie.Need-add-word-at
-add-word-at c = search needs
-
-word-at-requires : tie.Need-word-at-requires
-word-at-requires c κs = search needs
-
-wide-requires-2 : tie.Need-wide-requires-2
-wide-requires-2 c κs = search needs
-
 returns : tie.Need-returns
 returns c = (
   rw (
@@ -31,5 +16,5 @@ returns c = (
 
 pub arity-spec : {M : Type 1} → statement M
 arity-spec =
-    tie.close
-    (tie.spec wide-requires mul-word-at add-word-at word-at-requires wide-requires-2 returns)
+    tie.close (tie.spec (λ c κs. search needs) (λ c. search needs) (λ c. search needs) (λ c κs. search needs)
+    (λ c κs. search needs) returns)

@@ -12,18 +12,6 @@ returns : tie.Need-returns
 returns c = sym (variable-cell (signatureOf (c .before .before .args .table .now)) (c .before .before .args .word)
     (omega arith))
 
-has-symbol-requires : tie.Need-has-symbol-requires
-has-symbol-requires c κs = search needs
-
-arity-requires : tie.Need-arity-requires
-arity-requires c κs = search needs
-
-cast-result : tie.Need-cast-result
-cast-result c = search needs
-
-add-result : tie.Need-add-result
-add-result c = search needs
-
 returns-2 : tie.Need-returns-2
 returns-2 c =
     let c5 = c .before .before .before .before .before in
@@ -44,12 +32,5 @@ returns-3 c =
 
 pub cell-spec : {M : Type 1} → statement M
 cell-spec =
-    tie.close
-    (tie.spec
-    returns
-    has-symbol-requires
-    arity-requires
-    cast-result
-    add-result
-    returns-2
-    returns-3)
+    tie.close (tie.spec returns (λ c κs. search needs) (λ c κs. search needs) (λ c. search needs) (λ c. search needs)
+    returns-2 returns-3)

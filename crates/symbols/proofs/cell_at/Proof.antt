@@ -5,18 +5,6 @@ use borrow.Author.Needs.{needs}
 use Rattle.symbols.proofs.cell_at.Statement.{statement}
 use Rattle.symbols.proofs.cell_at.Tie as tie
 
-wide-requires : tie.Need-wide-requires
-wide-requires c κs = search needs
-
-mul-widest : tie.Need-mul-widest
-mul-widest c = search needs
-
-element-copy-out-widest : tie.Need-element-copy-out-widest
-element-copy-out-widest c = search needs
-
-widest-requires : tie.Need-widest-requires
-widest-requires c κs = search needs
-
 returns : tie.Need-returns
 returns c =
     let c3 = c .before .before .before in (
@@ -27,4 +15,4 @@ returns c =
 
 pub cell-at-spec : {M : Type 1} → statement M
 cell-at-spec =
-    tie.close (tie.spec wide-requires mul-widest element-copy-out-widest widest-requires returns)
+    tie.close (tie.spec (λ c κs. search needs) (λ c. search needs) (λ c. search needs) (λ c κs. search needs) returns)

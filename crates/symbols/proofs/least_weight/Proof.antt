@@ -5,12 +5,6 @@ use borrow.Author.Needs.{needs}
 use Rattle.symbols.proofs.least_weight.Statement.{statement}
 use Rattle.symbols.proofs.least_weight.Tie as tie
 
-returns : tie.Need-returns
-returns c = search needs
-
-returns-2 : tie.Need-returns-2
-returns-2 c = search needs
-
 returns-3 : tie.Need-returns-3
 returns-3 c =
     let n = c .before .before .args .arity in
@@ -18,4 +12,5 @@ returns-3 c =
     rw e
 
 pub least-weight-spec : {M : Type 1} → statement M
-least-weight-spec = tie.close (tie.spec returns returns-2 returns-3)
+least-weight-spec =
+    tie.close (tie.spec (λ c. search needs) (λ c. search needs) returns-3)

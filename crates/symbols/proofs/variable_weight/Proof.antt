@@ -5,15 +5,10 @@ use borrow.Author.Needs.{needs}
 use Rattle.symbols.proofs.variable_weight.Statement.{statement}
 use Rattle.symbols.proofs.variable_weight.Tie as tie
 
-word-at-requires : tie.Need-word-at-requires
-word-at-requires c κs = search needs
-
-long-requires : tie.Need-long-requires
-long-requires c κs = search needs
-
 returns : tie.Need-returns
 unfolding signatureOf
 returns c = (c .long .ensures .0 ∙ c .before .word-at .ensures, omega arith)
 
 pub variable-weight-spec : {M : Type 1} → statement M
-variable-weight-spec = tie.close (tie.spec word-at-requires long-requires returns)
+variable-weight-spec =
+    tie.close (tie.spec (λ c κs. search needs) (λ c κs. search needs) returns)

@@ -4,21 +4,6 @@ use borrow.Author.Needs.{needs}
 use Rattle.symbols.proofs.weight.Statement.{statement}
 use Rattle.symbols.proofs.weight.Tie as tie
 
-wide-requires : tie.Need-wide-requires
-wide-requires c κs = search needs
-
-mul-word-at : tie.Need-mul-word-at
-mul-word-at c = search needs
-
-add-word-at : tie.Need-add-word-at
-add-word-at c = search needs
-
-word-at-requires : tie.Need-word-at-requires
-word-at-requires c κs = search needs
-
-long-requires : tie.Need-long-requires
-long-requires c κs = search needs
-
 returns : tie.Need-returns
 returns c = (
   rw (
@@ -31,5 +16,5 @@ returns c = (
 
 pub weight-spec : {M : Type 1} → statement M
 weight-spec =
-    tie.close
-    (tie.spec wide-requires mul-word-at add-word-at word-at-requires long-requires returns)
+    tie.close (tie.spec (λ c κs. search needs) (λ c. search needs) (λ c. search needs) (λ c κs. search needs)
+    (λ c κs. search needs) returns)

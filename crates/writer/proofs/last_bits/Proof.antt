@@ -6,12 +6,6 @@ use borrow.Author.Needs.{needs}
 use Rattle.writer.proofs.last_bits.Statement.{statement}
 use Rattle.writer.proofs.last_bits.Tie as tie
 
-two-to-requires : tie.Need-two-to-requires
-two-to-requires c κs = search needs
-
-rem-result : tie.Need-rem-result
-rem-result c = search needs
-
 cast-result : tie.Need-cast-result
 cast-result c = record {
   fits = omega
@@ -22,4 +16,5 @@ returns : tie.Need-returns
 returns c = rw (c .two-to .ensures .0) (refl, mod-lt (c .before .args .value) (pow-pos (c .before .args .width)))
 
 pub last-bits-spec : {M : Type 1} → statement M
-last-bits-spec = tie.close (tie.spec two-to-requires rem-result cast-result returns)
+last-bits-spec =
+    tie.close (tie.spec (λ c κs. search needs) (λ c. search needs) cast-result returns)

@@ -4,11 +4,9 @@ use borrow.Author.Needs.{needs}
 use Rattle.writer.proofs.two_to.Statement.{statement}
 use Rattle.writer.proofs.two_to.Tie as tie
 
-shl-result : tie.Need-shl-result
-shl-result c = search needs
-
 returns : tie.Need-returns
 returns c = let e = one-shl (c .args .k) (c .pre) in (e, rw e (pow-pos (c .args .k)))
 
 pub two-to-spec : {M : Type 1} → statement M
-two-to-spec = tie.close (tie.spec shl-result returns)
+two-to-spec =
+    tie.close (tie.spec (λ c. search needs) returns)

@@ -9,42 +9,12 @@ use borrow.Author.Needs.{needs}
 use Rattle.bits.proofs.BitCursor.field.Statement.{statement}
 use Rattle.bits.proofs.BitCursor.field.Tie as tie
 
-add-if1 : tie.Need-add-if1
-add-if1 c = search needs
-
-add-if1-2 : tie.Need-add-if1-2
-add-if1-2 c = search needs
-
-add-if1-3 : tie.Need-add-if1-3
-add-if1-3 c = search needs
-
 returns : tie.Need-returns
 unfolding bitField
 returns c =
     let a = c .before .before .args in
     let past : 8 * length (a .book .now) < a .self .at + a .width = omega arith in
     rw (lt-leb _ _ past)
-
-gather-requires : tie.Need-gather-requires
-gather-requires c κs = search needs
-
-sub-value : tie.Need-sub-value
-sub-value c = search needs
-
-sub-value-2 : tie.Need-sub-value-2
-sub-value-2 c = search needs
-
-cast-value : tie.Need-cast-value
-cast-value c = search needs
-
-shr-value : tie.Need-shr-value
-shr-value c = search needs
-
-cast-value-2 : tie.Need-cast-value-2
-cast-value-2 c = search needs
-
-shl-value : tie.Need-shl-value
-shl-value c = search needs
 
 rem-value : tie.Need-rem-value
 unfolding bitField
@@ -56,9 +26,6 @@ cast-t19 c = let a = c .before .before .before .args in record {
   fits = rw (one-shl (a .width) (omega arith)) (rest-fits
       _ (a .width) (omega arith));
 }
-
-add-t12 : tie.Need-add-t12
-add-t12 c = search needs
 
 returns-2 : tie.Need-returns-2
 unfolding bitField
@@ -82,20 +49,6 @@ returns-2 c =
 
 pub field-spec : {M : Type 1} → statement M
 field-spec =
-    tie.close
-    (tie.spec
-    add-if1
-    add-if1-2
-    add-if1-3
-    returns
-    gather-requires
-    sub-value
-    sub-value-2
-    cast-value
-    shr-value
-    cast-value-2
-    shl-value
-    rem-value
-    cast-t19
-    add-t12
-    returns-2)
+    tie.close (tie.spec (λ c. search needs) (λ c. search needs) (λ c. search needs) returns (λ c κs. search needs)
+    (λ c. search needs) (λ c. search needs) (λ c. search needs) (λ c. search needs) (λ c. search needs)
+    (λ c. search needs) rem-value cast-t19 (λ c. search needs) returns-2)

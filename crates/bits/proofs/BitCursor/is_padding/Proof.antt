@@ -9,33 +9,15 @@ use borrow.Author.Needs.{needs}
 use Rattle.bits.proofs.BitCursor.is_padding.Statement.{statement}
 use Rattle.bits.proofs.BitCursor.is_padding.Tie as tie
 
-mul-end : tie.Need-mul-end
-mul-end c = search needs
-
 returns : tie.Need-returns
 returns c =
     let z : 8 * length (c .before .before .args .book .now) - c .before .before .args .self .at ≡ 0 = omega arith in
     rw z
 
-sub-if2 : tie.Need-sub-if2
-sub-if2 c = search needs
-
 returns-2 : tie.Need-returns-2
 returns-2 c =
     rw (le-ltb (8 * length (c .before .before .before .args .book .now) - c .before .before .before .args .self .at) 8
     (c .if2 .taken))
-
-byte-at-requires : tie.Need-byte-at-requires
-byte-at-requires c κs = search needs
-
-sub-result : tie.Need-sub-result
-sub-result c = search needs
-
-cast-result : tie.Need-cast-result
-cast-result c = search needs
-
-shl-result : tie.Need-shl-result
-shl-result c = search needs
 
 rem-result : tie.Need-rem-result
 rem-result c =
@@ -63,15 +45,5 @@ returns-3 c =
 
 pub is-padding-spec : {M : Type 1} → statement M
 is-padding-spec =
-    tie.close
-    (tie.spec
-    mul-end
-    returns
-    sub-if2
-    returns-2
-    byte-at-requires
-    sub-result
-    cast-result
-    shl-result
-    rem-result
-    returns-3)
+    tie.close (tie.spec (λ c. search needs) returns (λ c. search needs) returns-2 (λ c κs. search needs)
+    (λ c. search needs) (λ c. search needs) (λ c. search needs) rem-result returns-3)

@@ -9,37 +9,10 @@ use borrow.Author.Needs.{needs}
 use Rattle.bits.proofs.BitCursor.late_node.Statement.{statement}
 use Rattle.bits.proofs.BitCursor.late_node.Tie as tie
 
-mul-end : tie.Need-mul-end
-mul-end c = search needs
-
 returns : tie.Need-returns
 returns c =
     let a = c .before .before .args in
     (sym (node-none (a .book .now) (a .self .at) (c .if1 .taken)), tt)
-
-byte-at-requires : tie.Need-byte-at-requires
-byte-at-requires c κs = search needs
-
-mul-nine : tie.Need-mul-nine
-mul-nine c = search needs
-
-sub-nine : tie.Need-sub-nine
-sub-nine c = search needs
-
-cast-nine : tie.Need-cast-nine
-cast-nine c = search needs
-
-shr-nine : tie.Need-shr-nine
-shr-nine c = search needs
-
-sub-if2 : tie.Need-sub-if2
-sub-if2 c = search needs
-
-node-width-requires : tie.Need-node-width-requires
-node-width-requires c κs = search needs
-
-add-t14 : tie.Need-add-t14
-add-t14 c = search needs
 
 returns-2 : tie.Need-returns-2
 returns-2 c =
@@ -54,9 +27,6 @@ returns-2 c =
     rw (byte .ensures .0) (field-one (a .book .now) small (a .self .at) past) in
     let width = c .before .node-width .ensures in
     (sym (node-cut (a .book .now) (a .self .at) _ nine (omega arith) (omega (arith, width))), tt)
-
-node-of-requires : tie.Need-node-of-requires
-node-of-requires c κs = search needs
 
 returns-3 : tie.Need-returns-3
 returns-3 c =
@@ -76,18 +46,6 @@ returns-3 c =
 
 pub late-node-spec : {M : Type 1} → statement M
 late-node-spec =
-    tie.close
-    (tie.spec
-    mul-end
-    returns
-    byte-at-requires
-    mul-nine
-    sub-nine
-    cast-nine
-    shr-nine
-    sub-if2
-    node-width-requires
-    add-t14
-    returns-2
-    node-of-requires
-    returns-3)
+    tie.close (tie.spec (λ c. search needs) returns (λ c κs. search needs) (λ c. search needs) (λ c. search needs)
+    (λ c. search needs) (λ c. search needs) (λ c. search needs) (λ c κs. search needs) (λ c. search needs) returns-2
+    (λ c κs. search needs) returns-3)

@@ -9,45 +9,6 @@ use Rattle.bits.proofs.NodeLaws.{node-got, tag-first, width-le}
 use Rattle.bits.proofs.BitCursor.node.Statement.{statement}
 use Rattle.bits.proofs.BitCursor.node.Tie as tie
 
-add-if1 : tie.Need-add-if1
-add-if1 c = search needs
-
-late-node-requires : tie.Need-late-node-requires
-late-node-requires c κs = search needs
-
-returns : tie.Need-returns
-returns c = search needs
-
-byte-at-requires : tie.Need-byte-at-requires
-byte-at-requires c κs = search needs
-
-sub-after : tie.Need-sub-after
-sub-after c = search needs
-
-mul-nine : tie.Need-mul-nine
-mul-nine c = search needs
-
-add-byte-at : tie.Need-add-byte-at
-add-byte-at c = search needs
-
-byte-at-requires-2 : tie.Need-byte-at-requires-2
-byte-at-requires-2 c κs = search needs
-
-add-nine : tie.Need-add-nine
-add-nine c = search needs
-
-cast-nine : tie.Need-cast-nine
-cast-nine c = search needs
-
-shr-nine : tie.Need-shr-nine
-shr-nine c = search needs
-
-cast-node-of : tie.Need-cast-node-of
-cast-node-of c = search needs
-
-shr-node-of : tie.Need-shr-node-of
-shr-node-of c = search needs
-
 node-of-requires : tie.Need-node-of-requires
 node-of-requires c κs =
     let a = c .before .before .before .before .args in
@@ -79,20 +40,6 @@ returns-2 c =
 
 pub node-spec : {M : Type 1} → statement M
 node-spec =
-    tie.close
-    (tie.spec
-    add-if1
-    late-node-requires
-    returns
-    byte-at-requires
-    sub-after
-    mul-nine
-    add-byte-at
-    byte-at-requires-2
-    add-nine
-    cast-nine
-    shr-nine
-    cast-node-of
-    shr-node-of
-    node-of-requires
-    returns-2)
+    tie.close (tie.spec (λ c. search needs) (λ c κs. search needs) (λ c. search needs) (λ c κs. search needs)
+    (λ c. search needs) (λ c. search needs) (λ c. search needs) (λ c κs. search needs) (λ c. search needs)
+    (λ c. search needs) (λ c. search needs) (λ c. search needs) (λ c. search needs) node-of-requires returns-2)

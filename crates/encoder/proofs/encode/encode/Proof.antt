@@ -8,15 +8,6 @@ use borrow.Author.Needs.{needs}
 use Rattle.encoder.proofs.encode.encode.Statement.{statement}
 use Rattle.encoder.proofs.encode.encode.Tie as tie
 
-read-file-requires : tie.Need-read-file-requires
-read-file-requires c κs = search needs
-
-enum-known-counts : tie.Need-enum-known-counts
-enum-known-counts c = search needs
-
-enum-known-code : tie.Need-enum-known-code
-enum-known-code c = search needs
-
 returns : tie.Need-returns
 returns c =
     let a = c .before .before .before .before .before .before .args in
@@ -90,9 +81,6 @@ write-items-requires c κs =
       ),
     )
 
-same-length : tie.Need-same-length
-same-length c = search needs
-
 returns-4 : tie.Need-returns-4
 returns-4 c =
     let c5 = c .before .before .before .before .before in
@@ -110,18 +98,5 @@ returns-4 c =
 
 pub encode-spec : {M : Type 1} → statement M
 encode-spec =
-    tie.close
-    (tie.spec
-    read-file-requires
-    enum-known-counts
-    enum-known-code
-    returns
-    packed-bits-requires
-    add-count
-    returns-2
-    returns-3
-    mul-write-items
-    add-write-items
-    write-items-requires
-    same-length
-    returns-4)
+    tie.close (tie.spec (λ c κs. search needs) (λ c. search needs) (λ c. search needs) returns packed-bits-requires
+    add-count returns-2 returns-3 mul-write-items add-write-items write-items-requires (λ c. search needs) returns-4)

@@ -5,9 +5,6 @@ use borrow.Author.Needs.{needs}
 use Rattle.encoder.proofs.items.node_value.Statement.{statement}
 use Rattle.encoder.proofs.items.node_value.Tie as tie
 
-add-result : tie.Need-add-result
-add-result c = search needs
-
 returns : tie.Need-returns
 returns c = rw (symbol-bits (c .before .args .word) (c .if1 .taken)) (refl, omega arith)
 
@@ -15,4 +12,5 @@ returns-2 : tie.Need-returns-2
 returns-2 c = rw (variable-bits (c .before .args .word) (c .if1 .left)) (refl, omega arith)
 
 pub node-value-spec : {M : Type 1} → statement M
-node-value-spec = tie.close (tie.spec add-result returns returns-2)
+node-value-spec =
+    tie.close (tie.spec (λ c. search needs) returns returns-2)

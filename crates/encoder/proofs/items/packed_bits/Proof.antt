@@ -16,35 +16,11 @@ Inv-loop words symbols nodes variables₀ i₀ variables i =
 abbrev μ-loop : tie.MeasureT-loop
 μ-loop words symbols nodes variables₀ i₀ variables i = length words - i
 
-mul-nodes : tie.Need-mul-nodes Inv-loop μ-loop
-mul-nodes c = search needs
-
-add-nodes : tie.Need-add-nodes Inv-loop μ-loop
-add-nodes c = search needs
-
 loop-holds : tie.Need-loop-holds Inv-loop μ-loop
 loop-holds c =
     let a = c .before .args in
     let n = 4 + 4 * a .symbols in
     (omega arith, omega arith, omega arith, omega (arith, fields-length (a .words .now) n (a .symbols) (omega arith)))
-
-mul-tag : tie.Need-mul-tag Inv-loop μ-loop
-mul-tag c = search needs
-
-shared-slice-read-tag : tie.Need-shared-slice-read-tag Inv-loop μ-loop
-shared-slice-read-tag c = search needs
-
-tag-requires : tie.Need-tag-requires Inv-loop μ-loop
-tag-requires c κs = search needs
-
-add-variables : tie.Need-add-variables Inv-loop μ-loop
-add-variables c = search needs
-
-add-i : tie.Need-add-i Inv-loop μ-loop
-add-i c = search needs
-
-loop-less : tie.Need-loop-less Inv-loop μ-loop
-loop-less c = search needs
 
 loop-again : tie.Need-loop-again Inv-loop μ-loop
 loop-again c =
@@ -63,30 +39,6 @@ loop-again c =
       ),
     )
 
-mul-result : tie.Need-mul-result Inv-loop μ-loop
-mul-result c = search needs
-
-add-result : tie.Need-add-result Inv-loop μ-loop
-add-result c = search needs
-
-sub-result : tie.Need-sub-result Inv-loop μ-loop
-sub-result c = search needs
-
-mul-result-2 : tie.Need-mul-result-2 Inv-loop μ-loop
-mul-result-2 c = search needs
-
-add-result-2 : tie.Need-add-result-2 Inv-loop μ-loop
-add-result-2 c = search needs
-
-cast-result : tie.Need-cast-result Inv-loop μ-loop
-cast-result c = search needs
-
-mul-result-3 : tie.Need-mul-result-3 Inv-loop μ-loop
-mul-result-3 c = search needs
-
-sub-result-2 : tie.Need-sub-result-2 Inv-loop μ-loop
-sub-result-2 c = search needs
-
 returns : tie.Need-returns Inv-loop μ-loop
 returns c =
     let a = c .before .before .before .args in
@@ -95,26 +47,7 @@ returns c =
 
 pub packed-bits-spec : {M : Type 1} → statement M
 packed-bits-spec =
-    tie.close
-    (tie.spec
-    Inv-loop
-    μ-loop
-    mul-nodes
-    add-nodes
-    loop-holds
-    mul-tag
-    shared-slice-read-tag
-    tag-requires
-    add-variables
-    add-i
-    loop-less
-    loop-again
-    mul-result
-    add-result
-    sub-result
-    mul-result-2
-    add-result-2
-    cast-result
-    mul-result-3
-    sub-result-2
-    returns)
+    tie.close (tie.spec Inv-loop μ-loop (λ c. search needs) (λ c. search needs) loop-holds (λ c. search needs)
+    (λ c. search needs) (λ c κs. search needs) (λ c. search needs) (λ c. search needs) (λ c. search needs) loop-again
+    (λ c. search needs) (λ c. search needs) (λ c. search needs) (λ c. search needs) (λ c. search needs)
+    (λ c. search needs) (λ c. search needs) (λ c. search needs) returns)

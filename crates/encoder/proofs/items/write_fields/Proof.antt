@@ -30,18 +30,6 @@ loop-holds c = (
       (writes-none (c .before .before .args .bytes .now)),
 )
 
-field-width-requires : tie.Need-field-width-requires Inv-loop μ-loop
-field-width-requires c κs = search needs
-
-mul-last-bits : tie.Need-mul-last-bits Inv-loop μ-loop
-mul-last-bits c = search needs
-
-shared-slice-read-last-bits : tie.Need-shared-slice-read-last-bits Inv-loop μ-loop
-shared-slice-read-last-bits c = search needs
-
-last-bits-requires : tie.Need-last-bits-requires Inv-loop μ-loop
-last-bits-requires c κs = search needs
-
 put-requires : tie.Need-put-requires Inv-loop μ-loop
 put-requires c κs =
     let l = c .before .before .before .before .before .before .before .before .args .words .now in
@@ -64,12 +52,6 @@ put-requires c κs =
         c .before .before .before .before .before .loop .inv .1,
       ),
     )
-
-add-i : tie.Need-add-i Inv-loop μ-loop
-add-i c = search needs
-
-loop-less : tie.Need-loop-less Inv-loop μ-loop
-loop-less c = search needs
 
 loop-again : tie.Need-loop-again Inv-loop μ-loop
 loop-again c =
@@ -103,18 +85,5 @@ returns c =
 
 pub write-fields-spec : {M : Type 1} → statement M
 write-fields-spec =
-    tie.close
-    (tie.spec
-    Inv-loop
-    μ-loop
-    loop-holds
-    field-width-requires
-    mul-last-bits
-    shared-slice-read-last-bits
-    last-bits-requires
-    put-requires
-    add-i
-    loop-less
-    loop-again
-    same-length
-    returns)
+    tie.close (tie.spec Inv-loop μ-loop loop-holds (λ c κs. search needs) (λ c. search needs) (λ c. search needs)
+    (λ c κs. search needs) put-requires (λ c. search needs) (λ c. search needs) loop-again same-length returns)

@@ -31,24 +31,6 @@ write-fields-requires c κs =
 loop-holds : tie.Need-loop-holds Inv-loop μ-loop
 loop-holds c = (omega arith, omega arith, refl, c .before .before .write-fields .ensures .0, λ old h. h)
 
-add-loop : tie.Need-add-loop Inv-loop μ-loop
-add-loop c = search needs
-
-mul-write-two : tie.Need-mul-write-two Inv-loop μ-loop
-mul-write-two c = search needs
-
-shared-slice-read-write-two : tie.Need-shared-slice-read-write-two Inv-loop μ-loop
-shared-slice-read-write-two c = search needs
-
-add-write-two : tie.Need-add-write-two Inv-loop μ-loop
-add-write-two c = search needs
-
-mul-write-two-2 : tie.Need-mul-write-two-2 Inv-loop μ-loop
-mul-write-two-2 c = search needs
-
-shared-slice-read-write-two-2 : tie.Need-shared-slice-read-write-two-2 Inv-loop μ-loop
-shared-slice-read-write-two-2 c = search needs
-
 write-two-requires : tie.Need-write-two-requires Inv-loop μ-loop
 write-two-requires c κs =
     let c3 = c .before .before .before in
@@ -66,12 +48,6 @@ write-two-requires c κs =
         c7 .write-fields .kept .1 .1 .0,
       ),
     )
-
-add-i : tie.Need-add-i Inv-loop μ-loop
-add-i c = search needs
-
-loop-less : tie.Need-loop-less Inv-loop μ-loop
-loop-less c = search needs
 
 loop-again : tie.Need-loop-again Inv-loop μ-loop
 loop-again c =
@@ -116,12 +92,6 @@ returns c =
     (c .before .before .before .before .before .before .before .before .before .write-fields .ensures .1))
     ∙ ap (λ (k : ℕ). sets (a .bytes .now) 0 (bytesOf (bitsTo (a .words .now) (a .nodes) k)))
     (c .before .before .before .before .if1 .taken)
-
-mul-write-node : tie.Need-mul-write-node Inv-loop μ-loop
-mul-write-node c = search needs
-
-shared-slice-read-write-node : tie.Need-shared-slice-read-write-node Inv-loop μ-loop
-shared-slice-read-write-node c = search needs
 
 write-node-requires : tie.Need-write-node-requires Inv-loop μ-loop
 write-node-requires c κs =
@@ -186,28 +156,7 @@ returns-2 c =
 
 pub write-items-spec : {M : Type 1} → statement M
 write-items-spec =
-    tie.close
-    (tie.spec
-    Inv-loop
-    μ-loop
-    write-fields-requires
-    loop-holds
-    add-loop
-    mul-write-two
-    shared-slice-read-write-two
-    add-write-two
-    mul-write-two-2
-    shared-slice-read-write-two-2
-    write-two-requires
-    add-i
-    loop-less
-    loop-again
-    finish-requires
-    same-length
-    returns
-    mul-write-node
-    shared-slice-read-write-node
-    write-node-requires
-    finish-requires-2
-    same-length-2
-    returns-2)
+    tie.close (tie.spec Inv-loop μ-loop write-fields-requires loop-holds (λ c. search needs) (λ c. search needs)
+    (λ c. search needs) (λ c. search needs) (λ c. search needs) (λ c. search needs) write-two-requires
+    (λ c. search needs) (λ c. search needs) loop-again finish-requires same-length returns (λ c. search needs)
+    (λ c. search needs) write-node-requires finish-requires-2 same-length-2 returns-2)

@@ -6,12 +6,6 @@ use borrow.Author.Needs.{needs}
 use Rattle.encoder.proofs.items.write_node.Statement.{statement}
 use Rattle.encoder.proofs.items.write_node.Tie as tie
 
-node-width-requires : tie.Need-node-width-requires
-node-width-requires c κs = search needs
-
-node-value-requires : tie.Need-node-value-requires
-node-value-requires c κs = search needs
-
 put-requires : tie.Need-put-requires
 put-requires c κs =
     let h = c .before .before .before .before .pre .0 in
@@ -19,9 +13,6 @@ put-requires c κs =
       (h .0, h .1, omega (arith, c .before .node-width .ensures), c .node-value .ensures .1),
       c .before .before .before .before .pre .1,
     )
-
-same-length : tie.Need-same-length
-same-length c = search needs
 
 returns : tie.Need-returns
 returns c =
@@ -32,4 +23,4 @@ returns c =
 
 pub write-node-spec : {M : Type 1} → statement M
 write-node-spec =
-    tie.close (tie.spec node-width-requires node-value-requires put-requires same-length returns)
+    tie.close (tie.spec (λ c κs. search needs) (λ c κs. search needs) put-requires (λ c. search needs) returns)

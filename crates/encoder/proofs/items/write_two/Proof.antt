@@ -6,18 +6,6 @@ use borrow.Author.Needs.{needs}
 use Rattle.encoder.proofs.items.write_two.Statement.{statement}
 use Rattle.encoder.proofs.items.write_two.Tie as tie
 
-node-width-requires : tie.Need-node-width-requires
-node-width-requires c κs = search needs
-
-node-value-requires : tie.Need-node-value-requires
-node-value-requires c κs = search needs
-
-node-width-requires-2 : tie.Need-node-width-requires-2
-node-width-requires-2 c κs = search needs
-
-node-value-requires-2 : tie.Need-node-value-requires-2
-node-value-requires-2 c κs = search needs
-
 put-two-requires : tie.Need-put-two-requires
 put-two-requires c κs =
     let v = c .before .before .node-value .ensures .1 in
@@ -36,9 +24,6 @@ put-two-requires c κs =
       ),
     )
 
-same-length : tie.Need-same-length
-same-length c = search needs
-
 returns : tie.Need-returns
 returns c =
     let c3 = c .before .before .before in
@@ -51,12 +36,5 @@ returns c =
 
 pub write-two-spec : {M : Type 1} → statement M
 write-two-spec =
-    tie.close
-    (tie.spec
-    node-width-requires
-    node-value-requires
-    node-width-requires-2
-    node-value-requires-2
-    put-two-requires
-    same-length
-    returns)
+    tie.close (tie.spec (λ c κs. search needs) (λ c κs. search needs) (λ c κs. search needs) (λ c κs. search needs)
+    put-two-requires (λ c. search needs) returns)

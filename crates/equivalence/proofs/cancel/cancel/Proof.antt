@@ -17,12 +17,6 @@ loop-holds : tie.Need-loop-holds Inv-loop μ-loop
 loop-holds c = cancelling-start _ _ _ _ _ _ _ (c .pre .1 .0)
     (c .pre .1 .1)
 
-element-copy-out-p : tie.Need-element-copy-out-p Inv-loop μ-loop
-element-copy-out-p c = search needs
-
-wide-byte-requires : tie.Need-wide-byte-requires Inv-loop μ-loop
-wide-byte-requires c κs = search needs
-
 partner-requires : tie.Need-partner-requires Inv-loop μ-loop
 partner-requires c κs =
     let c4 = c .before .before .before .before in
@@ -33,18 +27,6 @@ partner-requires c κs =
         g .right,
       ),
     )
-
-element-write-ps : tie.Need-element-write-ps Inv-loop μ-loop
-element-write-ps c = search needs
-
-add-left : tie.Need-add-left Inv-loop μ-loop
-add-left c = search needs
-
-add-k : tie.Need-add-k Inv-loop μ-loop
-add-k c = search needs
-
-loop-less : tie.Need-loop-less Inv-loop μ-loop
-loop-less c = search needs
 
 loop-again : tie.Need-loop-again Inv-loop μ-loop
 loop-again c =
@@ -58,15 +40,6 @@ delete-requires c κs = (
   c .before .before .before .before .before .before .before .loop .inv .right .room,
 )
 
-sub-right : tie.Need-sub-right Inv-loop μ-loop
-sub-right c = search needs
-
-add-k-2 : tie.Need-add-k-2 Inv-loop μ-loop
-add-k-2 c = search needs
-
-loop-less-2 : tie.Need-loop-less-2 Inv-loop μ-loop
-loop-less-2 c = search needs
-
 loop-again-2 : tie.Need-loop-again-2 Inv-loop μ-loop
 loop-again-2 c =
     cancelling-spent (c .before .before .before .before .before .before .before .before .loop .inv) (omega arith)
@@ -79,22 +52,6 @@ returns c = cancelling-done (c .before .loop .inv) (omega arith)
 
 pub cancel-spec : {M : Type 1} → statement M
 cancel-spec =
-    tie.close
-    (tie.spec
-    Inv-loop
-    μ-loop
-    loop-holds
-    element-copy-out-p
-    wide-byte-requires
-    partner-requires
-    element-write-ps
-    add-left
-    add-k
-    loop-less
-    loop-again
-    delete-requires
-    sub-right
-    add-k-2
-    loop-less-2
-    loop-again-2
-    returns)
+    tie.close (tie.spec Inv-loop μ-loop loop-holds (λ c. search needs) (λ c κs. search needs) partner-requires
+    (λ c. search needs) (λ c. search needs) (λ c. search needs) (λ c. search needs) loop-again delete-requires
+    (λ c. search needs) (λ c. search needs) (λ c. search needs) loop-again-2 returns)

@@ -15,30 +15,9 @@ Inv-loop table f words keys i n offsets₀ inner at₀ owed₀ k₀ offsets at o
 abbrev μ-loop : tie.MeasureT-loop
 μ-loop table f words keys i n offsets₀ inner at₀ owed₀ k₀ offsets at owed k = length (words .now) - at
 
-arity-requires : tie.Need-arity-requires Inv-loop μ-loop
-arity-requires c κs = search needs
-
 loop-holds : tie.Need-loop-holds Inv-loop μ-loop
 loop-holds c = listing-start _ _ _ _ _ _ (c .before .before .pre .1 .1 .0)
     (c .before .before .pre .0 .1)
-
-mul-if1 : tie.Need-mul-if1 Inv-loop μ-loop
-mul-if1 c = search needs
-
-index-1-if1 : tie.Need-index-1-if1 Inv-loop μ-loop
-index-1-if1 c = search needs
-
-add-at : tie.Need-add-at Inv-loop μ-loop
-add-at c = search needs
-
-sub-owed : tie.Need-sub-owed Inv-loop μ-loop
-sub-owed c = search needs
-
-add-owed : tie.Need-add-owed Inv-loop μ-loop
-add-owed c = search needs
-
-loop-less : tie.Need-loop-less Inv-loop μ-loop
-loop-less c = search needs
 
 loop-again : tie.Need-loop-again Inv-loop μ-loop
 loop-again c =
@@ -46,26 +25,11 @@ loop-again c =
     (c .before .before .before .loop .inv) (omega arith) (c .if1 .taken) (omega arith)
     (c .before .before .before .before .arity .ensures .0)
 
-cast-offsets : tie.Need-cast-offsets Inv-loop μ-loop
-cast-offsets c = search needs
-
 element-write-offsets : tie.Need-element-write-offsets Inv-loop μ-loop
 element-write-offsets c =
     listing-room (c .before .before .before .before .before .before .pre .1 .0)
     (c .before .before .before .loop .inv) (omega arith) (c .if1 .left)
     (c .before .before .before .before .before .before .pre .1 .1 .1)
-
-add-k : tie.Need-add-k Inv-loop μ-loop
-add-k c = search needs
-
-size-at-requires : tie.Need-size-at-requires Inv-loop μ-loop
-size-at-requires c κs = search needs
-
-add-at-2 : tie.Need-add-at-2 Inv-loop μ-loop
-add-at-2 c = search needs
-
-sub-owed-2 : tie.Need-sub-owed-2 Inv-loop μ-loop
-sub-owed-2 c = search needs
 
 loop-less-2 : tie.Need-loop-less-2 Inv-loop μ-loop
 loop-less-2 c =
@@ -84,25 +48,7 @@ returns c = listing-done (c .before .before .before .before .pre .1 .0) (c .befo
 
 pub elements-spec : {M : Type 1} → statement M
 elements-spec =
-    tie.close
-    (tie.spec
-    Inv-loop
-    μ-loop
-    arity-requires
-    loop-holds
-    mul-if1
-    index-1-if1
-    add-at
-    sub-owed
-    add-owed
-    loop-less
-    loop-again
-    cast-offsets
-    element-write-offsets
-    add-k
-    size-at-requires
-    add-at-2
-    sub-owed-2
-    loop-less-2
-    loop-again-2
-    returns)
+    tie.close (tie.spec Inv-loop μ-loop (λ c κs. search needs) loop-holds (λ c. search needs) (λ c. search needs)
+    (λ c. search needs) (λ c. search needs) (λ c. search needs) (λ c. search needs) loop-again (λ c. search needs)
+    element-write-offsets (λ c. search needs) (λ c κs. search needs) (λ c. search needs) (λ c. search needs) loop-less-2
+    loop-again-2 returns)

@@ -5,17 +5,9 @@ use borrow.Author.Needs.{needs}
 use Rattle.equivalence.proofs.keys.key_at.Statement.{statement}
 use Rattle.equivalence.proofs.keys.key_at.Tie as tie
 
-mul-result : tie.Need-mul-result
-mul-result c = search needs
-
-element-copy-out-result : tie.Need-element-copy-out-result
-element-copy-out-result c = search needs
-
-returns : tie.Need-returns
-returns c = search needs
-
 returns-2 : tie.Need-returns-2
 returns-2 c = sym (List·getD-eq-default (c .before .args .keys .now) 0 (omega arith))
 
 pub key-at-spec : {M : Type 1} → statement M
-key-at-spec = tie.close (tie.spec mul-result element-copy-out-result returns returns-2)
+key-at-spec =
+    tie.close (tie.spec (λ c. search needs) (λ c. search needs) (λ c. search needs) returns-2)

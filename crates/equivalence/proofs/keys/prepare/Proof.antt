@@ -19,38 +19,8 @@ abbrev μ-loop : tie.MeasureT-loop
 loop-holds : tie.Need-loop-holds Inv-loop μ-loop
 loop-holds c = (omega arith, omega arith, λ k h l. absurd (omega arith))
 
-sub-i : tie.Need-sub-i Inv-loop μ-loop
-sub-i c = search needs
-
-mul-word : tie.Need-mul-word Inv-loop μ-loop
-mul-word c = search needs
-
-shared-slice-read-word : tie.Need-shared-slice-read-word Inv-loop μ-loop
-shared-slice-read-word c = search needs
-
-is-ac-requires : tie.Need-is-ac-requires Inv-loop μ-loop
-is-ac-requires c κs = search needs
-
-add-gather : tie.Need-add-gather Inv-loop μ-loop
-add-gather c = search needs
-
-arity-requires : tie.Need-arity-requires Inv-loop μ-loop
-arity-requires c κs = search needs
-
 gather-requires : tie.Need-gather-requires Inv-loop μ-loop
 gather-requires c κs = omega (arith, c .arity .ensures .1)
-
-mul-keys : tie.Need-mul-keys Inv-loop μ-loop
-mul-keys c = search needs
-
-long-requires : tie.Need-long-requires Inv-loop μ-loop
-long-requires c κs = search needs
-
-mul-keys-2 : tie.Need-mul-keys-2 Inv-loop μ-loop
-mul-keys-2 c = search needs
-
-add-keys : tie.Need-add-keys Inv-loop μ-loop
-add-keys c = search needs
 
 sub-keys : tie.Need-sub-keys Inv-loop μ-loop
 sub-keys c =
@@ -74,15 +44,6 @@ add-keys-2 c =
     (c .before .gather .ensures .0) (c .before .gather .ensures .1 .0) in
     omega arith
 
-mul-keys-3 : tie.Need-mul-keys-3 Inv-loop μ-loop
-mul-keys-3 c = search needs
-
-element-write-keys : tie.Need-element-write-keys Inv-loop μ-loop
-element-write-keys c = search needs
-
-loop-less : tie.Need-loop-less Inv-loop μ-loop
-loop-less c = search needs
-
 loop-again : tie.Need-loop-again Inv-loop μ-loop
 loop-again c =
     let a = c .before .before .before .before .before .before .before .before .before .before .args in
@@ -104,26 +65,7 @@ returns c = record {
 
 pub prepare-spec : {M : Type 1} → statement M
 prepare-spec =
-    tie.close
-    (tie.spec
-    Inv-loop
-    μ-loop
-    loop-holds
-    sub-i
-    mul-word
-    shared-slice-read-word
-    is-ac-requires
-    add-gather
-    arity-requires
-    gather-requires
-    mul-keys
-    long-requires
-    mul-keys-2
-    add-keys
-    sub-keys
-    add-keys-2
-    mul-keys-3
-    element-write-keys
-    loop-less
-    loop-again
-    returns)
+    tie.close (tie.spec Inv-loop μ-loop loop-holds (λ c. search needs) (λ c. search needs) (λ c. search needs)
+    (λ c κs. search needs) (λ c. search needs) (λ c κs. search needs) gather-requires (λ c. search needs)
+    (λ c κs. search needs) (λ c. search needs) (λ c. search needs) sub-keys add-keys-2 (λ c. search needs)
+    (λ c. search needs) (λ c. search needs) loop-again returns)

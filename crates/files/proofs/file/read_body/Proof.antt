@@ -5,15 +5,6 @@ use borrow.Author.Needs.{needs}
 use Rattle.files.proofs.file.read_body.Statement.{statement}
 use Rattle.files.proofs.file.read_body.Tie as tie
 
-read-symbols-requires : tie.Need-read-symbols-requires
-read-symbols-requires c κs = search needs
-
-enum-known-next : tie.Need-enum-known-next
-enum-known-next c = search needs
-
-enum-known-code : tie.Need-enum-known-code
-enum-known-code c = search needs
-
 returns : tie.Need-returns
 returns c =
     let a = c .before .before .before .before .before .args in
@@ -73,12 +64,6 @@ read-rules-requires c κs =
           (c .before .arities .result) (c .before .arities .ensures),
     )
 
-enum-known-next-2 : tie.Need-enum-known-next-2
-enum-known-next-2 c = search needs
-
-enum-known-code-2 : tie.Need-enum-known-code-2
-enum-known-code-2 c = search needs
-
 returns-2 : tie.Need-returns-2
 returns-2 c =
     let a = c .before .before .before .before .before .before .before .before .before .before .before .before .args in
@@ -120,19 +105,6 @@ returns-4 c =
 
 pub read-body-spec : {M : Type 1} → statement M
 read-body-spec =
-    tie.close
-    (tie.spec
-    read-symbols-requires
-    enum-known-next
-    enum-known-code
-    returns
-    sub-arities
-    part-arities-start
-    part-arities-end
-    arities-requires
-    read-rules-requires
-    enum-known-next-2
-    enum-known-code-2
-    returns-2
-    returns-3
-    returns-4)
+    tie.close (tie.spec (λ c κs. search needs) (λ c. search needs) (λ c. search needs) returns sub-arities
+    part-arities-start part-arities-end arities-requires read-rules-requires (λ c. search needs) (λ c. search needs)
+    returns-2 returns-3 returns-4)

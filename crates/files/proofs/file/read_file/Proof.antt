@@ -5,21 +5,6 @@ use borrow.Author.Needs.{needs}
 use Rattle.files.proofs.file.read_file.Statement.{statement}
 use Rattle.files.proofs.file.read_file.Tie as tie
 
-read-header-requires : tie.Need-read-header-requires
-read-header-requires c κs = search needs
-
-enum-known-code : tie.Need-enum-known-code
-enum-known-code c = search needs
-
-enum-known-h : tie.Need-enum-known-h
-enum-known-h c = search needs
-
-wide-requires : tie.Need-wide-requires
-wide-requires c κs = search needs
-
-wide-requires-2 : tie.Need-wide-requires-2
-wide-requires-2 c κs = search needs
-
 read-body-requires : tie.Need-read-body-requires
 unfolding readWords
 read-body-requires c κs =
@@ -43,13 +28,5 @@ returns-2 c =
 
 pub read-file-spec : {M : Type 1} → statement M
 read-file-spec =
-    tie.close
-    (tie.spec
-    read-header-requires
-    enum-known-code
-    enum-known-h
-    wide-requires
-    wide-requires-2
-    read-body-requires
-    returns
-    returns-2)
+    tie.close (tie.spec (λ c κs. search needs) (λ c. search needs) (λ c. search needs) (λ c κs. search needs)
+    (λ c κs. search needs) read-body-requires returns returns-2)

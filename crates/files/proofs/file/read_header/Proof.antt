@@ -8,15 +8,6 @@ use borrow.Author.Needs.{needs}
 use Rattle.files.proofs.file.read_header.Statement.{statement}
 use Rattle.files.proofs.file.read_header.Tie as tie
 
-below-requires : tie.Need-below-requires
-below-requires c κs = search needs
-
-enum-known-word : tie.Need-enum-known-word
-enum-known-word c = search needs
-
-enum-known-code : tie.Need-enum-known-code
-enum-known-code c = search needs
-
 returns : tie.Need-returns
 unfolding fileReader
 returns c = (rw (sym (c .before .before .before .below .ensures) ∙ ap wordReading (c .before .code .given .1)), tt)
@@ -32,15 +23,6 @@ returns-2 c = (
   ),
   tt,
 )
-
-below-requires-2 : tie.Need-below-requires-2
-below-requires-2 c κs = search needs
-
-enum-known-word-2 : tie.Need-enum-known-word-2
-enum-known-word-2 c = search needs
-
-enum-known-code-2 : tie.Need-enum-known-code-2
-enum-known-code-2 c = search needs
 
 returns-3 : tie.Need-returns-3
 unfolding fileReader
@@ -71,15 +53,6 @@ returns-4 c =
       ),
       tt,
     )
-
-below-requires-3 : tie.Need-below-requires-3
-below-requires-3 c κs = search needs
-
-enum-known-word-3 : tie.Need-enum-known-word-3
-enum-known-word-3 c = search needs
-
-enum-known-code-3 : tie.Need-enum-known-code-3
-enum-known-code-3 c = search needs
 
 returns-5 : tie.Need-returns-5
 unfolding fileReader
@@ -118,15 +91,6 @@ returns-6 c =
       ),
       tt,
     )
-
-below-requires-4 : tie.Need-below-requires-4
-below-requires-4 c κs = search needs
-
-enum-known-word-4 : tie.Need-enum-known-word-4
-enum-known-word-4 c = search needs
-
-enum-known-code-4 : tie.Need-enum-known-code-4
-enum-known-code-4 c = search needs
 
 returns-7 : tie.Need-returns-7
 unfolding fileReader
@@ -172,25 +136,7 @@ returns-8 c =
 
 pub read-header-spec : {M : Type 1} → statement M
 read-header-spec =
-    tie.close
-    (tie.spec
-    below-requires
-    enum-known-word
-    enum-known-code
-    returns
-    returns-2
-    below-requires-2
-    enum-known-word-2
-    enum-known-code-2
-    returns-3
-    returns-4
-    below-requires-3
-    enum-known-word-3
-    enum-known-code-3
-    returns-5
-    returns-6
-    below-requires-4
-    enum-known-word-4
-    enum-known-code-4
-    returns-7
-    returns-8)
+    tie.close (tie.spec (λ c κs. search needs) (λ c. search needs) (λ c. search needs) returns returns-2
+    (λ c κs. search needs) (λ c. search needs) (λ c. search needs) returns-3 returns-4 (λ c κs. search needs)
+    (λ c. search needs) (λ c. search needs) returns-5 returns-6 (λ c κs. search needs) (λ c. search needs)
+    (λ c. search needs) returns-7 returns-8)

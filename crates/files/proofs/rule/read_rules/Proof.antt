@@ -34,9 +34,6 @@ loop-holds c =
 rule-requires : tie.Need-rule-requires Inv-loop μ-loop
 rule-requires c κs = (omega arith, c .before .before .before .pre .1)
 
-enum-known-code : tie.Need-enum-known-code Inv-loop μ-loop
-enum-known-code c = search needs
-
 returns : tie.Need-returns Inv-loop μ-loop
 returns c σ table =
     let a = c .before .before .before .before .before .before .before .args in
@@ -44,15 +41,6 @@ returns c σ table =
     sym (c .before .before .before .before .before .loop .inv .2 σ table ∙ rules-more (wordSource (a .words .now)) σ
     n (c .before .before .before .before .before .loop .here .at) (omega arith)
     ∙ rw (sym (c .before .before .before .rule .ensures σ table) ∙ c .before .code .given .1))
-
-enum-known-next : tie.Need-enum-known-next Inv-loop μ-loop
-enum-known-next c = search needs
-
-add-i : tie.Need-add-i Inv-loop μ-loop
-add-i c = search needs
-
-loop-less : tie.Need-loop-less Inv-loop μ-loop
-loop-less c = search needs
 
 loop-again : tie.Need-loop-again Inv-loop μ-loop
 loop-again c =
@@ -80,16 +68,5 @@ returns-2 c σ table =
 
 pub read-rules-spec : {M : Type 1} → statement M
 read-rules-spec =
-    tie.close
-    (tie.spec
-    Inv-loop
-    μ-loop
-    loop-holds
-    rule-requires
-    enum-known-code
-    returns
-    enum-known-next
-    add-i
-    loop-less
-    loop-again
-    returns-2)
+    tie.close (tie.spec Inv-loop μ-loop loop-holds rule-requires (λ c. search needs) returns (λ c. search needs)
+    (λ c. search needs) (λ c. search needs) loop-again returns-2)

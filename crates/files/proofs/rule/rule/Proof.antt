@@ -8,15 +8,6 @@ use borrow.Author.Needs.{needs}
 use Rattle.files.proofs.rule.rule.Statement.{statement}
 use Rattle.files.proofs.rule.rule.Tie as tie
 
-term-requires : tie.Need-term-requires
-term-requires c κs = search needs
-
-enum-known-next : tie.Need-enum-known-next
-enum-known-next c = search needs
-
-enum-known-code : tie.Need-enum-known-code
-enum-known-code c = search needs
-
 returns : tie.Need-returns
 returns c σ table =
     sym (rule-one (wordSource (c .before .before .before .before .before .args .words .now)) σ
@@ -42,5 +33,5 @@ returns-2 c σ table =
 
 pub rule-spec : {M : Type 1} → statement M
 rule-spec =
-    tie.close
-    (tie.spec term-requires enum-known-next enum-known-code returns term-requires-2 returns-2)
+    tie.close (tie.spec (λ c κs. search needs) (λ c. search needs) (λ c. search needs) returns term-requires-2
+    returns-2)

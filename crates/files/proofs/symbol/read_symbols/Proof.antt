@@ -16,12 +16,6 @@ abbrev μ-loop : tie.MeasureT-loop
 loop-holds : tie.Need-loop-holds Inv-loop μ-loop
 loop-holds c = (omega arith, symbols-start (c .before .args .words .now) (c .before .args .w0) (c .before .args .count))
 
-symbol-requires : tie.Need-symbol-requires Inv-loop μ-loop
-symbol-requires c κs = search needs
-
-enum-known-code : tie.Need-enum-known-code Inv-loop μ-loop
-enum-known-code c = search needs
-
 returns : tie.Need-returns Inv-loop μ-loop
 returns c =
     let l = c .before .before .before .before .before .before .before .before .args .words .now in
@@ -31,12 +25,6 @@ returns c =
     (c .before .before .before .before .before .loop-test .taken) _ _
     (sym (ap (symbolReading l (c .before .before .before .before .before .before .loop .here .at))
     (c .before .code .given .1)) ∙ c .before .before .before .symbol .ensures _ (h .ranks))
-
-enum-known-rank : tie.Need-enum-known-rank Inv-loop μ-loop
-enum-known-rank c = search needs
-
-wide-requires : tie.Need-wide-requires Inv-loop μ-loop
-wide-requires c κs = search needs
 
 array-write-taken : tie.Need-array-write-taken Inv-loop μ-loop
 array-write-taken c =
@@ -49,12 +37,6 @@ array-write-taken c =
     (sym (ap (symbolReading l (c .before .before .before .before .before .before .before .loop .here .at))
     (c .before .before .rank .given .1)) ∙ c .before .before .before .before .symbol .ensures _ (h .ranks)) in
     omega (arith, step .0, c .wide .ensures .0)
-
-add-i : tie.Need-add-i Inv-loop μ-loop
-add-i c = search needs
-
-loop-less : tie.Need-loop-less Inv-loop μ-loop
-loop-less c = search needs
 
 loop-again : tie.Need-loop-again Inv-loop μ-loop
 loop-again c =
@@ -75,18 +57,6 @@ returns-2 c = symbols-end (c .before .before .before .args .words .now) (c .befo
 
 pub read-symbols-spec : {M : Type 1} → statement M
 read-symbols-spec =
-    tie.close
-    (tie.spec
-    Inv-loop
-    μ-loop
-    loop-holds
-    symbol-requires
-    enum-known-code
-    returns
-    enum-known-rank
-    wide-requires
-    array-write-taken
-    add-i
-    loop-less
-    loop-again
+    tie.close (tie.spec Inv-loop μ-loop loop-holds (λ c κs. search needs) (λ c. search needs) returns
+    (λ c. search needs) (λ c κs. search needs) array-write-taken (λ c. search needs) (λ c. search needs) loop-again
     returns-2)

@@ -13,28 +13,10 @@ use borrow.Author.Needs.{needs}
 use Rattle.files.proofs.symbol.symbol.Statement.{statement}
 use Rattle.files.proofs.symbol.symbol.Tie as tie
 
-below-requires : tie.Need-below-requires
-below-requires c κs = search needs
-
-enum-known-word : tie.Need-enum-known-word
-enum-known-word c = search needs
-
-enum-known-code : tie.Need-enum-known-code
-enum-known-code c = search needs
-
 returns : tie.Need-returns
 unfolding symbolReader
 returns c = λ earlier ranks. rw (sym (c .before .before .before .below .ensures) ∙ ap wordReading
     (c .before .code .given .1))
-
-below-requires-2 : tie.Need-below-requires-2
-below-requires-2 c κs = search needs
-
-enum-known-word-2 : tie.Need-enum-known-word-2
-enum-known-word-2 c = search needs
-
-enum-known-code-2 : tie.Need-enum-known-code-2
-enum-known-code-2 c = search needs
 
 returns-2 : tie.Need-returns-2
 unfolding symbolReader
@@ -46,9 +28,6 @@ returns-2 c = λ earlier ranks.
           ∙ ap wordReading (c .before .code2 .given .1),
     )
 
-binary-if-ac-requires : tie.Need-binary-if-ac-requires
-binary-if-ac-requires c κs = search needs
-
 returns-3 : tie.Need-returns-3
 unfolding symbolReader
 returns-3 c = λ earlier ranks.
@@ -59,15 +38,6 @@ returns-3 c = λ earlier ranks.
           (c .before .before .before .word2 .given .1),
       sym (c .before .binary-if-ac .ensures) ∙ not-true _ (c .if1 .taken),
     )
-
-below-requires-3 : tie.Need-below-requires-3
-below-requires-3 c κs = search needs
-
-enum-known-word-3 : tie.Need-enum-known-word-3
-enum-known-word-3 c = search needs
-
-enum-known-code-3 : tie.Need-enum-known-code-3
-enum-known-code-3 c = search needs
 
 returns-4 : tie.Need-returns-4
 unfolding symbolReader
@@ -82,9 +52,6 @@ returns-4 c = λ earlier ranks.
           (c .before .before .before .before .if1 .left),
       sym (c .before .before .before .below3 .ensures) ∙ ap wordReading (c .before .code3 .given .1),
     )
-
-least-weight-requires : tie.Need-least-weight-requires
-least-weight-requires c κs = search needs
 
 returns-5 : tie.Need-returns-5
 unfolding symbolReader
@@ -107,15 +74,6 @@ returns-5 c =
       sym (c6 .below3 .ensures) ∙ ap wordReading (c4 .word3 .given .1),
       lt-leb _ _ h,
     )
-
-below-requires-4 : tie.Need-below-requires-4
-below-requires-4 c κs = search needs
-
-enum-known-word-4 : tie.Need-enum-known-word-4
-enum-known-word-4 c = search needs
-
-enum-known-code-4 : tie.Need-enum-known-code-4
-enum-known-code-4 c = search needs
 
 returns-6 : tie.Need-returns-6
 unfolding symbolReader
@@ -142,9 +100,6 @@ returns-6 c =
       le-leb _ _ h,
       sym (c3 .below4 .ensures) ∙ ap wordReading (c .before .code4 .given .1),
     )
-
-wide-requires : tie.Need-wide-requires
-wide-requires c κs = search needs
 
 element-copy-out-if3 : tie.Need-element-copy-out-if3
 unfolding symbolReader
@@ -225,29 +180,7 @@ returns-8 c =
 
 pub symbol-spec : {M : Type 1} → statement M
 symbol-spec =
-    tie.close
-    (tie.spec
-    below-requires
-    enum-known-word
-    enum-known-code
-    returns
-    below-requires-2
-    enum-known-word-2
-    enum-known-code-2
-    returns-2
-    binary-if-ac-requires
-    returns-3
-    below-requires-3
-    enum-known-word-3
-    enum-known-code-3
-    returns-4
-    least-weight-requires
-    returns-5
-    below-requires-4
-    enum-known-word-4
-    enum-known-code-4
-    returns-6
-    wide-requires
-    element-copy-out-if3
-    returns-7
-    returns-8)
+    tie.close (tie.spec (λ c κs. search needs) (λ c. search needs) (λ c. search needs) returns (λ c κs. search needs)
+    (λ c. search needs) (λ c. search needs) returns-2 (λ c κs. search needs) returns-3 (λ c κs. search needs)
+    (λ c. search needs) (λ c. search needs) returns-4 (λ c κs. search needs) returns-5 (λ c κs. search needs)
+    (λ c. search needs) (λ c. search needs) returns-6 (λ c κs. search needs) element-copy-out-if3 returns-7 returns-8)

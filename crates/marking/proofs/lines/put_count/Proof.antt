@@ -6,18 +6,6 @@ use borrow.Author.Needs.{needs}
 use Rattle.marking.proofs.lines.put_count.Statement.{statement}
 use Rattle.marking.proofs.lines.put_count.Tie as tie
 
-put-bytes-requires : tie.Need-put-bytes-requires
-put-bytes-requires c κs = search needs
-
-put-byte-requires : tie.Need-put-byte-requires
-put-byte-requires c κs = search needs
-
-put-number-requires : tie.Need-put-number-requires
-put-number-requires c κs = search needs
-
-same-length : tie.Need-same-length
-same-length c = search needs
-
 returns : tie.Need-returns
 returns c =
     let c6 = c .before .before .before .before .before .before in
@@ -45,5 +33,5 @@ returns c =
 
 pub put-count-spec : {M : Type 1} → statement M
 put-count-spec =
-    tie.close
-    (tie.spec put-bytes-requires put-byte-requires put-number-requires same-length returns)
+    tie.close (tie.spec (λ c κs. search needs) (λ c κs. search needs) (λ c κs. search needs) (λ c. search needs)
+    returns)

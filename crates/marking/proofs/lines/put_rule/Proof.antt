@@ -7,21 +7,6 @@ use borrow.Author.Needs.{needs}
 use Rattle.marking.proofs.lines.put_rule.Statement.{statement}
 use Rattle.marking.proofs.lines.put_rule.Tie as tie
 
-put-number-requires : tie.Need-put-number-requires
-put-number-requires c κs = search needs
-
-put-number-requires-2 : tie.Need-put-number-requires-2
-put-number-requires-2 c κs = search needs
-
-put-difference-requires : tie.Need-put-difference-requires
-put-difference-requires c κs = search needs
-
-put-byte-requires : tie.Need-put-byte-requires
-put-byte-requires c κs = search needs
-
-same-length : tie.Need-same-length
-same-length c = search needs
-
 returns : tie.Need-returns
 returns c =
     let c6 = c .before .before .before .before .before .before in
@@ -54,11 +39,5 @@ returns c =
 
 pub put-rule-spec : {M : Type 1} → statement M
 put-rule-spec =
-    tie.close
-    (tie.spec
-    put-number-requires
-    put-number-requires-2
-    put-difference-requires
-    put-byte-requires
-    same-length
-    returns)
+    tie.close (tie.spec (λ c κs. search needs) (λ c κs. search needs) (λ c κs. search needs) (λ c κs. search needs)
+    (λ c. search needs) returns)

@@ -6,21 +6,6 @@ use borrow.Author.Needs.{needs}
 use Rattle.marking.proofs.mark.mark.Statement.{statement}
 use Rattle.marking.proofs.mark.mark.Tie as tie
 
-slice-aggregate-read-head : tie.Need-slice-aggregate-read-head
-slice-aggregate-read-head c = search needs
-
-read-head-requires : tie.Need-read-head-requires
-read-head-requires c κs = search needs
-
-enum-known-code : tie.Need-enum-known-code
-enum-known-code c = search needs
-
-refused-requires : tie.Need-refused-requires
-refused-requires c κs = search needs
-
-enum-known-symbols : tie.Need-enum-known-symbols
-enum-known-symbols c = search needs
-
 mul-front : tie.Need-mul-front
 mul-front c =
     let head = rw (c .before .symbols .given .1) at (c .before .before .before .before .read-head .ensures) in
@@ -66,9 +51,6 @@ returns c =
     .read-head .ensures)) in
     (c .refused .ensures ∙ reply, output)
 
-same-length : tie.Need-same-length
-same-length c = search needs
-
 returns-2 : tie.Need-returns-2
 returns-2 c =
     let c6 = c .before .before .before .before .before .before in
@@ -78,18 +60,6 @@ returns-2 c =
 
 pub mark-spec : {M : Type 1} → statement M
 mark-spec =
-    tie.close
-    (tie.spec
-    slice-aggregate-read-head
-    read-head-requires
-    enum-known-code
-    refused-requires
-    enum-known-symbols
-    mul-front
-    add-front
-    array-share-prefix-table
-    slice-aggregate-mark-under
-    mark-under-requires
-    returns
-    same-length
-    returns-2)
+    tie.close (tie.spec (λ c. search needs) (λ c κs. search needs) (λ c. search needs) (λ c κs. search needs)
+    (λ c. search needs) mul-front add-front array-share-prefix-table slice-aggregate-mark-under mark-under-requires
+    returns (λ c. search needs) returns-2)

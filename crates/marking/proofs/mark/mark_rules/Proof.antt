@@ -33,9 +33,6 @@ orient-requires c κs =
     let c5 = c .before .before .before .before .before in
     ((c5 .pre .0 .0, c .before .loop .inv .3), c5 .pre .1 .0)
 
-enum-known-code : tie.Need-enum-known-code Inv-loop μ-loop
-enum-known-code c = search needs
-
 same-length : tie.Need-same-length Inv-loop μ-loop
 same-length c = c .before .before .before .before .before .loop .inv .2
 
@@ -52,24 +49,6 @@ returns c =
           (rw (c .before .code .given .1) at (c3 .orient .ensures .0)),
       tt,
     )
-
-enum-known-rule : tie.Need-enum-known-rule Inv-loop μ-loop
-enum-known-rule c = search needs
-
-slice-write-marks : tie.Need-slice-write-marks Inv-loop μ-loop
-slice-write-marks c = search needs
-
-decreases-requires : tie.Need-decreases-requires Inv-loop μ-loop
-decreases-requires c κs = search needs
-
-add-decreasing : tie.Need-add-decreasing Inv-loop μ-loop
-add-decreasing c = search needs
-
-add-i : tie.Need-add-i Inv-loop μ-loop
-add-i c = search needs
-
-loop-less : tie.Need-loop-less Inv-loop μ-loop
-loop-less c = search needs
 
 loop-again : tie.Need-loop-again Inv-loop μ-loop
 loop-again c =
@@ -109,21 +88,6 @@ returns-2 c =
 
 pub mark-rules-spec : {M : Type 1} → statement M
 mark-rules-spec =
-    tie.close
-    (tie.spec
-    Inv-loop
-    μ-loop
-    loop-holds
-    orient-requires
-    enum-known-code
-    same-length
-    returns
-    enum-known-rule
-    slice-write-marks
-    decreases-requires
-    add-decreasing
-    add-i
-    loop-less
-    loop-again
-    same-length-2
-    returns-2)
+    tie.close (tie.spec Inv-loop μ-loop loop-holds orient-requires (λ c. search needs) same-length returns
+    (λ c. search needs) (λ c. search needs) (λ c κs. search needs) (λ c. search needs) (λ c. search needs)
+    (λ c. search needs) loop-again same-length-2 returns-2)

@@ -10,36 +10,12 @@ use borrow.Author.Needs.{needs}
 use Rattle.marking.proofs.mark.mark_under.Statement.{statement}
 use Rattle.marking.proofs.mark.mark_under.Tie as tie
 
-arities-requires : tie.Need-arities-requires
-arities-requires c κs = search needs
-
-node-sums-requires : tie.Need-node-sums-requires
-node-sums-requires c κs = search needs
-
-slice-aggregate-mark-rules : tie.Need-slice-aggregate-mark-rules
-slice-aggregate-mark-rules c = search needs
-
 mark-rules-requires : tie.Need-mark-rules-requires
 mark-rules-requires c κs =
     let c3 = c .before .before .before in
     let c4 = c3 .before in
     let c8 = c4 .before .before .before .before in
     (c8 .pre .0, ((c8 .pre .1 .0, c4 .arities .ensures, c3 .node-sums .ensures), (omega arith, c8 .pre .1 .1)))
-
-enum-known-code : tie.Need-enum-known-code
-enum-known-code c = search needs
-
-refused-requires : tie.Need-refused-requires
-refused-requires c κs = search needs
-
-enum-known-decreasing : tie.Need-enum-known-decreasing
-enum-known-decreasing c = search needs
-
-is-padding-requires : tie.Need-is-padding-requires
-is-padding-requires c κs = search needs
-
-refused-requires-2 : tie.Need-refused-requires-2
-refused-requires-2 c κs = search needs
 
 returns : tie.Need-returns
 returns c =
@@ -53,9 +29,6 @@ returns c =
     (whole ∙ rest-unpadded (a .book .now) (signatureOf (a .table .now)) (a .count) (a .cursor .at) (read .0) _ (read
     .1) (sym (c .before .before .is-padding .ensures) ∙ not-true _ (c .before .if1 .taken))) in
     (c .refused2 .ensures ∙ reply, output)
-
-refused-requires-3 : tie.Need-refused-requires-3
-refused-requires-3 c κs = search needs
 
 returns-2 : tie.Need-returns-2
 returns-2 c =
@@ -73,9 +46,6 @@ returns-2 c =
     (whole ∙ rest-padded (a .book .now) (signatureOf (a .table .now)) (a .count) (a .cursor .at) (read .0) _ (read .1)
     pad) (a .count) long (c .before .if2 .taken) in
     (c .refused3 .ensures ∙ reply, output)
-
-array-share-prefix-found : tie.Need-array-share-prefix-found
-array-share-prefix-found c = search needs
 
 slice-aggregate-put-bytes : tie.Need-slice-aggregate-put-bytes
 slice-aggregate-put-bytes c =
@@ -112,9 +82,6 @@ returns-3 c =
     .before .code .given .1) at (c5 .mark-rules .ensures .0))) in
     (c .refused .ensures ∙ reply, output)
 
-same-length : tie.Need-same-length
-same-length c = search needs
-
 returns-4 : tie.Need-returns-4
 returns-4 c =
     let c3 = c .before .before .before in
@@ -140,24 +107,7 @@ returns-4 c =
 
 pub mark-under-spec : {M : Type 1} → statement M
 mark-under-spec =
-    tie.close
-    (tie.spec
-    arities-requires
-    node-sums-requires
-    slice-aggregate-mark-rules
-    mark-rules-requires
-    enum-known-code
-    refused-requires
-    enum-known-decreasing
-    is-padding-requires
-    refused-requires-2
-    returns
-    refused-requires-3
-    returns-2
-    array-share-prefix-found
-    slice-aggregate-put-bytes
-    put-bytes-requires
-    score-requires
-    returns-3
-    same-length
-    returns-4)
+    tie.close (tie.spec (λ c κs. search needs) (λ c κs. search needs) (λ c. search needs) mark-rules-requires
+    (λ c. search needs) (λ c κs. search needs) (λ c. search needs) (λ c κs. search needs) (λ c κs. search needs) returns
+    (λ c κs. search needs) returns-2 (λ c. search needs) slice-aggregate-put-bytes put-bytes-requires score-requires
+    returns-3 (λ c. search needs) returns-4)

@@ -9,12 +9,6 @@ use Rattle.marking.proofs.mark.score.Tie as tie
 returns : tie.Need-returns
 returns c = (rw (eq-eqb (c .before .args .rules) 0 (c .if1 .taken)), omega arith)
 
-mul-result : tie.Need-mul-result
-mul-result c = search needs
-
-div-result : tie.Need-div-result
-div-result c = search needs
-
 returns-2 : tie.Need-returns-2
 returns-2 c = (
   rw (ne-eqb (c .before .args .rules) 0 (c .if1 .left)),
@@ -23,4 +17,5 @@ returns-2 c = (
 )
 
 pub score-spec : {M : Type 1} → statement M
-score-spec = tie.close (tie.spec returns mul-result div-result returns-2)
+score-spec =
+    tie.close (tie.spec returns (λ c. search needs) (λ c. search needs) returns-2)

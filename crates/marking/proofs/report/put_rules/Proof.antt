@@ -35,9 +35,6 @@ orient-requires c κs =
     let c5 = c .before .before .before .before .before in
     ((c5 .pre .0 .0, c .before .loop .inv .4), c5 .pre .1 .0)
 
-enum-told : tie.Need-enum-told Inv-loop μ-loop
-enum-told c = search needs
-
 same-length : tie.Need-same-length Inv-loop μ-loop
 same-length c = c .before .before .before .before .loop .inv .3
 
@@ -55,29 +52,11 @@ returns c =
       (omega arith, omega arith),
     )
 
-enum-known-rule : tie.Need-enum-known-rule Inv-loop μ-loop
-enum-known-rule c = search needs
-
-long-requires : tie.Need-long-requires Inv-loop μ-loop
-long-requires c κs = search needs
-
 put-rule-requires : tie.Need-put-rule-requires Inv-loop μ-loop
 put-rule-requires c κs =
     let within = rw (c .before .before .before .rule .given .1) at (c .before .before .before .before .before .orient
     .ensures .1) in
     omega (arith, within .0, within .1, c .long .ensures .1)
-
-decreases-requires : tie.Need-decreases-requires Inv-loop μ-loop
-decreases-requires c κs = search needs
-
-add-decreasing : tie.Need-add-decreasing Inv-loop μ-loop
-add-decreasing c = search needs
-
-add-i : tie.Need-add-i Inv-loop μ-loop
-add-i c = search needs
-
-loop-less : tie.Need-loop-less Inv-loop μ-loop
-loop-less c = search needs
 
 loop-again : tie.Need-loop-again Inv-loop μ-loop
 loop-again c =
@@ -121,22 +100,6 @@ returns-2 c =
 
 pub put-rules-spec : {M : Type 1} → statement M
 put-rules-spec =
-    tie.close
-    (tie.spec
-    Inv-loop
-    μ-loop
-    loop-holds
-    orient-requires
-    enum-told
-    same-length
-    returns
-    enum-known-rule
-    long-requires
-    put-rule-requires
-    decreases-requires
-    add-decreasing
-    add-i
-    loop-less
-    loop-again
-    same-length-2
-    returns-2)
+    tie.close (tie.spec Inv-loop μ-loop loop-holds orient-requires (λ c. search needs) same-length returns
+    (λ c. search needs) (λ c κs. search needs) put-rule-requires (λ c κs. search needs) (λ c. search needs)
+    (λ c. search needs) (λ c. search needs) loop-again same-length-2 returns-2)

@@ -5,24 +5,6 @@ use borrow.Author.Needs.{needs}
 use Rattle.marking.proofs.report.put_summary.Statement.{statement}
 use Rattle.marking.proofs.report.put_summary.Tie as tie
 
-slice-aggregate-put-count : tie.Need-slice-aggregate-put-count
-slice-aggregate-put-count c = search needs
-
-score-requires : tie.Need-score-requires
-score-requires c κs = search needs
-
-put-count-requires : tie.Need-put-count-requires
-put-count-requires c κs = search needs
-
-slice-aggregate-put-bytes : tie.Need-slice-aggregate-put-bytes
-slice-aggregate-put-bytes c = search needs
-
-put-bytes-requires : tie.Need-put-bytes-requires
-put-bytes-requires c κs = search needs
-
-same-length : tie.Need-same-length
-same-length c = search needs
-
 returns : tie.Need-returns
 returns c =
     let c5 = c .before .before .before .before .before in
@@ -38,15 +20,6 @@ returns c =
           (n .0, n .1 .0) (c .before .before .put-bytes .ensures),
       omega (arith, n .1 .1, c .before .before .put-bytes .ensures .0),
     )
-
-slice-aggregate-put-bytes-2 : tie.Need-slice-aggregate-put-bytes-2
-slice-aggregate-put-bytes-2 c = search needs
-
-put-bytes-requires-2 : tie.Need-put-bytes-requires-2
-put-bytes-requires-2 c κs = search needs
-
-same-length-2 : tie.Need-same-length-2
-same-length-2 c = search needs
 
 returns-2 : tie.Need-returns-2
 returns-2 c =
@@ -66,16 +39,6 @@ returns-2 c =
 
 pub put-summary-spec : {M : Type 1} → statement M
 put-summary-spec =
-    tie.close
-    (tie.spec
-    slice-aggregate-put-count
-    score-requires
-    put-count-requires
-    slice-aggregate-put-bytes
-    put-bytes-requires
-    same-length
-    returns
-    slice-aggregate-put-bytes-2
-    put-bytes-requires-2
-    same-length-2
+    tie.close (tie.spec (λ c. search needs) (λ c κs. search needs) (λ c κs. search needs) (λ c. search needs)
+    (λ c κs. search needs) (λ c. search needs) returns (λ c. search needs) (λ c κs. search needs) (λ c. search needs)
     returns-2)

@@ -7,21 +7,6 @@ use Rattle.marking.proofs.ReportLaws.{report-refusal, report-marks}
 use Rattle.marking.proofs.report.report.Statement.{statement}
 use Rattle.marking.proofs.report.report.Tie as tie
 
-slice-aggregate-read-file : tie.Need-slice-aggregate-read-file
-slice-aggregate-read-file c = search needs
-
-slice-aggregate-read-file-2 : tie.Need-slice-aggregate-read-file-2
-slice-aggregate-read-file-2 c = search needs
-
-read-file-requires : tie.Need-read-file-requires
-read-file-requires c κs = search needs
-
-enum-known-code : tie.Need-enum-known-code
-enum-known-code c = search needs
-
-long-requires : tie.Need-long-requires
-long-requires c κs = search needs
-
 put-refusal-requires : tie.Need-put-refusal-requires
 put-refusal-requires c κs =
     let c3 = c .before .before .before in
@@ -30,12 +15,6 @@ put-refusal-requires c κs =
       omega (arith, c .long .ensures .1),
       fault-small (c12 .args .book .now) _ _ (rw (c3 .code .given .1) at (c7 .read-file .ensures)),
     )
-
-enum-known-symbol-count : tie.Need-enum-known-symbol-count
-enum-known-symbol-count c = search needs
-
-slice-aggregate-put-count : tie.Need-slice-aggregate-put-count
-slice-aggregate-put-count c = search needs
 
 put-count-requires : tie.Need-put-count-requires
 put-count-requires c κs =
@@ -165,9 +144,6 @@ put-summary-requires c κs =
       omega (arith, parts .head .fewRules, c3 .put-rules .ensures .1 .0),
     )
 
-same-length : tie.Need-same-length
-same-length c = search needs
-
 returns : tie.Need-returns
 returns c =
     let c3 = c .before .before .before in
@@ -180,9 +156,6 @@ returns c =
           (p .0 ∙ rw (c3 .long .ensures .0)) (p .1 .0 ∙ rw (c3 .long .ensures .0)) (omega (arith, p .1 .1)),
       omega (arith, p .1 .1),
     )
-
-same-length-2 : tie.Need-same-length-2
-same-length-2 c = search needs
 
 returns-2 : tie.Need-returns-2
 returns-2 c =
@@ -204,30 +177,8 @@ returns-2 c =
 
 pub report-spec : {M : Type 1} → statement M
 report-spec =
-    tie.close
-    (tie.spec
-    slice-aggregate-read-file
-    slice-aggregate-read-file-2
-    read-file-requires
-    enum-known-code
-    long-requires
-    put-refusal-requires
-    enum-known-symbol-count
-    slice-aggregate-put-count
-    put-count-requires
-    mul-front
-    add-front
-    array-share-prefix-table
-    slice-aggregate-arities
-    arities-requires
-    array-share-prefix-table-2
-    slice-aggregate-node-sums
-    node-sums-requires
-    array-share-prefix-table-3
-    slice-aggregate-put-rules
-    put-rules-requires
-    put-summary-requires
-    same-length
-    returns
-    same-length-2
-    returns-2)
+    tie.close (tie.spec (λ c. search needs) (λ c. search needs) (λ c κs. search needs) (λ c. search needs)
+    (λ c κs. search needs) put-refusal-requires (λ c. search needs) (λ c. search needs) put-count-requires mul-front
+    add-front array-share-prefix-table slice-aggregate-arities arities-requires array-share-prefix-table-2
+    slice-aggregate-node-sums node-sums-requires array-share-prefix-table-3 slice-aggregate-put-rules put-rules-requires
+    put-summary-requires (λ c. search needs) returns (λ c. search needs) returns-2)

@@ -8,15 +8,6 @@ use borrow.Author.Needs.{needs}
 use Rattle.marking.proofs.rule.orient.Statement.{statement}
 use Rattle.marking.proofs.rule.orient.Tie as tie
 
-read-side-requires : tie.Need-read-side-requires
-read-side-requires c κs = search needs
-
-enum-known-code : tie.Need-enum-known-code
-enum-known-code c = search needs
-
-enum-known-count : tie.Need-enum-known-count
-enum-known-count c = search needs
-
 array-share-prefix-left : tie.Need-array-share-prefix-left
 array-share-prefix-left c =
     let c3 = c .before .before .before in
@@ -72,13 +63,5 @@ returns-2 c =
 
 pub orient-spec : {M : Type 1} → statement M
 orient-spec =
-    tie.close
-    (tie.spec
-    read-side-requires
-    enum-known-code
-    enum-known-count
-    array-share-prefix-left
-    slice-aggregate-orient-right
-    orient-right-requires
-    returns
-    returns-2)
+    tie.close (tie.spec (λ c κs. search needs) (λ c. search needs) (λ c. search needs) array-share-prefix-left
+    slice-aggregate-orient-right orient-right-requires returns returns-2)

@@ -7,15 +7,6 @@ use borrow.Author.Needs.{needs}
 use Rattle.marking.proofs.rule.orient_right.Statement.{statement}
 use Rattle.marking.proofs.rule.orient_right.Tie as tie
 
-read-side-requires : tie.Need-read-side-requires
-read-side-requires c κs = search needs
-
-enum-known-code : tie.Need-enum-known-code
-enum-known-code c = search needs
-
-enum-known-count : tie.Need-enum-known-count
-enum-known-count c = search needs
-
 array-share-prefix-right : tie.Need-array-share-prefix-right
 array-share-prefix-right c =
     let c3 = c .before .before .before in
@@ -66,13 +57,5 @@ returns-2 c =
 
 pub orient-right-spec : {M : Type 1} → statement M
 orient-right-spec =
-    tie.close
-    (tie.spec
-    read-side-requires
-    enum-known-code
-    enum-known-count
-    array-share-prefix-right
-    slice-aggregate-orient-sides
-    orient-sides-requires
-    returns
-    returns-2)
+    tie.close (tie.spec (λ c κs. search needs) (λ c. search needs) (λ c. search needs) array-share-prefix-right
+    slice-aggregate-orient-sides orient-sides-requires returns returns-2)

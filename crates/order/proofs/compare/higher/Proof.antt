@@ -15,12 +15,6 @@ returns-2 c =
     let a = c .before .before .before .args in
     rw (lt-ltb (a .f) 256 (c .before .if1 .left), le-ltb (a .g) 256 (c .if2 .taken))
 
-precedence-requires : tie.Need-precedence-requires
-precedence-requires c κs = search needs
-
-precedence-requires-2 : tie.Need-precedence-requires-2
-precedence-requires-2 c κs = search needs
-
 returns-3 : tie.Need-returns-3
 unfolding isHigher
 returns-3 c =
@@ -35,4 +29,4 @@ returns-3 c =
 
 pub higher-spec : {M : Type 1} → statement M
 higher-spec =
-    tie.close (tie.spec returns returns-2 precedence-requires precedence-requires-2 returns-3)
+    tie.close (tie.spec returns returns-2 (λ c κs. search needs) (λ c κs. search needs) returns-3)

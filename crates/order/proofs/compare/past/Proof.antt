@@ -4,9 +4,6 @@ use borrow.Author.Needs.{needs}
 use Rattle.order.proofs.compare.past.Statement.{statement}
 use Rattle.order.proofs.compare.past.Tie as tie
 
-add-result : tie.Need-add-result
-add-result c = search needs
-
 returns : tie.Need-returns
 returns c = let a = c .before .args in
     (rw (eq-eqb (a .next) (a .first) (c .if1 .taken)), omega arith, omega arith)
@@ -16,4 +13,5 @@ returns-2 c = let a = c .before .args in
     (rw (ne-eqb (a .next) (a .first) (c .if1 .left)), omega arith, omega arith)
 
 pub past-spec : {M : Type 1} → statement M
-past-spec = tie.close (tie.spec add-result returns returns-2)
+past-spec =
+    tie.close (tie.spec (λ c. search needs) returns returns-2)

@@ -7,15 +7,6 @@ use borrow.Author.Needs.{needs}
 use Rattle.order.proofs.mark.arguments_mark.Statement.{statement}
 use Rattle.order.proofs.mark.arguments_mark.Tie as tie
 
-shared-slice-read-f : tie.Need-shared-slice-read-f
-shared-slice-read-f c = search needs
-
-arity-requires : tie.Need-arity-requires
-arity-requires c κs = search needs
-
-is-ac-requires : tie.Need-is-ac-requires
-is-ac-requires c κs = search needs
-
 flattened-requires : tie.Need-flattened-requires
 flattened-requires c κs =
     let c3 = c .before .before .before in
@@ -72,5 +63,5 @@ returns-3 c =
 
 pub arguments-mark-spec : {M : Type 1} → statement M
 arguments-mark-spec =
-    tie.close (tie.spec shared-slice-read-f arity-requires is-ac-requires flattened-requires returns
+    tie.close (tie.spec (λ c. search needs) (λ c κs. search needs) (λ c κs. search needs) flattened-requires returns
     rows-greater-requires returns-2 returns-3)

@@ -45,9 +45,6 @@ mark-level-requires c κs =
       ),
     )
 
-returns-3 : tie.Need-returns-3
-returns-3 c = search needs
-
 returns-4 : tie.Need-returns-4
 returns-4 c =
     let a = c .before .before .before .before .before .args in
@@ -58,4 +55,4 @@ returns-4 c =
 
 pub mark-spec : {M : Type 1} → statement M
 mark-spec =
-    tie.close (tie.spec within-requires returns returns-2 mark-level-requires returns-3 returns-4)
+    tie.close (tie.spec within-requires returns returns-2 mark-level-requires (λ c. search needs) returns-4)

@@ -16,15 +16,6 @@ shared-slice-read-f c = left-some (c .before .before .before .before .pre .0)
 shared-slice-read-g : tie.Need-shared-slice-read-g
 shared-slice-read-g c = right-some (c .before .before .before .before .before .pre .0)
 
-mark-prepared-requires : tie.Need-mark-prepared-requires
-mark-prepared-requires c κs = search needs
-
-returns : tie.Need-returns
-returns c = search needs
-
-higher-requires : tie.Need-higher-requires
-higher-requires c κs = search needs
-
 returns-2 : tie.Need-returns-2
 returns-2 c =
     let a = c .before .before .before .before .before .before .before .before .args in
@@ -49,12 +40,5 @@ returns-3 c =
 
 pub mark-level-spec : {M : Type 1} → statement M
 mark-level-spec =
-    tie.close
-    (tie.spec
-    shared-slice-read-f
-    shared-slice-read-g
-    mark-prepared-requires
-    returns
-    higher-requires
-    returns-2
-    returns-3)
+    tie.close (tie.spec shared-slice-read-f shared-slice-read-g (λ c κs. search needs) (λ c. search needs)
+    (λ c κs. search needs) returns-2 returns-3)

@@ -29,9 +29,6 @@ mark-unlike-requires c κs =
     let unlike = sym (c .before .before .if1 .left) ∙ c3 .prepare-both .ensures .0 in
     (c3 .prepare-both .ensures .1, (left-some S, right-some S, R, N, unlike))
 
-returns-2 : tie.Need-returns-2
-returns-2 c = search needs
-
 pub mark-prepared-spec : {M : Type 1} → statement M
 mark-prepared-spec =
-    tie.close (tie.spec prepare-both-requires returns mark-unlike-requires returns-2)
+    tie.close (tie.spec prepare-both-requires returns mark-unlike-requires (λ c. search needs))

@@ -16,21 +16,6 @@ loop-holds : tie.Need-loop-holds Inv-loop μ-loop
 loop-holds c =
     let a = c .args in (omega arith, joined-none (a .table .now) (a .t .now) (a .ps .now) (a .qs .now) (a .k))
 
-element-copy-out-ps : tie.Need-element-copy-out-ps Inv-loop μ-loop
-element-copy-out-ps c = search needs
-
-add-ps : tie.Need-add-ps Inv-loop μ-loop
-add-ps c = search needs
-
-element-write-ps : tie.Need-element-write-ps Inv-loop μ-loop
-element-write-ps c = search needs
-
-add-x : tie.Need-add-x Inv-loop μ-loop
-add-x c = search needs
-
-loop-less : tie.Need-loop-less Inv-loop μ-loop
-loop-less c = search needs
-
 loop-again : tie.Need-loop-again Inv-loop μ-loop
 loop-again c =
     let a = c .before .before .before .args in
@@ -47,15 +32,5 @@ returns c = let d : c .before .loop .x ≡ c .before .before .args .m = omega ar
 
 pub join-spec : {M : Type 1} → statement M
 join-spec =
-    tie.close
-    (tie.spec
-    Inv-loop
-    μ-loop
-    loop-holds
-    element-copy-out-ps
-    add-ps
-    element-write-ps
-    add-x
-    loop-less
-    loop-again
-    returns)
+    tie.close (tie.spec Inv-loop μ-loop loop-holds (λ c. search needs) (λ c. search needs) (λ c. search needs)
+    (λ c. search needs) (λ c. search needs) loop-again returns)

@@ -6,9 +6,6 @@ use borrow.Author.Needs.{needs}
 use Rattle.order.proofs.parts.join_surplus.Statement.{statement}
 use Rattle.order.proofs.parts.join_surplus.Tie as tie
 
-cancel-requires : tie.Need-cancel-requires
-cancel-requires c κs = search needs
-
 join-requires : tie.Need-join-requires
 join-requires c κs =
     let a = c .before .before .before .before .before .before .before .args in
@@ -18,13 +15,11 @@ join-requires c κs =
     (c .before .before .before .before .before .before .before .pre .1 .1 .0) e in
     (omega (arith, few), offsets-own (signatureOf T) (a .t .now .now) _ _ _ e)
 
-add-result : tie.Need-add-result
-add-result c = search needs
-
 returns : tie.Need-returns
 returns c =
     rw (c .before .before .before .before .before .cancel .ensures .1 .there) at (c .join .ensures _
     (c .before .before .before .before .before .before .before .before .pre .1 .1 .1 .0))
 
 pub join-surplus-spec : {M : Type 1} → statement M
-join-surplus-spec = tie.close (tie.spec cancel-requires join-requires add-result returns)
+join-surplus-spec =
+    tie.close (tie.spec (λ c κs. search needs) join-requires (λ c. search needs) returns)

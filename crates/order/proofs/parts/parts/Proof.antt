@@ -2,15 +2,10 @@ use borrow.Author.Needs.{needs}
 use Rattle.order.proofs.parts.parts.Statement.{statement}
 use Rattle.order.proofs.parts.parts.Tie as tie
 
-elements-requires : tie.Need-elements-requires
-elements-requires c κs = search needs
-
-split-requires : tie.Need-split-requires
-split-requires c κs = search needs
-
 returns : tie.Need-returns
 returns c = rw (c .before .before .before .before .before .before .before .elements .ensures .there) at
     (c .split .ensures)
 
 pub parts-spec : {M : Type 1} → statement M
-parts-spec = tie.close (tie.spec elements-requires split-requires returns)
+parts-spec =
+    tie.close (tie.spec (λ c κs. search needs) (λ c κs. search needs) returns)

@@ -13,21 +13,9 @@ Inv-loop table f words offsets m above₀ below₀ variables₀ rank k₀ a₀ b
 abbrev μ-loop : tie.MeasureT-loop
 μ-loop table f words offsets m above₀ below₀ variables₀ rank k₀ a₀ b₀ v₀ above below variables k a b v = m - k
 
-precedence-requires : tie.Need-precedence-requires Inv-loop μ-loop
-precedence-requires c κs = search needs
-
 loop-holds : tie.Need-loop-holds Inv-loop μ-loop
 loop-holds c =
     let h = c .before .before .before .pre .1 in (omega arith, split-start _ _ _ _ _ _ _ (h .0) (h .1) (h .2))
-
-element-copy-out-p : tie.Need-element-copy-out-p Inv-loop μ-loop
-element-copy-out-p c = search needs
-
-wide-byte-requires : tie.Need-wide-byte-requires Inv-loop μ-loop
-wide-byte-requires c κs = search needs
-
-mul-word : tie.Need-mul-word Inv-loop μ-loop
-mul-word c = search needs
 
 shared-slice-read-word : tie.Need-shared-slice-read-word Inv-loop μ-loop
 shared-slice-read-word c =
@@ -38,18 +26,6 @@ shared-slice-read-word c =
           (c .before .before .before .before .loop .k) (omega arith),
     )
 
-element-write-variables : tie.Need-element-write-variables Inv-loop μ-loop
-element-write-variables c = search needs
-
-add-v : tie.Need-add-v Inv-loop μ-loop
-add-v c = search needs
-
-add-k : tie.Need-add-k Inv-loop μ-loop
-add-k c = search needs
-
-loop-less : tie.Need-loop-less Inv-loop μ-loop
-loop-less c = search needs
-
 loop-again : tie.Need-loop-again Inv-loop μ-loop
 loop-again c = (
   omega arith,
@@ -57,21 +33,6 @@ loop-again c = (
       (c .before .before .before .before .before .before .before .before .before .pre .0) (omega arith)
       (rw (c .before .before .wide-byte .ensures .0) at (c .if1 .taken)),
 )
-
-precedence-requires-2 : tie.Need-precedence-requires-2 Inv-loop μ-loop
-precedence-requires-2 c κs = search needs
-
-element-write-above : tie.Need-element-write-above Inv-loop μ-loop
-element-write-above c = search needs
-
-add-a : tie.Need-add-a Inv-loop μ-loop
-add-a c = search needs
-
-add-k-2 : tie.Need-add-k-2 Inv-loop μ-loop
-add-k-2 c = search needs
-
-loop-less-2 : tie.Need-loop-less-2 Inv-loop μ-loop
-loop-less-2 c = search needs
 
 loop-again-2 : tie.Need-loop-again-2 Inv-loop μ-loop
 loop-again-2 c = (
@@ -87,18 +48,6 @@ loop-again-2 c = (
       (c .if2 .taken)),
 )
 
-element-write-below : tie.Need-element-write-below Inv-loop μ-loop
-element-write-below c = search needs
-
-add-b : tie.Need-add-b Inv-loop μ-loop
-add-b c = search needs
-
-add-k-3 : tie.Need-add-k-3 Inv-loop μ-loop
-add-k-3 c = search needs
-
-loop-less-3 : tie.Need-loop-less-3 Inv-loop μ-loop
-loop-less-3 c = search needs
-
 loop-again-3 : tie.Need-loop-again-3 Inv-loop μ-loop
 loop-again-3 c = (
   omega arith,
@@ -113,12 +62,6 @@ loop-again-3 c = (
       ) at
       (c .if3 .taken)),
 )
-
-add-k-4 : tie.Need-add-k-4 Inv-loop μ-loop
-add-k-4 c = search needs
-
-loop-less-4 : tie.Need-loop-less-4 Inv-loop μ-loop
-loop-less-4 c = search needs
 
 loop-again-4 : tie.Need-loop-again-4 Inv-loop μ-loop
 loop-again-4 c = (
@@ -147,33 +90,8 @@ returns c = let d : c .before .loop .k ≡ c .before .before .before .before .be
 
 pub split-spec : {M : Type 1} → statement M
 split-spec =
-    tie.close
-    (tie.spec
-    Inv-loop
-    μ-loop
-    precedence-requires
-    loop-holds
-    element-copy-out-p
-    wide-byte-requires
-    mul-word
-    shared-slice-read-word
-    element-write-variables
-    add-v
-    add-k
-    loop-less
-    loop-again
-    precedence-requires-2
-    element-write-above
-    add-a
-    add-k-2
-    loop-less-2
-    loop-again-2
-    element-write-below
-    add-b
-    add-k-3
-    loop-less-3
-    loop-again-3
-    add-k-4
-    loop-less-4
-    loop-again-4
-    returns)
+    tie.close (tie.spec Inv-loop μ-loop (λ c κs. search needs) loop-holds (λ c. search needs) (λ c κs. search needs)
+    (λ c. search needs) shared-slice-read-word (λ c. search needs) (λ c. search needs) (λ c. search needs)
+    (λ c. search needs) loop-again (λ c κs. search needs) (λ c. search needs) (λ c. search needs) (λ c. search needs)
+    (λ c. search needs) loop-again-2 (λ c. search needs) (λ c. search needs) (λ c. search needs) (λ c. search needs)
+    loop-again-3 (λ c. search needs) (λ c. search needs) loop-again-4 returns)

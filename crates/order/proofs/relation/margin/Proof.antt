@@ -7,12 +7,6 @@ use borrow.Author.Needs.{needs}
 use Rattle.order.proofs.relation.margin.Statement.{statement}
 use Rattle.order.proofs.relation.margin.Tie as tie
 
-cast-result : tie.Need-cast-result
-cast-result c = search needs
-
-cast-result-2 : tie.Need-cast-result-2
-cast-result-2 c = search needs
-
 sub-result : tie.Need-sub-result
 sub-result c =
     let x = c .before .before .args .s .weight in
@@ -27,4 +21,5 @@ returns c =
     (toZ-ofZ w64 (subℕ x y) (difference-fits x y (omega arith) (omega arith)))
 
 pub margin-spec : {M : Type 1} → statement M
-margin-spec = tie.close (tie.spec cast-result cast-result-2 sub-result returns)
+margin-spec =
+    tie.close (tie.spec (λ c. search needs) (λ c. search needs) sub-result returns)

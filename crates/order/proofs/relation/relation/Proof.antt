@@ -19,16 +19,7 @@ relation-prepared-requires c κs =
     let c9 = c3 .before .before .before .before .before .before in
     let (S, ((A, B, N), (x, y))) = c9 .pre in (S, ((x, y), (A, B, c3 .if1 .taken, c .if2 .taken)))
 
-returns : tie.Need-returns
-returns c = search needs
-
-relation-marked-requires : tie.Need-relation-marked-requires
-relation-marked-requires c κs = search needs
-
-returns-2 : tie.Need-returns-2
-returns-2 c = search needs
-
 pub relation-spec : {M : Type 1} → statement M
 relation-spec =
-    tie.close (tie.spec shared-slice-read-if2 shared-slice-read-if2-2 relation-prepared-requires returns
-    relation-marked-requires returns-2)
+    tie.close (tie.spec shared-slice-read-if2 shared-slice-read-if2-2 relation-prepared-requires (λ c. search needs)
+    (λ c κs. search needs) (λ c. search needs))

@@ -7,9 +7,6 @@ use borrow.Author.Needs.{needs}
 use Rattle.order.proofs.relation.relation_marked.Statement.{statement}
 use Rattle.order.proofs.relation.relation_marked.Tie as tie
 
-mark-requires : tie.Need-mark-requires
-mark-requires c κs = search needs
-
 returns : tie.Need-returns
 returns c =
     let a = c .before .before .before .before .before .args in
@@ -49,4 +46,4 @@ returns-4 c =
 
 pub relation-marked-spec : {M : Type 1} → statement M
 relation-marked-spec =
-    tie.close (tie.spec mark-requires returns returns-2 mark-requires-2 returns-3 returns-4)
+    tie.close (tie.spec (λ c κs. search needs) returns returns-2 mark-requires-2 returns-3 returns-4)

@@ -33,9 +33,6 @@ relation-unlike-requires c κs =
     let unlike = sym (c .before .before .if1 .left) ∙ c3 .prepare-both .ensures .0 in
     (S, (record { sides = c3 .prepare-both .ensures .1; left = x; right = y }, (A, B, l, e, unlike)))
 
-returns-2 : tie.Need-returns-2
-returns-2 c = search needs
-
 pub relation-prepared-spec : {M : Type 1} → statement M
 relation-prepared-spec =
-    tie.close (tie.spec prepare-both-requires returns relation-unlike-requires returns-2)
+    tie.close (tie.spec prepare-both-requires returns relation-unlike-requires (λ c. search needs))

@@ -8,12 +8,6 @@ use borrow.Author.Needs.{needs}
 use Rattle.order.proofs.sums.node_sums.Statement.{statement}
 use Rattle.order.proofs.sums.node_sums.Tie as tie
 
-add-put-weights : tie.Need-add-put-weights
-add-put-weights c = search needs
-
-put-weights-requires : tie.Need-put-weights-requires
-put-weights-requires c κs = search needs
-
 put-variables-requires : tie.Need-put-variables-requires
 put-variables-requires c κs = c .before .put-weights .ensures .1
 
@@ -30,4 +24,4 @@ returns c =
 
 pub node-sums-spec : {M : Type 1} → statement M
 node-sums-spec =
-    tie.close (tie.spec add-put-weights put-weights-requires put-variables-requires returns)
+    tie.close (tie.spec (λ c. search needs) (λ c κs. search needs) put-variables-requires returns)

@@ -6,15 +6,6 @@ use borrow.Author.Needs.{needs}
 use Rattle.order.proofs.sums.occurrence.Statement.{statement}
 use Rattle.order.proofs.sums.occurrence.Tie as tie
 
-mul-unit : tie.Need-mul-unit
-mul-unit c = search needs
-
-cast-unit : tie.Need-cast-unit
-cast-unit c = search needs
-
-shl-unit : tie.Need-shl-unit
-shl-unit c = search needs
-
 returns : tie.Need-returns
 returns c =
     let w = c .before .args .word in
@@ -26,4 +17,5 @@ returns-2 : tie.Need-returns-2
 returns-2 c = (rw (ne-eqb (c .before .args .word / 8) (c .before .args .eight) (c .if1 .left)), omega arith)
 
 pub occurrence-spec : {M : Type 1} → statement M
-occurrence-spec = tie.close (tie.spec mul-unit cast-unit shl-unit returns returns-2)
+occurrence-spec =
+    tie.close (tie.spec (λ c. search needs) (λ c. search needs) (λ c. search needs) returns returns-2)

@@ -17,9 +17,6 @@ Inv-loop table adds₀ own word₀ adds word =
 abbrev μ-loop : tie.MeasureT-loop
 μ-loop table adds₀ own word₀ adds word = 272 - word
 
-variable-weight-requires : tie.Need-variable-weight-requires Inv-loop μ-loop
-variable-weight-requires c κs = search needs
-
 loop-holds : tie.Need-loop-holds Inv-loop μ-loop
 loop-holds c = (
   omega arith,
@@ -28,57 +25,6 @@ loop-holds c = (
   occurring-none
       (signatureOf (c .before .before .args .table .now)) (c .before .before .args .adds .now),
 )
-
-mul-adds : tie.Need-mul-adds Inv-loop μ-loop
-mul-adds c = search needs
-
-mul-adds-2 : tie.Need-mul-adds-2 Inv-loop μ-loop
-mul-adds-2 c = search needs
-
-element-write-adds : tie.Need-element-write-adds Inv-loop μ-loop
-element-write-adds c = search needs
-
-cast-occurrence : tie.Need-cast-occurrence Inv-loop μ-loop
-cast-occurrence c = search needs
-
-occurrence-requires : tie.Need-occurrence-requires Inv-loop μ-loop
-occurrence-requires c κs = search needs
-
-mul-adds-3 : tie.Need-mul-adds-3 Inv-loop μ-loop
-mul-adds-3 c = search needs
-
-add-adds : tie.Need-add-adds Inv-loop μ-loop
-add-adds c = search needs
-
-mul-adds-4 : tie.Need-mul-adds-4 Inv-loop μ-loop
-mul-adds-4 c = search needs
-
-element-write-adds-2 : tie.Need-element-write-adds-2 Inv-loop μ-loop
-element-write-adds-2 c = search needs
-
-cast-occurrence-2 : tie.Need-cast-occurrence-2 Inv-loop μ-loop
-cast-occurrence-2 c = search needs
-
-occurrence-requires-2 : tie.Need-occurrence-requires-2 Inv-loop μ-loop
-occurrence-requires-2 c κs = search needs
-
-mul-adds-5 : tie.Need-mul-adds-5 Inv-loop μ-loop
-mul-adds-5 c = search needs
-
-add-adds-2 : tie.Need-add-adds-2 Inv-loop μ-loop
-add-adds-2 c = search needs
-
-mul-adds-6 : tie.Need-mul-adds-6 Inv-loop μ-loop
-mul-adds-6 c = search needs
-
-element-write-adds-3 : tie.Need-element-write-adds-3 Inv-loop μ-loop
-element-write-adds-3 c = search needs
-
-add-word : tie.Need-add-word Inv-loop μ-loop
-add-word c = search needs
-
-loop-less : tie.Need-loop-less Inv-loop μ-loop
-loop-less c = search needs
 
 loop-again : tie.Need-loop-again Inv-loop μ-loop
 loop-again c =
@@ -108,6 +54,8 @@ returns c =
 
 pub put-variables-spec : {M : Type 1} → statement M
 put-variables-spec =
-    tie.close (tie.spec Inv-loop μ-loop variable-weight-requires loop-holds mul-adds mul-adds-2 element-write-adds
-    cast-occurrence occurrence-requires mul-adds-3 add-adds mul-adds-4 element-write-adds-2 cast-occurrence-2
-    occurrence-requires-2 mul-adds-5 add-adds-2 mul-adds-6 element-write-adds-3 add-word loop-less loop-again returns)
+    tie.close (tie.spec Inv-loop μ-loop (λ c κs. search needs) loop-holds (λ c. search needs) (λ c. search needs)
+    (λ c. search needs) (λ c. search needs) (λ c κs. search needs) (λ c. search needs) (λ c. search needs)
+    (λ c. search needs) (λ c. search needs) (λ c. search needs) (λ c κs. search needs) (λ c. search needs)
+    (λ c. search needs) (λ c. search needs) (λ c. search needs) (λ c. search needs) (λ c. search needs) loop-again
+    returns)

@@ -24,27 +24,6 @@ loop-holds c = (
       .args .adds .now),
 )
 
-cast-weight : tie.Need-cast-weight Inv-loop μ-loop
-cast-weight c = search needs
-
-weight-requires : tie.Need-weight-requires Inv-loop μ-loop
-weight-requires c κs = search needs
-
-mul-adds : tie.Need-mul-adds Inv-loop μ-loop
-mul-adds c = search needs
-
-mul-adds-2 : tie.Need-mul-adds-2 Inv-loop μ-loop
-mul-adds-2 c = search needs
-
-element-write-adds : tie.Need-element-write-adds Inv-loop μ-loop
-element-write-adds c = search needs
-
-add-i : tie.Need-add-i Inv-loop μ-loop
-add-i c = search needs
-
-loop-less : tie.Need-loop-less Inv-loop μ-loop
-loop-less c = search needs
-
 loop-again : tie.Need-loop-again Inv-loop μ-loop
 loop-again c =
     let a = c .before .before .before .before .args in
@@ -64,17 +43,5 @@ returns c =
 
 pub put-weights-spec : {M : Type 1} → statement M
 put-weights-spec =
-    tie.close
-    (tie.spec
-    Inv-loop
-    μ-loop
-    loop-holds
-    cast-weight
-    weight-requires
-    mul-adds
-    mul-adds-2
-    element-write-adds
-    add-i
-    loop-less
-    loop-again
-    returns)
+    tie.close (tie.spec Inv-loop μ-loop loop-holds (λ c. search needs) (λ c κs. search needs) (λ c. search needs)
+    (λ c. search needs) (λ c. search needs) (λ c. search needs) (λ c. search needs) loop-again returns)

@@ -19,9 +19,6 @@ Inv-loop adds words sums₀ i₀ here₀ sums i here =
 abbrev μ-loop : tie.MeasureT-loop
 μ-loop adds words sums₀ i₀ here₀ sums i here = i
 
-put-sums-requires : tie.Need-put-sums-requires Inv-loop μ-loop
-put-sums-requires c κs = search needs
-
 loop-holds : tie.Need-loop-holds Inv-loop μ-loop
 loop-holds c =
     let c3 = c .before .before .before in
@@ -35,26 +32,11 @@ loop-holds c =
           (c3 .pre .0) (totalled-none σ (a .words .now)) λ kind l k p q. absurd (omega arith))),
     )
 
-sub-i : tie.Need-sub-i Inv-loop μ-loop
-sub-i c = search needs
-
-mul-with-node : tie.Need-mul-with-node Inv-loop μ-loop
-mul-with-node c = search needs
-
-shared-slice-read-with-node : tie.Need-shared-slice-read-with-node Inv-loop μ-loop
-shared-slice-read-with-node c = search needs
-
 with-node-requires : tie.Need-with-node-requires Inv-loop μ-loop
 with-node-requires c κs =
     let c6 = c .before .before .before .before .before .before in
     let l = c .before .before .loop in
     (bounded-more (omega arith) (l .inv .3), c6 .pre .2, c6 .pre .3 (l .i - 1) (omega arith))
-
-put-sums-requires-2 : tie.Need-put-sums-requires-2 Inv-loop μ-loop
-put-sums-requires-2 c κs = search needs
-
-loop-less : tie.Need-loop-less Inv-loop μ-loop
-loop-less c = search needs
 
 loop-again : tie.Need-loop-again Inv-loop μ-loop
 loop-again c =
@@ -85,5 +67,5 @@ returns c =
 
 pub sum-up-spec : {M : Type 1} → statement M
 sum-up-spec =
-    tie.close (tie.spec Inv-loop μ-loop put-sums-requires loop-holds sub-i mul-with-node shared-slice-read-with-node
-    with-node-requires put-sums-requires-2 loop-less loop-again returns)
+    tie.close (tie.spec Inv-loop μ-loop (λ c κs. search needs) loop-holds (λ c. search needs) (λ c. search needs)
+    (λ c. search needs) with-node-requires (λ c κs. search needs) (λ c. search needs) loop-again returns)

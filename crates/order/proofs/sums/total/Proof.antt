@@ -24,23 +24,11 @@ loop-holds c = (
   record { weight = omega arith; low = omega arith; high = omega arith },
 )
 
-sub-i : tie.Need-sub-i Inv-loop μ-loop
-sub-i c = search needs
-
-mul-with-node : tie.Need-mul-with-node Inv-loop μ-loop
-mul-with-node c = search needs
-
-shared-slice-read-with-node : tie.Need-shared-slice-read-with-node Inv-loop μ-loop
-shared-slice-read-with-node c = search needs
-
 with-node-requires : tie.Need-with-node-requires Inv-loop μ-loop
 with-node-requires c κs =
     let c4 = c .before .before .before .before in
     let l = c .before .before .loop in
     (bounded-more (omega arith) (l .inv .2), c4 .pre .1, c4 .pre .2 (l .i - 1) (omega arith))
-
-loop-less : tie.Need-loop-less Inv-loop μ-loop
-loop-less c = search needs
 
 loop-again : tie.Need-loop-again Inv-loop μ-loop
 loop-again c =
@@ -63,5 +51,5 @@ returns c =
 
 pub total-spec : {M : Type 1} → statement M
 total-spec =
-    tie.close (tie.spec Inv-loop μ-loop loop-holds sub-i mul-with-node shared-slice-read-with-node with-node-requires
-    loop-less loop-again returns)
+    tie.close (tie.spec Inv-loop μ-loop loop-holds (λ c. search needs) (λ c. search needs) (λ c. search needs)
+    with-node-requires (λ c. search needs) loop-again returns)

@@ -5,32 +5,11 @@ use borrow.Author.Needs.{needs}
 use Rattle.order.proofs.sums.with_node.Statement.{statement}
 use Rattle.order.proofs.sums.with_node.Tie as tie
 
-wide-requires : tie.Need-wide-requires
-wide-requires c κs = search needs
-
-mul-at : tie.Need-mul-at
-mul-at c = search needs
-
-mul-t5 : tie.Need-mul-t5
-mul-t5 c = search needs
-
-element-copy-out-t8 : tie.Need-element-copy-out-t8
-element-copy-out-t8 c = search needs
-
 add-t9 : tie.Need-add-t9
 add-t9 c =
     let c3 = c .before .before .before in
     let w = c .before .before .wide in
     omega (arith, c3 .pre .0 .weight, c3 .pre .1 .weight (w .result) (omega (arith, c3 .pre .2, w .ensures .0)))
-
-add-t10 : tie.Need-add-t10
-add-t10 c = search needs
-
-mul-t11 : tie.Need-mul-t11
-mul-t11 c = search needs
-
-element-copy-out-t14 : tie.Need-element-copy-out-t14
-element-copy-out-t14 c = search needs
 
 add-t15 : tie.Need-add-t15
 add-t15 c =
@@ -42,15 +21,6 @@ add-t15 c =
       c4 .before .pre .1 .place (3 * w .result + 1)
           (omega (arith, c4 .before .pre .2, w .ensures .0)),
     )
-
-add-t16 : tie.Need-add-t16
-add-t16 c = search needs
-
-mul-t17 : tie.Need-mul-t17
-mul-t17 c = search needs
-
-element-copy-out-t20 : tie.Need-element-copy-out-t20
-element-copy-out-t20 c = search needs
 
 add-t21 : tie.Need-add-t21
 add-t21 c =
@@ -79,5 +49,6 @@ returns c =
 
 pub with-node-spec : {M : Type 1} → statement M
 with-node-spec =
-    tie.close (tie.spec wide-requires mul-at mul-t5 element-copy-out-t8 add-t9 add-t10 mul-t11 element-copy-out-t14
-    add-t15 add-t16 mul-t17 element-copy-out-t20 add-t21 returns)
+    tie.close (tie.spec (λ c κs. search needs) (λ c. search needs) (λ c. search needs) (λ c. search needs) add-t9
+    (λ c. search needs) (λ c. search needs) (λ c. search needs) add-t15 (λ c. search needs) (λ c. search needs)
+    (λ c. search needs) add-t21 returns)

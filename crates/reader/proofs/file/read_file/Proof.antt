@@ -7,15 +7,6 @@ use borrow.Author.Needs.{needs}
 use Rattle.reader.proofs.file.read_file.Statement.{statement}
 use Rattle.reader.proofs.file.read_file.Tie as tie
 
-read-head-requires : tie.Need-read-head-requires
-read-head-requires c κs = search needs
-
-enum-known-code : tie.Need-enum-known-code
-enum-known-code c = search needs
-
-enum-known-symbols : tie.Need-enum-known-symbols
-enum-known-symbols c = search needs
-
 mul-front : tie.Need-mul-front
 mul-front c =
     let head = rw (c .before .symbols .given .1) at (c .before .before .before .before .before .read-head .ensures) in
@@ -47,23 +38,8 @@ read-rest-requires c κs =
     (omega (arith, head .1 .fewSymbols, c7 .read-head .kept .1 .0)) in
     ((head .1 .short, head .1 .within), (omega (arith, long, head .1 .fewSymbols), head .1 .fewRules))
 
-enum-known-code-2 : tie.Need-enum-known-code-2
-enum-known-code-2 c = search needs
-
-enum-known-nodes : tie.Need-enum-known-nodes
-enum-known-nodes c = search needs
-
-same-length : tie.Need-same-length
-same-length c = search needs
-
 returns : tie.Need-returns
 returns c = rw (c .before .code .given .1) at (c .before .before .before .before .before .read-head .ensures)
-
-same-length-2 : tie.Need-same-length-2
-same-length-2 c = search needs
-
-same-length-3 : tie.Need-same-length-3
-same-length-3 c = search needs
 
 returns-2 : tie.Need-returns-2
 returns-2 c =
@@ -75,12 +51,6 @@ returns-2 c =
     let head = rw (c9 .symbols .given .1) at (c13 .read-head .ensures) in
     rest-fault (a .book .now) (c13 .read-head .last .1 .0) (a .words .now) (c5 .read-rest .last .1 .1 .0) _ _ _ _ head
     _ _ (rw (c .before .code2 .given .1) at (c5 .read-rest .ensures))
-
-same-length-4 : tie.Need-same-length-4
-same-length-4 c = search needs
-
-same-length-5 : tie.Need-same-length-5
-same-length-5 c = search needs
 
 returns-3 : tie.Need-returns-3
 returns-3 c =
@@ -95,23 +65,7 @@ returns-3 c =
 
 pub read-file-spec : {M : Type 1} → statement M
 read-file-spec =
-    tie.close
-    (tie.spec
-    read-head-requires
-    enum-known-code
-    enum-known-symbols
-    mul-front
-    add-front
-    slice-reshare-prefix-read-rest
-    slice-aggregate-read-rest
-    read-rest-requires
-    enum-known-code-2
-    enum-known-nodes
-    same-length
-    returns
-    same-length-2
-    same-length-3
-    returns-2
-    same-length-4
-    same-length-5
-    returns-3)
+    tie.close (tie.spec (λ c κs. search needs) (λ c. search needs) (λ c. search needs) mul-front add-front
+    slice-reshare-prefix-read-rest slice-aggregate-read-rest read-rest-requires (λ c. search needs) (λ c. search needs)
+    (λ c. search needs) returns (λ c. search needs) (λ c. search needs) returns-2 (λ c. search needs)
+    (λ c. search needs) returns-3)

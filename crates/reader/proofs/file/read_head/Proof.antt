@@ -17,15 +17,6 @@ unfolding readBytes fileReader bodyReader
 returns c =
     rw (lt-leb (length (c .before .before .before .args .book .now)) maxBytes (c .if1 .taken))
 
-field-requires : tie.Need-field-requires
-field-requires c κs = search needs
-
-enum-known-form : tie.Need-enum-known-form
-enum-known-form c = search needs
-
-enum-told : tie.Need-enum-told
-enum-told c = search needs
-
 returns-2 : tie.Need-returns-2
 unfolding readBytes fileReader bodyReader
 returns-2 c =
@@ -44,15 +35,6 @@ returns-3 c =
       sym (c .before .before .before .before .field .ensures) ∙ ap (fieldReading _) (c .before .before .form .given .1),
       ne-eqb _ _ (c .if2 .taken),
     )
-
-field-requires-2 : tie.Need-field-requires-2
-field-requires-2 c κs = search needs
-
-enum-known-count : tie.Need-enum-known-count
-enum-known-count c = search needs
-
-enum-told-2 : tie.Need-enum-told-2
-enum-told-2 c = search needs
 
 returns-4 : tie.Need-returns-4
 unfolding readBytes fileReader bodyReader
@@ -80,15 +62,6 @@ returns-5 c =
       sym (c4 .field2 .ensures) ∙ ap (fieldReading _) (c .before .before .count .given .1),
       le-ltb 0 (c .before .before .count .given .0 .0) (omega arith),
     )
-
-field-requires-3 : tie.Need-field-requires-3
-field-requires-3 c κs = search needs
-
-enum-known-w0 : tie.Need-enum-known-w0
-enum-known-w0 c = search needs
-
-enum-told-3 : tie.Need-enum-told-3
-enum-told-3 c = search needs
 
 returns-6 : tie.Need-returns-6
 unfolding readBytes fileReader bodyReader
@@ -126,15 +99,6 @@ returns-7 c =
       le-ltb 0 (c .before .before .w0 .given .0 .0) (omega arith),
     )
 
-field-requires-4 : tie.Need-field-requires-4
-field-requires-4 c κs = search needs
-
-enum-known-rules : tie.Need-enum-known-rules
-enum-known-rules c = search needs
-
-enum-told-4 : tie.Need-enum-told-4
-enum-told-4 c = search needs
-
 returns-8 : tie.Need-returns-8
 unfolding readBytes fileReader bodyReader
 returns-8 c =
@@ -155,12 +119,6 @@ returns-8 c =
       lt-ltb 0 (c5 .w0 .given .0 .0) (omega arith),
       sym (c .before .before .field4 .ensures) ∙ ap (fieldReading _) (c .enum-told4 .given .1),
     )
-
-wide-requires : tie.Need-wide-requires
-wide-requires c κs = search needs
-
-wide-requires-2 : tie.Need-wide-requires-2
-wide-requires-2 c κs = search needs
 
 read-table-requires : tie.Need-read-table-requires
 unfolding readBytes fileReader bodyReader
@@ -186,9 +144,6 @@ read-table-requires c κs = omega (
       .before .before .before .before .before .args .book .now) 10 _ _ _ (sym (c .before .before .before .before .before
       .before .field4 .ensures) ∙ ap (fieldReading _) (c .before .before .before .before .rules .given .1)),
 )
-
-same-length : tie.Need-same-length
-same-length c = search needs
 
 returns-9 : tie.Need-returns-9
 unfolding readBytes fileReader bodyReader
@@ -216,30 +171,8 @@ returns-9 c =
 
 pub read-head-spec : {M : Type 1} → statement M
 read-head-spec =
-    tie.close
-    (tie.spec
-    returns
-    field-requires
-    enum-known-form
-    enum-told
-    returns-2
-    returns-3
-    field-requires-2
-    enum-known-count
-    enum-told-2
-    returns-4
-    returns-5
-    field-requires-3
-    enum-known-w0
-    enum-told-3
-    returns-6
-    returns-7
-    field-requires-4
-    enum-known-rules
-    enum-told-4
-    returns-8
-    wide-requires
-    wide-requires-2
-    read-table-requires
-    same-length
+    tie.close (tie.spec returns (λ c κs. search needs) (λ c. search needs) (λ c. search needs) returns-2 returns-3
+    (λ c κs. search needs) (λ c. search needs) (λ c. search needs) returns-4 returns-5 (λ c κs. search needs)
+    (λ c. search needs) (λ c. search needs) returns-6 returns-7 (λ c κs. search needs) (λ c. search needs)
+    (λ c. search needs) returns-8 (λ c κs. search needs) (λ c κs. search needs) read-table-requires (λ c. search needs)
     returns-9)

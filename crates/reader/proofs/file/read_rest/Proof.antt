@@ -5,24 +5,6 @@ use borrow.Author.Needs.{needs}
 use Rattle.reader.proofs.file.read_rest.Statement.{statement}
 use Rattle.reader.proofs.file.read_rest.Tie as tie
 
-arities-requires : tie.Need-arities-requires
-arities-requires c κs = search needs
-
-put-rules-requires : tie.Need-put-rules-requires
-put-rules-requires c κs = search needs
-
-enum-known-code : tie.Need-enum-known-code
-enum-known-code c = search needs
-
-enum-known-end : tie.Need-enum-known-end
-enum-known-end c = search needs
-
-is-padding-requires : tie.Need-is-padding-requires
-is-padding-requires c κs = search needs
-
-same-length : tie.Need-same-length
-same-length c = search needs
-
 returns : tie.Need-returns
 returns c =
     let c5 = c .before .before .before .before .before in
@@ -31,9 +13,6 @@ returns c =
     let a = c12 .args in
     rest-unread (a .book .now) (signatureOf (a .table .now)) (a .count) (a .cursor .at) _ _ (rw (c .before .code .given
     .1) at (c5 .put-rules .ensures .0 (signatureOf (a .table .now)) (c8 .arities .ensures)))
-
-same-length-2 : tie.Need-same-length-2
-same-length-2 c = search needs
 
 returns-2 : tie.Need-returns-2
 returns-2 c =
@@ -46,9 +25,6 @@ returns-2 c =
     .put-rules .last .1 .1 .0) (rw (c3 .end .given .1) at (c7 .put-rules .ensures .0 (signatureOf (a .table .now))
     (c10 .arities .ensures)))
     (sym (c .before .is-padding .ensures) ∙ c .if1 .taken)
-
-same-length-3 : tie.Need-same-length-3
-same-length-3 c = search needs
 
 returns-3 : tie.Need-returns-3
 returns-3 c =
@@ -64,16 +40,5 @@ returns-3 c =
 
 pub read-rest-spec : {M : Type 1} → statement M
 read-rest-spec =
-    tie.close
-    (tie.spec
-    arities-requires
-    put-rules-requires
-    enum-known-code
-    enum-known-end
-    is-padding-requires
-    same-length
-    returns
-    same-length-2
-    returns-2
-    same-length-3
-    returns-3)
+    tie.close (tie.spec (λ c κs. search needs) (λ c κs. search needs) (λ c. search needs) (λ c. search needs)
+    (λ c κs. search needs) (λ c. search needs) returns (λ c. search needs) returns-2 (λ c. search needs) returns-3)

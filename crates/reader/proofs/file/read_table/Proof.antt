@@ -4,27 +4,12 @@ use Rattle.reader.proofs.FileLaws.{symbols-fault, head-read}
 use Rattle.reader.proofs.file.read_table.Statement.{statement}
 use Rattle.reader.proofs.file.read_table.Tie as tie
 
-read-symbols-requires : tie.Need-read-symbols-requires
-read-symbols-requires c κs = search needs
-
-enum-known-code : tie.Need-enum-known-code
-enum-known-code c = search needs
-
-enum-known-start : tie.Need-enum-known-start
-enum-known-start c = search needs
-
-same-length : tie.Need-same-length
-same-length c = search needs
-
 returns : tie.Need-returns
 returns c =
     let c5 = c .before .before .before .before .before in
     let c9 = c5 .before .before .before .before in
     symbols-fault (c9 .args .book .now) (c9 .args .w0) (c9 .args .symbols) (c9 .args .rules) (c9 .args .cursor .at) _ _
     (rw (c .before .code .given .1) at (c5 .read-symbols .ensures .0))
-
-same-length-2 : tie.Need-same-length-2
-same-length-2 c = search needs
 
 returns-2 : tie.Need-returns-2
 returns-2 c =
@@ -37,12 +22,5 @@ returns-2 c =
 
 pub read-table-spec : {M : Type 1} → statement M
 read-table-spec =
-    tie.close
-    (tie.spec
-    read-symbols-requires
-    enum-known-code
-    enum-known-start
-    same-length
-    returns
-    same-length-2
-    returns-2)
+    tie.close (tie.spec (λ c κs. search needs) (λ c. search needs) (λ c. search needs) (λ c. search needs) returns
+    (λ c. search needs) returns-2)

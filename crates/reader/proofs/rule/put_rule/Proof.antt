@@ -5,24 +5,12 @@ use borrow.Author.Needs.{needs}
 use Rattle.reader.proofs.rule.put_rule.Statement.{statement}
 use Rattle.reader.proofs.rule.put_rule.Tie as tie
 
-put-side-requires : tie.Need-put-side-requires
-put-side-requires c κs = search needs
-
-enum-known-code : tie.Need-enum-known-code
-enum-known-code c = search needs
-
-enum-known-middle : tie.Need-enum-known-middle
-enum-known-middle c = search needs
-
 put-side-requires-2 : tie.Need-put-side-requires-2
 put-side-requires-2 c κs =
     let c6 = c .before .before .before .before .before .before in
     let c10 = c6 .before .before .before .before in
     let within = rw (c .before .before .middle .given .1) at (c6 .put-side .ensures .1) in
     (c10 .pre .0, within .1, omega (arith, within .0))
-
-same-length : tie.Need-same-length
-same-length c = search needs
 
 returns : tie.Need-returns
 returns c =
@@ -34,9 +22,6 @@ returns c =
           (rw (c .before .code .given .1) at (c5 .put-side .ensures .0 σ k)),
       tt,
     )
-
-same-length-2 : tie.Need-same-length-2
-same-length-2 c = search needs
 
 returns-2 : tie.Need-returns-2
 returns-2 c =
@@ -55,13 +40,5 @@ returns-2 c =
 
 pub put-rule-spec : {M : Type 1} → statement M
 put-rule-spec =
-    tie.close
-    (tie.spec
-    put-side-requires
-    enum-known-code
-    enum-known-middle
-    put-side-requires-2
-    same-length
-    returns
-    same-length-2
-    returns-2)
+    tie.close (tie.spec (λ c κs. search needs) (λ c. search needs) (λ c. search needs) put-side-requires-2
+    (λ c. search needs) returns (λ c. search needs) returns-2)

@@ -35,9 +35,6 @@ put-rule-requires c κs =
     let v = c .before .before .loop .inv in
     (c .before .before .before .before .before .pre .0, v .3, omega arith)
 
-enum-known-code : tie.Need-enum-known-code Inv-loop μ-loop
-enum-known-code c = search needs
-
 same-length : tie.Need-same-length Inv-loop μ-loop
 same-length c =
     let c5 = c .before .before .before .before .before in
@@ -55,15 +52,6 @@ returns c =
           (c5 .put-rule .last .1 .1 .0) (rw (c .before .code .given .1) at (c5 .put-rule .ensures .0 σ k)),
       tt,
     )
-
-enum-known-next-end : tie.Need-enum-known-next-end Inv-loop μ-loop
-enum-known-next-end c = search needs
-
-add-number : tie.Need-add-number Inv-loop μ-loop
-add-number c = search needs
-
-loop-less : tie.Need-loop-less Inv-loop μ-loop
-loop-less c = search needs
 
 loop-again : tie.Need-loop-again Inv-loop μ-loop
 loop-again c =
@@ -98,18 +86,5 @@ returns-2 c =
 
 pub put-rules-spec : {M : Type 1} → statement M
 put-rules-spec =
-    tie.close
-    (tie.spec
-    Inv-loop
-    μ-loop
-    loop-holds
-    put-rule-requires
-    enum-known-code
-    same-length
-    returns
-    enum-known-next-end
-    add-number
-    loop-less
-    loop-again
-    same-length-2
-    returns-2)
+    tie.close (tie.spec Inv-loop μ-loop loop-holds put-rule-requires (λ c. search needs) same-length returns
+    (λ c. search needs) (λ c. search needs) (λ c. search needs) loop-again same-length-2 returns-2)

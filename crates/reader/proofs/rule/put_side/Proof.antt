@@ -7,15 +7,6 @@ use borrow.Author.Needs.{needs}
 use Rattle.reader.proofs.rule.put_side.Statement.{statement}
 use Rattle.reader.proofs.rule.put_side.Tie as tie
 
-read-side-requires : tie.Need-read-side-requires
-read-side-requires c κs = search needs
-
-enum-known-code : tie.Need-enum-known-code
-enum-known-code c = search needs
-
-enum-known-count : tie.Need-enum-known-count
-enum-known-count c = search needs
-
 array-share-prefix-side : tie.Need-array-share-prefix-side
 array-share-prefix-side c =
     let c4 = c .before .before .before .before in
@@ -59,9 +50,6 @@ add-t19 c =
 returns : tie.Need-returns
 returns c = (λ σ k. sym (rw (c .before .code .given .1) at (c .before .before .before .read-side .ensures .0 σ k)), tt)
 
-same-length : tie.Need-same-length
-same-length c = search needs
-
 returns-2 : tie.Need-returns-2
 returns-2 c =
     let c6 = c .before .before .before .before .before .before in
@@ -84,15 +72,5 @@ returns-2 c =
 
 pub put-side-spec : {M : Type 1} → statement M
 put-side-spec =
-    tie.close
-    (tie.spec
-    read-side-requires
-    enum-known-code
-    enum-known-count
-    array-share-prefix-side
-    slice-aggregate-put-words
-    put-words-requires
-    add-t19
-    returns
-    same-length
-    returns-2)
+    tie.close (tie.spec (λ c κs. search needs) (λ c. search needs) (λ c. search needs) array-share-prefix-side
+    slice-aggregate-put-words put-words-requires add-t19 returns (λ c. search needs) returns-2)

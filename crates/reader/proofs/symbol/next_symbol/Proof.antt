@@ -13,68 +13,11 @@ use borrow.Author.Needs.{needs}
 use Rattle.reader.proofs.symbol.next_symbol.Statement.{statement}
 use Rattle.reader.proofs.symbol.next_symbol.Tie as tie
 
-slice-read-w0 : tie.Need-slice-read-w0
-slice-read-w0 c = search needs
-
-read-symbol-requires : tie.Need-read-symbol-requires
-read-symbol-requires c κs = search needs
-
-enum-known-code : tie.Need-enum-known-code
-enum-known-code c = search needs
-
-enum-known-arity : tie.Need-enum-known-arity
-enum-known-arity c = search needs
-
-mul-table : tie.Need-mul-table
-mul-table c = search needs
-
-add-table : tie.Need-add-table
-add-table c = search needs
-
-mul-table-2 : tie.Need-mul-table-2
-mul-table-2 c = search needs
-
-slice-write-table : tie.Need-slice-write-table
-slice-write-table c = search needs
-
-mul-table-3 : tie.Need-mul-table-3
-mul-table-3 c = search needs
-
-add-table-2 : tie.Need-add-table-2
-add-table-2 c = search needs
-
-mul-table-4 : tie.Need-mul-table-4
-mul-table-4 c = search needs
-
 slice-write-table-2 : tie.Need-slice-write-table-2
 slice-write-table-2 c = simp length-set (omega arith)
 
-mul-table-5 : tie.Need-mul-table-5
-mul-table-5 c = search needs
-
-add-table-3 : tie.Need-add-table-3
-add-table-3 c = search needs
-
-mul-table-6 : tie.Need-mul-table-6
-mul-table-6 c = search needs
-
 slice-write-table-3 : tie.Need-slice-write-table-3
 slice-write-table-3 c = simp length-set (omega arith)
-
-mul-table-7 : tie.Need-mul-table-7
-mul-table-7 c = search needs
-
-add-table-4 : tie.Need-add-table-4
-add-table-4 c = search needs
-
-mul-table-8 : tie.Need-mul-table-8
-mul-table-8 c = search needs
-
-slice-write-table-4 : tie.Need-slice-write-table-4
-slice-write-table-4 c = search needs
-
-wide-requires : tie.Need-wide-requires
-wide-requires c κs = search needs
 
 slice-write-taken : tie.Need-slice-write-taken
 slice-write-taken c = omega (
@@ -83,9 +26,6 @@ slice-write-taken c = omega (
       .read-symbol .ensures .1),
 )
 
-same-length : tie.Need-same-length
-same-length c = search needs
-
 returns : tie.Need-returns
 returns c =
     let a = c .before .before .before .before .before .before .before .before .before .args in
@@ -93,12 +33,6 @@ returns c =
     .before .before .before .before .before .before .before .before .pre .3)) ∙ ap entryReading (c .before .code .given
     .1) in
     ((λ n. symbol-fault (bitSource (a .book .now)) _ n _ (a .cursor .at) _ _ e), (refl, tt))
-
-same-length-2 : tie.Need-same-length-2
-same-length-2 c = search needs
-
-same-length-3 : tie.Need-same-length-3
-same-length-3 c = search needs
 
 returns-2 : tie.Need-returns-2
 returns-2 c =
@@ -123,32 +57,9 @@ returns-2 c =
 
 pub next-symbol-spec : {M : Type 1} → statement M
 next-symbol-spec =
-    tie.close
-    (tie.spec
-    slice-read-w0
-    read-symbol-requires
-    enum-known-code
-    enum-known-arity
-    mul-table
-    add-table
-    mul-table-2
-    slice-write-table
-    mul-table-3
-    add-table-2
-    mul-table-4
-    slice-write-table-2
-    mul-table-5
-    add-table-3
-    mul-table-6
-    slice-write-table-3
-    mul-table-7
-    add-table-4
-    mul-table-8
-    slice-write-table-4
-    wide-requires
-    slice-write-taken
-    same-length
-    returns
-    same-length-2
-    same-length-3
-    returns-2)
+    tie.close (tie.spec (λ c. search needs) (λ c κs. search needs) (λ c. search needs) (λ c. search needs)
+    (λ c. search needs) (λ c. search needs) (λ c. search needs) (λ c. search needs) (λ c. search needs)
+    (λ c. search needs) (λ c. search needs) slice-write-table-2 (λ c. search needs) (λ c. search needs)
+    (λ c. search needs) slice-write-table-3 (λ c. search needs) (λ c. search needs) (λ c. search needs)
+    (λ c. search needs) (λ c κs. search needs) slice-write-taken (λ c. search needs) returns (λ c. search needs)
+    (λ c. search needs) returns-2)

@@ -11,15 +11,6 @@ use borrow.Author.Needs.{needs}
 use Rattle.reader.proofs.symbol.read_symbol.Statement.{statement}
 use Rattle.reader.proofs.symbol.read_symbol.Tie as tie
 
-field-requires : tie.Need-field-requires
-field-requires c κs = search needs
-
-enum-known-arity : tie.Need-enum-known-arity
-enum-known-arity c = search needs
-
-enum-told : tie.Need-enum-told
-enum-told c = search needs
-
 returns : tie.Need-returns
 unfolding symbolReader
 returns c = (
@@ -27,15 +18,6 @@ returns c = (
       rw (sym (c .before .before .field .ensures) ∙ ap (fieldReading _) (c .enum-told .given .1))),
   tt,
 )
-
-field-requires-2 : tie.Need-field-requires-2
-field-requires-2 c κs = search needs
-
-enum-known-ac : tie.Need-enum-known-ac
-enum-known-ac c = search needs
-
-enum-told-2 : tie.Need-enum-told-2
-enum-told-2 c = search needs
 
 returns-2 : tie.Need-returns-2
 unfolding symbolReader
@@ -48,9 +30,6 @@ returns-2 c = (
       )),
   tt,
 )
-
-binary-if-ac-requires : tie.Need-binary-if-ac-requires
-binary-if-ac-requires c κs = search needs
 
 returns-3 : tie.Need-returns-3
 unfolding symbolReader
@@ -65,15 +44,6 @@ returns-3 c = (
       )),
   tt,
 )
-
-field-requires-3 : tie.Need-field-requires-3
-field-requires-3 c κs = search needs
-
-enum-known-weight : tie.Need-enum-known-weight
-enum-known-weight c = search needs
-
-enum-told-3 : tie.Need-enum-told-3
-enum-told-3 c = search needs
 
 returns-4 : tie.Need-returns-4
 unfolding symbolReader
@@ -91,9 +61,6 @@ returns-4 c = (
       )),
   tt,
 )
-
-least-weight-requires : tie.Need-least-weight-requires
-least-weight-requires c κs = search needs
 
 returns-5 : tie.Need-returns-5
 unfolding symbolReader
@@ -114,15 +81,6 @@ returns-5 c = (
       )),
   tt,
 )
-
-field-requires-4 : tie.Need-field-requires-4
-field-requires-4 c κs = search needs
-
-enum-known-rank : tie.Need-enum-known-rank
-enum-known-rank c = search needs
-
-enum-told-4 : tie.Need-enum-told-4
-enum-told-4 c = search needs
 
 returns-6 : tie.Need-returns-6
 unfolding symbolReader
@@ -146,9 +104,6 @@ returns-6 c =
           )),
       tt,
     )
-
-wide-requires : tie.Need-wide-requires
-wide-requires c κs = search needs
 
 shared-slice-read-if3 : tie.Need-shared-slice-read-if3
 unfolding symbolReader
@@ -234,29 +189,7 @@ returns-8 c =
 
 pub read-symbol-spec : {M : Type 1} → statement M
 read-symbol-spec =
-    tie.close
-    (tie.spec
-    field-requires
-    enum-known-arity
-    enum-told
-    returns
-    field-requires-2
-    enum-known-ac
-    enum-told-2
-    returns-2
-    binary-if-ac-requires
-    returns-3
-    field-requires-3
-    enum-known-weight
-    enum-told-3
-    returns-4
-    least-weight-requires
-    returns-5
-    field-requires-4
-    enum-known-rank
-    enum-told-4
-    returns-6
-    wide-requires
-    shared-slice-read-if3
-    returns-7
-    returns-8)
+    tie.close (tie.spec (λ c κs. search needs) (λ c. search needs) (λ c. search needs) returns (λ c κs. search needs)
+    (λ c. search needs) (λ c. search needs) returns-2 (λ c κs. search needs) returns-3 (λ c κs. search needs)
+    (λ c. search needs) (λ c. search needs) returns-4 (λ c κs. search needs) returns-5 (λ c κs. search needs)
+    (λ c. search needs) (λ c. search needs) returns-6 (λ c κs. search needs) shared-slice-read-if3 returns-7 returns-8)

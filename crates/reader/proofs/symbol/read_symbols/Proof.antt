@@ -25,17 +25,11 @@ Inv-loop book table₀ w0 count taken₀ here₀ number₀ table taken here numb
 abbrev μ-loop : tie.MeasureT-loop
 μ-loop book table₀ w0 count taken₀ here₀ number₀ table taken here number = count - number
 
-slice-write-table : tie.Need-slice-write-table Inv-loop μ-loop
-slice-write-table c = search needs
-
 loop-holds : tie.Need-loop-holds Inv-loop μ-loop
 loop-holds c =
     let a = c .before .before .args in
     let room : 0 < length (a .table .now) = omega arith in
     (omega arith, refl, refl, getD-set-same (a .table .now) 0 (a .w0) 0 room, taken-none, rw sub-zero)
-
-slice-aggregate-next-symbol : tie.Need-slice-aggregate-next-symbol Inv-loop μ-loop
-slice-aggregate-next-symbol c = search needs
 
 next-symbol-requires : tie.Need-next-symbol-requires Inv-loop μ-loop
 next-symbol-requires c κs =
@@ -43,9 +37,6 @@ next-symbol-requires c κs =
     let n : length (c .before .before .before .loop .table) ≡ length (c .before .before .before .before .before .before
     .args .table .now) = v .1 ∙ simp length-set in
     (omega arith, omega arith, v .2, v .4)
-
-enum-known-code : tie.Need-enum-known-code Inv-loop μ-loop
-enum-known-code c = search needs
 
 same-length : tie.Need-same-length Inv-loop μ-loop
 same-length c =
@@ -71,15 +62,6 @@ returns c =
           1)) (c10 .loop .here .at) (c6 .next-symbol .result) (v .5) (c6 .next-symbol .ensures .0)),
       c6 .next-symbol .ensures .1 .0 ∙ v .3,
     )
-
-enum-known-next : tie.Need-enum-known-next Inv-loop μ-loop
-enum-known-next c = search needs
-
-add-number : tie.Need-add-number Inv-loop μ-loop
-add-number c = search needs
-
-loop-less : tie.Need-loop-less Inv-loop μ-loop
-loop-less c = search needs
 
 loop-again : tie.Need-loop-again Inv-loop μ-loop
 loop-again c =
@@ -126,20 +108,6 @@ returns-2 c =
 
 pub read-symbols-spec : {M : Type 1} → statement M
 read-symbols-spec =
-    tie.close
-    (tie.spec
-    Inv-loop
-    μ-loop
-    slice-write-table
-    loop-holds
-    slice-aggregate-next-symbol
-    next-symbol-requires
-    enum-known-code
-    same-length
-    returns
-    enum-known-next
-    add-number
-    loop-less
-    loop-again
-    same-length-2
-    returns-2)
+    tie.close (tie.spec Inv-loop μ-loop (λ c. search needs) loop-holds (λ c. search needs) next-symbol-requires
+    (λ c. search needs) same-length returns (λ c. search needs) (λ c. search needs) (λ c. search needs) loop-again
+    same-length-2 returns-2)

@@ -18,9 +18,6 @@ returns c =
       (all .1 .0, all .1 .1),
     )
 
-cast-t15 : tie.Need-cast-t15
-cast-t15 c = search needs
-
 returns-2 : tie.Need-returns-2
 returns-2 c =
     let c5 = c .before .before .before .before .before in
@@ -34,4 +31,5 @@ returns-2 c =
     )
 
 pub read-side-spec : {M : Type 1} → statement M
-read-side-spec = tie.close (tie.spec read-terms-requires returns cast-t15 returns-2)
+read-side-spec =
+    tie.close (tie.spec read-terms-requires returns (λ c. search needs) returns-2)

@@ -4,12 +4,6 @@ use borrow.Author.Needs.{needs}
 use Rattle.words.proofs.term.term.Statement.{statement}
 use Rattle.words.proofs.term.term.Tie as tie
 
-terms-requires : tie.Need-terms-requires
-terms-requires c κs = search needs
-
-cast-t12 : tie.Need-cast-t12
-cast-t12 c = search needs
-
 returns : tie.Need-returns
 returns c σ table = rw (eq-eqb (c .before .terms .result % 16) 0 (c .if1 .taken)) at
     (c .before .terms .ensures σ table)
@@ -19,4 +13,5 @@ returns-2 c σ table = rw (ne-eqb (c .before .terms .result % 16) 0 (c .if1 .lef
     (c .before .terms .ensures σ table)
 
 pub term-spec : {M : Type 1} → statement M
-term-spec = tie.close (tie.spec terms-requires cast-t12 returns returns-2)
+term-spec =
+    tie.close (tie.spec (λ c κs. search needs) (λ c. search needs) returns returns-2)

@@ -4,15 +4,6 @@ use borrow.Author.Needs.{needs}
 use Rattle.words.proofs.term.whole_term.Statement.{statement}
 use Rattle.words.proofs.term.whole_term.Tie as tie
 
-term-requires : tie.Need-term-requires
-term-requires c κs = search needs
-
-enum-known-code : tie.Need-enum-known-code
-enum-known-code c = search needs
-
-enum-known-end : tie.Need-enum-known-end
-enum-known-end c = search needs
-
 returns : tie.Need-returns
 returns c σ table = whole-fault (c .before .before .before .before .before .args .words .now) σ _ _
     (sym (c .before .before .before .term .ensures σ table) ∙ c .before .code .given .1)
@@ -31,4 +22,4 @@ returns-3 c σ table =
 
 pub whole-term-spec : {M : Type 1} → statement M
 whole-term-spec =
-    tie.close (tie.spec term-requires enum-known-code enum-known-end returns returns-2 returns-3)
+    tie.close (tie.spec (λ c κs. search needs) (λ c. search needs) (λ c. search needs) returns returns-2 returns-3)

@@ -5,9 +5,6 @@ use borrow.Author.Needs.{needs}
 use Rattle.writer.proofs.BitWriter.finish.Statement.{statement}
 use Rattle.writer.proofs.BitWriter.finish.Tie as tie
 
-store-requires : tie.Need-store-requires
-store-requires c κs = search needs
-
 store-requires-2 : tie.Need-store-requires-2
 store-requires-2 c κs =
     let f = shifted-facts (c .before .before .before .before .before .before .args .self) 24 (omega arith) (omega
@@ -42,9 +39,6 @@ pad-requires c κs =
       c11 .store .ensures .0,
     ) (k .0, k .2)
 
-same-length : tie.Need-same-length
-same-length c = search needs
-
 returns : tie.Need-returns
 returns c =
     let c6 = c .before .before .before .before .before .before in
@@ -65,5 +59,5 @@ returns c =
 
 pub finish-spec : {M : Type 1} → statement M
 finish-spec =
-    tie.close
-    (tie.spec store-requires store-requires-2 store-requires-3 pad-requires same-length returns)
+    tie.close (tie.spec (λ c κs. search needs) store-requires-2 store-requires-3 pad-requires (λ c. search needs)
+    returns)

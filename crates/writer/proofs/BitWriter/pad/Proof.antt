@@ -7,12 +7,6 @@ use Rattle.writer.proofs.BitWriter.pad.Tie as tie
 returns : tie.Need-returns
 returns c = λ old bits h. writes-whole old bits _ _ h (c .if1 .taken)
 
-sub-two-to : tie.Need-sub-two-to
-sub-two-to c = search needs
-
-two-to-requires : tie.Need-two-to-requires
-two-to-requires c κs = search needs
-
 mul-put-byte : tie.Need-mul-put-byte
 mul-put-byte c = rw (c .before .two-to .ensures .0) (omega (
   arith,
@@ -32,12 +26,6 @@ cast-put-byte c = rw (c .before .two-to .ensures .0) (record {
       (c .before .before .before .before .before .before .before .pre .1);
 })
 
-put-byte-requires : tie.Need-put-byte-requires
-put-byte-requires c κs = search needs
-
-same-length : tie.Need-same-length
-same-length c = search needs
-
 returns-2 : tie.Need-returns-2
 returns-2 c = rw (c .before .before .put-byte .ensures, c .before .before .before .before .two-to .ensures .0) λ old
     bits h. writes-last old bits _ _ h (c .before .before .before .before .before .before .before .before .before
@@ -45,13 +33,5 @@ returns-2 c = rw (c .before .before .put-byte .ensures, c .before .before .befor
 
 pub pad-spec : {M : Type 1} → statement M
 pad-spec =
-    tie.close
-    (tie.spec
-    returns
-    sub-two-to
-    two-to-requires
-    mul-put-byte
-    cast-put-byte
-    put-byte-requires
-    same-length
-    returns-2)
+    tie.close (tie.spec returns (λ c. search needs) (λ c κs. search needs) mul-put-byte cast-put-byte
+    (λ c κs. search needs) (λ c. search needs) returns-2)

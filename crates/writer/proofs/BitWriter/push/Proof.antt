@@ -4,9 +4,6 @@ use borrow.Author.Needs.{needs}
 use Rattle.writer.proofs.BitWriter.push.Statement.{statement}
 use Rattle.writer.proofs.BitWriter.push.Tie as tie
 
-two-to-requires : tie.Need-two-to-requires
-two-to-requires c κs = search needs
-
 mul-t5 : tie.Need-mul-t5
 mul-t5 c =
     let a = c .before .before .args in
@@ -26,11 +23,9 @@ add-t7 c =
           (omega arith);
     })
 
-add-t8 : tie.Need-add-t8
-add-t8 c = search needs
-
 returns : tie.Need-returns
 returns c = rw (c .before .before .two-to .ensures .0)
 
 pub push-spec : {M : Type 1} → statement M
-push-spec = tie.close (tie.spec two-to-requires mul-t5 add-t7 add-t8 returns)
+push-spec =
+    tie.close (tie.spec (λ c κs. search needs) mul-t5 add-t7 (λ c. search needs) returns)

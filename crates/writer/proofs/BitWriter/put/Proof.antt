@@ -20,9 +20,6 @@ store-four-requires c κs =
     (c .before .before .before .pre .0 .1) in
     rw (c .before .push .ensures) (omega arith, (omega arith, p))
 
-same-length : tie.Need-same-length
-same-length c = search needs
-
 returns : tie.Need-returns
 returns c =
     let a = c .before .before .before .before .before .before .args in (
@@ -34,4 +31,5 @@ returns c =
     )
 
 pub put-spec : {M : Type 1} → statement M
-put-spec = tie.close (tie.spec push-requires store-four-requires same-length returns)
+put-spec =
+    tie.close (tie.spec push-requires store-four-requires (λ c. search needs) returns)

@@ -27,9 +27,6 @@ store-four-requires c κs =
     let p = pushed-lt first (a .n) (a .v) (h .3) (pushed-lt (a .self) (a .m) (a .u) (h .1) (c4 .pre .0 .1)) in
     rw (c .before .push2 .ensures, c .before .before .push .ensures) (omega arith, (omega arith, p))
 
-same-length : tie.Need-same-length
-same-length c = search needs
-
 returns : tie.Need-returns
 returns c =
     let a = c .before .before .before .before .before .before .before .args in
@@ -46,4 +43,4 @@ returns c =
 
 pub put-two-spec : {M : Type 1} → statement M
 put-two-spec =
-    tie.close (tie.spec push-requires push-requires-2 store-four-requires same-length returns)
+    tie.close (tie.spec push-requires push-requires-2 store-four-requires (λ c. search needs) returns)

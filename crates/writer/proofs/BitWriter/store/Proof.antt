@@ -8,30 +8,12 @@ use Rattle.writer.proofs.BitWriter.store.Tie as tie
 returns : tie.Need-returns
 returns c = rw (lt-ltb (c .before .before .before .args .self .count) 8 (c .if1 .taken)) (refl, refl)
 
-shr-put-byte : tie.Need-shr-put-byte
-shr-put-byte c = search needs
-
 cast-put-byte : tie.Need-cast-put-byte
 cast-put-byte c = record {
   fits = byte-lt (c .before .before .before .before .before .before .args .self .pending)
       (c .before .before .before .before .before .before .args .self .count) (c .before .before .before .if1 .left)
       (c .before .before .before .before .before .before .pre .2);
 }
-
-put-byte-requires : tie.Need-put-byte-requires
-put-byte-requires c κs = search needs
-
-add-t11 : tie.Need-add-t11
-add-t11 c = search needs
-
-two-to-requires : tie.Need-two-to-requires
-two-to-requires c κs = search needs
-
-rem-t9 : tie.Need-rem-t9
-rem-t9 c = search needs
-
-same-length : tie.Need-same-length
-same-length c = search needs
 
 returns-2 : tie.Need-returns-2
 returns-2 c = rw (
@@ -44,14 +26,5 @@ returns-2 c = rw (
 
 pub store-spec : {M : Type 1} → statement M
 store-spec =
-    tie.close
-    (tie.spec
-    returns
-    shr-put-byte
-    cast-put-byte
-    put-byte-requires
-    add-t11
-    two-to-requires
-    rem-t9
-    same-length
-    returns-2)
+    tie.close (tie.spec returns (λ c. search needs) cast-put-byte (λ c κs. search needs) (λ c. search needs)
+    (λ c κs. search needs) (λ c. search needs) (λ c. search needs) returns-2)

@@ -10,12 +10,6 @@ returns : tie.Need-returns
 unfolding wordBelow
 returns c = rw (le-ltb (c .before .args .self .at) (length (c .before .args .words .now)) (c .if1 .taken))
 
-mul-word : tie.Need-mul-word
-mul-word c = search needs
-
-shared-slice-read-word : tie.Need-shared-slice-read-word
-shared-slice-read-word c = search needs
-
 cast-if2 : tie.Need-cast-if2
 unfolding wordBelow
 cast-if2 c = omega (arith, c .shared-slice-known .given (c .before .before .args .self .at))
@@ -30,9 +24,6 @@ returns-2 c =
       le-ltb (getD l at 0) (c .before .before .before .args .bound) (c .if2 .taken),
     )
 
-add-t6 : tie.Need-add-t6
-add-t6 c = search needs
-
 returns-3 : tie.Need-returns-3
 unfolding wordBelow
 returns-3 c =
@@ -45,5 +36,5 @@ returns-3 c =
 
 pub below-spec : {M : Type 1} → statement M
 below-spec =
-    tie.close
-    (tie.spec returns mul-word shared-slice-read-word cast-if2 returns-2 add-t6 returns-3)
+    tie.close (tie.spec returns (λ c. search needs) (λ c. search needs) cast-if2 returns-2 (λ c. search needs)
+    returns-3)

@@ -10,6 +10,7 @@ use native.Mathlib.Nat.{div-le-self}
 use lib.ListN.{length, length-map}
 use lib.Dec.{leb, eqb}
 use borrow.Author.Tests.{leb-true}
+use Rattle.multisets.proofs.MultisetMaps.{choose-length}
 use Rattle.multisets.proofs.Relations.{byTest}
 use Rattle.terms.specs.Signature.{Signature}
 use Rattle.terms.specs.Words.{termOf}
@@ -20,14 +21,15 @@ use Rattle.format.specs.Reading.Reading.{got, fault}
 use Rattle.format.specs.Format.{RuleFile, systemOf}
 use Rattle.format.specs.Files.{readBytes, readWords, readTerm}
 use Rattle.format.specs.Packing.{packed, unpacked}
-use Rattle.format.specs.Replies.{Reply, Written, Error, _>>=_, _>>_, fromInput, demand, outcome}
-use Rattle.format.specs.Replies.Reply.{accepted, refused}
+use Rattle.operations.specs.declared.Error.{Error}
+use Rattle.operations.specs.declared.Summary.{Summary}
+use Rattle.operations.specs.Replies.{Reply, Written, _>>=_, _>>_, fromInput, demand, outcome}
+use Rattle.operations.specs.Replies.Reply.{accepted, refused}
 use Rattle.format.specs.Statements.IsRead.{fromBytes}
-use Rattle.format.specs.Operations.{write, decoded, encoded}
+use Rattle.operations.specs.Coding.{write, decoded, encoded}
 use Rattle.format.proofs.Theorems.{readable-admissible, faults-within}
-use Rattle.comparing.specs.Comparing.{comparison, comparedRight, comparedTerms, compared}
-use Rattle.marking.specs.Marking.{Summary, summaryOf, marksOf, isDecreasing, decreasingCount, marked}
-use Rattle.marking.proofs.RuleLaws.{length-choose}
+use Rattle.operations.specs.Comparing.{comparison, comparedRight, comparedTerms, compared}
+use Rattle.operations.specs.Marking.{summaryOf, marksOf, isDecreasing, decreasingCount, marked}
 use Rattle.marking.proofs.MarkLaws.{fault-small}
 
 -- A number of a signed 64-bit value.
@@ -137,7 +139,7 @@ rules-small file h = omega (arith, rule-marks file)
 
 pub decreasing-small : (file : RuleFile) → length (file .rules) < 1024 →
     Small (summaryOf (marksOf (systemOf file)) .decreasing)
-decreasing-small file h = omega (arith, rule-marks file, length-choose isDecreasing (marksOf (systemOf file)))
+decreasing-small file h = omega (arith, rule-marks file, choose-length isDecreasing (marksOf (systemOf file)))
 
 pub score-small : (file : RuleFile) → length (file .rules) < 1024 →
     Small (summaryOf (marksOf (systemOf file)) .score)
@@ -148,6 +150,6 @@ score-small file h =
       arith,
       div-le-self (100 * decreasingCount marks) (length marks),
       rule-marks file,
-      length-choose
+      choose-length
           isDecreasing marks,
     ))

@@ -5,9 +5,9 @@ use mathlib.Core.Path.{_≡_, ap, _∙_}
 use Prim.Native.Nat.{ℕ}
 use lib.IntN.{ℤ, pos}
 use lib.Seq.{sets}
-use Rattle.format.specs.Replies.{Reply}
-use Rattle.format.specs.Replies.Reply.{accepted, refused}
-use Rattle.ackbo.specs.Boundary.{codeOf, valuesOf}
+use Rattle.operations.specs.Replies.{Reply}
+use Rattle.operations.specs.Replies.Reply.{accepted, refused}
+use Rattle.operations.specs.Boundary.{codeOf, valuesOf}
 
 module _ {A : Type 0} (values : A → List ℤ) (r : Reply A) (code : ℕ) (entry exit : List ℤ) where
   pub accepts : (a : A) → accepted a ≡ r → code ≡ 0 → exit ≡ sets entry 0 (values a) →

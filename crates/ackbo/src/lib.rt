@@ -4,17 +4,15 @@ ghost use mathlib.Core.List.{[], _∷_};
 ghost use Prim.Native.Nat.{_<_};
 ghost use lib.IntN.{pos};
 ghost use lib.Seq.{sets};
-ghost use Rattle.format.specs.Operations.{decoded, encoded};
-ghost use Rattle.comparing.specs.Comparing.{compared};
-ghost use Rattle.comparing.specs.Reply.{relationOf};
-ghost use Rattle.marking.specs.Marking.{marked};
-ghost use Rattle.ackbo.specs.Boundary.{codeOf, valuesOf};
-ghost use Rattle.ackbo.specs.Boundary.{countValues, relationValue, comparisonValues, summaryValues};
-use comparing::CompareReply;
-use comparing::Relation;
-use decoder::DecodeReply;
-use encoder::encode::EncodeReply;
-use marking::mark::MarkReply;
+ghost use Rattle.operations.specs.Coding.{decoded, encoded};
+ghost use Rattle.operations.specs.Comparing.{compared};
+ghost use Rattle.operations.specs.Marking.{marked};
+ghost use Rattle.operations.specs.Boundary.{codeOf, valuesOf};
+ghost use Rattle.operations.specs.Boundary.{countValues, relationValue, comparisonValues, summaryValues};
+use operations::CompareReply;
+use operations::CountReply;
+use operations::MarkReply;
+use operations::Relation;
 
 // Stores three values, and gives back the code.
 fn put_reply(reply: &mut [i64; 3], code: u8, first: i64, second: i64, third: i64) -> u8
@@ -54,7 +52,7 @@ fn put_error(reply: &mut [i64; 3], code: u8, input: u8, offset: usize) -> u8
 }
 
 fn relation_value(relation: Relation) -> i64
-    ensures { λ r. ⌜ r ≡ relationValue (relationOf relation) ⌝ }
+    ensures { λ r. ⌜ r ≡ relationValue relation ⌝ }
 {
     match relation {
         Relation::Greater => 1,
@@ -74,8 +72,8 @@ pub extern "C" fn ackbo_decode(book: &[u8], words: &mut [u16], reply: &mut [i64;
     ensures { λ _. ⌜ now (words .exit) ≡ decoded (now (book .entry)) (now (words .entry)) .output ⌝ }
 {
     match decoder::decode(book, words) {
-        DecodeReply::Accepted(count) => put_counts(reply, count, 0, 0),
-        DecodeReply::Refused(error) => put_error(reply, error.code, error.input, error.offset),
+        CountReply::Accepted(count) => put_counts(reply, count, 0, 0),
+        CountReply::Refused(error) => put_error(reply, error.code, error.input, error.offset),
     }
 }
 
@@ -89,8 +87,8 @@ pub extern "C" fn ackbo_encode(words: &[u16], book: &mut [u8], reply: &mut [i64;
     ensures { λ _. ⌜ now (book .exit) ≡ encoded (now (words .entry)) (now (book .entry)) .output ⌝ }
 {
     match encoder::encode::encode(words, book) {
-        EncodeReply::Accepted(count) => put_counts(reply, count, 0, 0),
-        EncodeReply::Refused(error) => put_error(reply, error.code, error.input, error.offset),
+        CountReply::Accepted(count) => put_counts(reply, count, 0, 0),
+        CountReply::Refused(error) => put_error(reply, error.code, error.input, error.offset),
     }
 }
 
@@ -127,11 +125,11 @@ pub extern "C" fn ackbo_mark(book: &[u8], marks: &mut [u8], reply: &mut [i64; 3]
     ensures { λ _. ⌜ now (marks .exit) ≡ marked (now (book .entry)) (now (marks .entry)) .output ⌝ }
 {
     match marking::mark::mark(book, marks) {
-        MarkReply::Accepted(rules, decreasing, score) => put_counts(
+        MarkReply::Accepted(summary) => put_counts(
             reply,
-            rules,
-            decreasing,
-            score,
+            summary.rules,
+            summary.decreasing,
+            summary.score,
         ),
         MarkReply::Refused(error) => put_error(reply, error.code, error.input, error.offset),
     }

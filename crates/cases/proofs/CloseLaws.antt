@@ -16,9 +16,9 @@ use Rattle.format.specs.Reading.Reading.{got, fault}
 use Rattle.format.specs.Format.{RuleFile}
 use Rattle.format.specs.Packing.{packed}
 use Rattle.format.specs.Files.{readWords}
-use Rattle.format.specs.Replies.{Reply, Written, _>>=_, _>>_, fromInput, demand, outcome}
-use Rattle.format.specs.Replies.Reply.{accepted, refused}
-use Rattle.format.specs.Operations.{encoded, write}
+use Rattle.operations.specs.Replies.{Reply, Written, _>>=_, _>>_, fromInput, demand, outcome}
+use Rattle.operations.specs.Replies.Reply.{accepted, refused}
+use Rattle.operations.specs.Coding.{encoded, write}
 use Rattle.io.specs.Counts.{Counts}
 
 -- An accepted write has room.

@@ -1,15 +1,15 @@
 // Printing what the operations give back.
 ghost use Prim.Native.Nat.{_+_, _^_, _≤_, _<_};
 ghost use Rattle.io.specs.Counts.{Counts};
-use comparing::CompareReply;
-use comparing::Relation;
 use comparing::compare;
-use encoder::encode::EncodeReply;
 use encoder::encode::encode;
 use libc::STDOUT_FILENO;
-use marking::mark::MarkReply;
 use marking::mark::mark;
 use marking::report::report;
+use operations::CompareReply;
+use operations::CountReply;
+use operations::MarkReply;
+use operations::Relation;
 
 pub fn print(text: &[u8]) {
     io::write_all(STDOUT_FILENO, text);
@@ -35,8 +35,8 @@ pub fn close(sheet: &[u16], book: &mut [u8]) -> usize
     ensures { λ r. ⌜ Counts r (now (book .exit)) ⌝ }
 {
     match encode(sheet, book) {
-        EncodeReply::Accepted(count) => count,
-        EncodeReply::Refused(error) => {
+        CountReply::Accepted(count) => count,
+        CountReply::Refused(error) => {
             print_error(error.code, error.input, error.offset);
             0
         }
@@ -66,10 +66,10 @@ pub fn show(title: &[u8], sheet: &[u16]) {
 // Prints how many rules a book has, how many of them decrease, and the score; or the error.
 pub fn print_marking(book: &[u8], marks: &mut [u8]) {
     match mark(book, marks) {
-        MarkReply::Accepted(rules, decreasing, score) => print_numbers(
-            rules as u64,
-            decreasing as u64,
-            score as u64,
+        MarkReply::Accepted(summary) => print_numbers(
+            summary.rules as u64,
+            summary.decreasing as u64,
+            summary.score as u64,
         ),
         MarkReply::Refused(error) => print_error(error.code, error.input, error.offset),
     }

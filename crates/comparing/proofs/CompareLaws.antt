@@ -17,15 +17,16 @@ use Rattle.terms.specs.Order.{isGreater, margin}
 use Rattle.format.specs.Reading.Reading.{got, fault}
 use Rattle.format.specs.Format.{RuleFile}
 use Rattle.format.specs.Files.{readBytes, readTerm}
-use Rattle.format.specs.Replies.{Reply}
-use Rattle.format.specs.Replies.Reply.{accepted, refused}
+use Rattle.operations.specs.Replies.{Reply}
+use Rattle.operations.specs.Replies.Reply.{accepted, refused}
 use Rattle.format.specs.Statements.{IsTerm}
 use Rattle.format.proofs.Theorems.{read-term-well-formed}
 use Rattle.symbols.specs.Table.{signatureOf}
 use Rattle.order.specs.Compared as order
-use Rattle.comparing.specs.declared.Relation.{Relation}
-use Rattle.comparing.specs.Comparing.{Comparison, relation, comparison, comparedRight, comparedTerms, compared}
-use Rattle.comparing.specs.Reply.{relationNumbered, relationOf}
+use Rattle.operations.specs.declared.Relation.{Relation}
+use Rattle.operations.specs.declared.Comparison.{Comparison}
+use Rattle.operations.specs.Comparing.{relation, comparison, comparedRight, comparedTerms, compared}
+use Rattle.comparing.specs.Numbers.{relationNumbered}
 
 -- Two terms as the order's functions ask them.
 pub whole-terms : {table s t : List ℕ} → length table ≤ 1021 → Admissible (signatureOf table) →
@@ -78,15 +79,14 @@ module _ (bytes left right : List ℕ) where
   book-read file end e r h = h ∙ rw e
 
 -- The table that reading leaves.
-pub numbered-relation : (σ : Signature) (s t : Term) → relationOf (relationNumbered (order.relation σ s t)) ≡ relation σ
-    s t
+pub numbered-relation : (σ : Signature) (s t : Term) → relationNumbered (order.relation σ s t) ≡ relation σ s t
 unfolding order.relation relation
 numbered-relation σ s t =
     byTest (isGreater σ s t) (λ a. rw a) λ a. byTest (isGreater σ t s) (λ b. rw (a, b))
     λ b. byTest (isEquivalent σ s t) (λ c. rw (a, b, c)) λ c. rw (a, b, c)
 
 pub terms-read : (σ : Signature) (s t : Term) (r : Relation) (n : ℕ) (m : ℤ) → r ≡ relationNumbered n →
-    n ≡ order.relation σ s t → m ≡ margin σ s t → record { relation = relationOf r; margin = m } ≡ comparison σ s t
+    n ≡ order.relation σ s t → m ≡ margin σ s t → record { relation = r; margin = m } ≡ comparison σ s t
 terms-read σ s t r n m e d f =
-    let k : relationOf r ≡ relation σ s t = ap relationOf (e ∙ ap relationNumbered d) ∙ numbered-relation σ s t in
+    let k : r ≡ relation σ s t = e ∙ ap relationNumbered d ∙ numbered-relation σ s t in
     rw (k, f)

@@ -1,3 +1,2 @@
--- What the code of comparing cites, and checks of the definitions of specs/.
+-- What the code of comparing cites.
 pub mod CompareLaws
-mod ComparingChecks

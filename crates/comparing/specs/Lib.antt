@@ -1,3 +1,2 @@
--- What comparing two terms under a rule file gives back.
-pub mod Comparing
-pub mod Reply
+-- The relation that a number stands for.
+pub mod Numbers

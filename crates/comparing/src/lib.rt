@@ -7,9 +7,13 @@ ghost use Rattle.terms.specs.Words.{termOf};
 ghost use Rattle.format.specs.Statements.{IsTerm};
 ghost use Rattle.symbols.specs.Table.{signatureOf};
 ghost use Rattle.symbols.specs.Arities.{Arities};
-ghost use Rattle.comparing.specs.Comparing.{comparison, comparedRight, comparedTerms, compared};
-ghost use Rattle.comparing.specs.Reply.{relationNumbered, replyOf, comparisonOf};
-use format::Error;
+ghost use Rattle.operations.specs.Comparing.{comparison, comparedRight, comparedTerms, compared};
+ghost use Rattle.operations.specs.Enums.{compareReply};
+ghost use Rattle.comparing.specs.Numbers.{relationNumbered};
+use operations::CompareReply;
+use operations::Comparison;
+use operations::Error;
+use operations::Relation;
 use order::relation::margin;
 use order::relation::relation;
 use order::sums::node_sums;
@@ -19,26 +23,6 @@ use reader::file::TABLE_WORDS;
 use reader::file::read_file;
 use words::term::TermReading;
 use words::term::whole_term;
-
-// How the left term is related to the right one.
-pub enum Relation {
-    Greater,
-    Less,
-    Equivalent,
-    Unrelated,
-}
-
-// The relation, and the weight of the left term less that of the right one.
-pub struct Comparison {
-    pub relation: Relation,
-    pub margin: i64,
-}
-
-// How two terms compare, or why they were not compared.
-pub enum CompareReply {
-    Accepted(Comparison),
-    Refused(Error),
-}
 
 // The relation of a number from 1 to 4.
 fn numbered(number: u8) -> Relation
@@ -61,7 +45,7 @@ fn compare_read(table: &[u16], left: &[u16], right: &[u16]) -> Comparison
     requires { ⌜ (length (now table) ≤ 1021) × Admissible (signatureOf (now table)) ⌝ }
     requires { ⌜ IsTerm (signatureOf (now table)) (now left) × IsTerm (signatureOf (now table)) (now right) ⌝ }
     ensures { λ r. ⌜
-        comparisonOf r
+        r
         ≡ comparison (signatureOf (now (table .entry))) (termOf (signatureOf (now (table .entry))) (now (left .entry)))
         (termOf (signatureOf (now (table .entry))) (now (right .entry)))
         ⌝ }
@@ -82,7 +66,7 @@ fn compare_right(table: &[u16], arities: &[u32; 272], left: &[u16], right: &[u16
     requires { ⌜ (length (now table) ≤ 1021) × Admissible (signatureOf (now table)) ⌝ }
     requires { ⌜ IsTerm (signatureOf (now table)) (now left) × Arities (signatureOf (now table)) (now arities) ⌝ }
     ensures { λ r. ⌜
-        replyOf r
+        compareReply r
         ≡ comparedRight (signatureOf (now (table .entry)))
         (termOf (signatureOf (now (table .entry))) (now (left .entry))) (now (right .entry))
         ⌝ }
@@ -101,7 +85,7 @@ fn compare_right(table: &[u16], arities: &[u32; 272], left: &[u16], right: &[u16
 fn compare_terms(table: &[u16], left: &[u16], right: &[u16]) -> CompareReply
     requires { ⌜ (length (now table) ≤ 1021) × Admissible (signatureOf (now table)) ⌝ }
     ensures { λ r. ⌜
-        replyOf r ≡ comparedTerms (signatureOf (now (table .entry))) (now (left .entry)) (now (right .entry))
+        compareReply r ≡ comparedTerms (signatureOf (now (table .entry))) (now (left .entry)) (now (right .entry))
         ⌝ }
 {
     let arities = symbols::arities(table);
@@ -117,7 +101,7 @@ fn compare_terms(table: &[u16], left: &[u16], right: &[u16]) -> CompareReply
 
 // Compares two terms, each as its node words, under a packed rule file.
 pub fn compare(book: &[u8], left: &[u16], right: &[u16]) -> CompareReply
-    ensures { λ r. ⌜ replyOf r ≡ compared (now (book .entry)) (now (left .entry)) (now (right .entry)) ⌝ }
+    ensures { λ r. ⌜ compareReply r ≡ compared (now (book .entry)) (now (left .entry)) (now (right .entry)) ⌝ }
 {
     let mut table = [0u16; TABLE_WORDS];
     let mut nothing = [0u16; 1];

@@ -21,8 +21,8 @@ use Rattle.format.specs.Reading.Reading.{got, fault}
 use Rattle.format.specs.Format.{Sides, RuleFile}
 use Rattle.format.specs.Files.{readBytes}
 use Rattle.format.specs.Packing.{itemWord, symbolItems, unpacked}
-use Rattle.format.specs.Replies.Reply.{accepted, refused}
-use Rattle.format.specs.Operations.{decoded}
+use Rattle.operations.specs.Replies.Reply.{accepted, refused}
+use Rattle.operations.specs.Coding.{decoded}
 use Rattle.reader.specs.Rule.{rulesWords}
 use Rattle.symbols.specs.Table.{signatureOf}
 use Rattle.reader.specs.File.{symbolsWords, FileParts}

@@ -9,22 +9,17 @@ ghost use Rattle.terms.specs.Signature.{symbolOf};
 ghost use Rattle.format.specs.Layout.{maxBytes};
 ghost use Rattle.format.specs.Format.{Sides};
 ghost use Rattle.format.specs.Packing.{itemWord, symbolItems, unpacked};
-ghost use Rattle.format.specs.Operations.{decoded};
+ghost use Rattle.operations.specs.Coding.{decoded};
 ghost use Rattle.symbols.specs.Table.{signatureOf};
 ghost use Rattle.reader.specs.Rule.{rulesWords};
 ghost use Rattle.reader.specs.File.{symbolsWords};
-ghost use Rattle.decoder.specs.Decode.{replyOf};
-use format::Error;
+ghost use Rattle.operations.specs.Enums.{countReply};
+use operations::CountReply;
+use operations::Error;
 use reader::file::File;
 use reader::file::TABLE_WORDS;
 use reader::file::read_file;
 use reader::rule::put_words;
-
-// How many words were written, or why none was.
-pub enum DecodeReply {
-    Accepted(usize),
-    Refused(Error),
-}
 
 // Stores a word, where there is room for it.
 fn put_word(words: &mut [u16], index: usize, word: u16)
@@ -90,14 +85,14 @@ fn put_file(table: &[u16], words: &mut [u16], count: usize, rules: usize, nodes:
 }
 
 // Decodes a packed file into the front of the words. Its nodes are kept elsewhere until its last fault is known.
-fn decode_through(book: &[u8], words: &mut [u16], nodes: &mut [u16]) -> DecodeReply
+fn decode_through(book: &[u8], words: &mut [u16], nodes: &mut [u16]) -> CountReply
     requires { ⌜ (length (now book) ≤ maxBytes → 8 * length (now book) ≤ 5 * length (now nodes)) ⌝ }
-    ensures { λ r. ⌜ replyOf r ≡ decoded (now (book .entry)) (now (words .entry)) .reply ⌝ }
+    ensures { λ r. ⌜ countReply r ≡ decoded (now (book .entry)) (now (words .entry)) .reply ⌝ }
     ensures { λ r. ⌜ now (words .exit) ≡ decoded (now (book .entry)) (now (words .entry)) .output ⌝ }
 {
     let mut table = [0u16; TABLE_WORDS];
     match read_file(book, &mut table, nodes) {
-        File::Fault(code, offset) => DecodeReply::Refused(Error {
+        File::Fault(code, offset) => CountReply::Refused(Error {
             code,
             input: 0,
             offset,
@@ -105,7 +100,7 @@ fn decode_through(book: &[u8], words: &mut [u16], nodes: &mut [u16]) -> DecodeRe
         File::Read(symbol_count, rule_count, node_count, _) => {
             let word_count = 4 + 4 * symbol_count + node_count;
             if words.len() < word_count {
-                return DecodeReply::Refused(Error {
+                return CountReply::Refused(Error {
                     code: 13,
                     input: 1,
                     offset: 0,
@@ -119,7 +114,7 @@ fn decode_through(book: &[u8], words: &mut [u16], nodes: &mut [u16]) -> DecodeRe
                 rule_count,
                 &nodes[..node_count],
             );
-            DecodeReply::Accepted(word_count)
+            CountReply::Accepted(word_count)
         }
     }
 }
@@ -139,8 +134,8 @@ fn large_room() -> [u16; 52429]
 }
 
 // Decodes a packed file into the front of the words.
-pub fn decode(book: &[u8], words: &mut [u16]) -> DecodeReply
-    ensures { λ r. ⌜ replyOf r ≡ decoded (now (book .entry)) (now (words .entry)) .reply ⌝ }
+pub fn decode(book: &[u8], words: &mut [u16]) -> CountReply
+    ensures { λ r. ⌜ countReply r ≡ decoded (now (book .entry)) (now (words .entry)) .reply ⌝ }
     ensures { λ r. ⌜ now (words .exit) ≡ decoded (now (book .entry)) (now (words .entry)) .output ⌝ }
 {
     if book.len() <= 2048 {

@@ -15,9 +15,9 @@ use Rattle.format.specs.Reading.Reading.{got, fault}
 use Rattle.format.specs.Format.{RuleFile, symbolsReader, rulesReader, fileReader}
 use Rattle.format.specs.Files.{readWords, endReader}
 use Rattle.format.specs.Packing.{Item, items, itemBits, bytesOf, packed}
-use Rattle.format.specs.Replies.{Reply}
-use Rattle.format.specs.Replies.Reply.{accepted, refused}
-use Rattle.format.specs.Operations.{encoded}
+use Rattle.operations.specs.Replies.{Reply}
+use Rattle.operations.specs.Replies.Reply.{accepted, refused}
+use Rattle.operations.specs.Coding.{encoded}
 use Rattle.files.specs.declared.file.Counts.{Counts}
 use Rattle.files.specs.declared.file.FileReading.the-variants as counts
 use Rattle.files.specs.Items.{itemsFrom}

@@ -1,3 +1,2 @@
--- The bits of words, and what encoding replies.
+-- The bits of words.
 pub mod Items
-pub mod Encode

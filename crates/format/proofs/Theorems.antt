@@ -1,14 +1,13 @@
 -- The theorems of specs/Statements.antt.
 use Rattle.format.specs.Format.{RuleFile}
 use Rattle.format.specs.Statements.{IsRead, ReadableAdmissible, ReadableWellFormed, ReadTermWellFormed}
-use Rattle.format.specs.Statements.{WellFormedReads, FaultsWithin, DecodeThenEncode, EncodeThenDecode}
+use Rattle.format.specs.Statements.{WellFormedReads, FaultsWithin}
 use Rattle.format.specs.Statements.IsRead.{fromBytes, fromWords}
 use Rattle.format.proofs.FileLaws.{Readable, bytes-readable, words-readable}
 use Rattle.format.proofs.PromiseLaws.{readable-signature, readable-sides, readable-system}
 use Rattle.format.proofs.PromiseLaws.{first-term, whole-term}
 use Rattle.format.proofs.TermReading.{term-reads, term-refused}
 use Rattle.format.proofs.FaultLaws.{bytes-fault, words-fault, term-fault}
-use Rattle.format.proofs.RoundTrip.{decode-encode, encode-decode}
 
 readable : (file : RuleFile) → IsRead file → Readable file
 readable file (fromBytes bytes end e) = bytes-readable bytes file end e
@@ -29,11 +28,3 @@ well-formed-reads σ few t h = (term-reads σ few t h, term-refused σ few t h)
 pub faults-within : FaultsWithin
 faults-within input code offset =
     (bytes-fault input code offset, words-fault input code offset, λ σ. term-fault input σ code offset)
-
-pub decode-then-encode : DecodeThenEncode
-decode-then-encode bytes output n small e buffer room =
-    let w = decode-encode bytes output n small e buffer room in (w .reply, w .output)
-
-pub encode-then-decode : EncodeThenDecode
-encode-then-decode input output n e buffer room =
-    let w = encode-decode input output n e buffer room in (w .reply, w .output)

@@ -1,12 +1,11 @@
 -- The theorems of this crate, as types. Their proofs stand in proofs/Theorems.antt.
 -- Renders: 01, "The order": "it stands above the reader and relies on its promise only"; "Book layout": the widths,
--- "All ranks differ", "Admissible", "A side has at most 128 nodes"; and that opening and then closing, or closing and
--- then opening, gives back what was lent.
+-- "All ranks differ", "Admissible", "A side has at most 128 nodes".
 -- Reading is total and has one outcome: `readBytes`, `readWords` and `readTerm` are functions into `Reading`.
 use mathlib.Core.List.{List, List·Memᴰ}
 use mathlib.Core.Path.{_≡_}
 use Prim.Native.Nat.{ℕ, _*_, _^_, _≤_, _<_}
-use lib.ListN.{length, getD, take}
+use lib.ListN.{length, take}
 use Rattle.terms.specs.Signature.{Signature, symbolOf, Admissible}
 use Rattle.terms.specs.Term.{Term, size, WellFormed}
 use Rattle.terms.specs.Words.{firstVariable, words, termOf}
@@ -16,8 +15,6 @@ use Rattle.format.specs.Layout.{symbolCountWidth, weightWidth, ruleCount
 use Rattle.format.specs.Reading.Reading.{got, fault}
 use Rattle.format.specs.Format.{Sides, RuleFile, systemOf}
 use Rattle.format.specs.Files.{readBytes, readWords, readFirstTerm, readTerm}
-use Rattle.format.specs.Replies.Reply.{accepted}
-use Rattle.format.specs.Operations.{decoded, encoded}
 
 -- ---- the promise
 
@@ -70,19 +67,3 @@ FaultsWithin = (input : List ℕ) (code offset : ℕ) →
     (readBytes input ≡ fault code offset → offset ≤ 8 * length input)
     × (readWords input ≡ fault code offset → offset ≤ length input)
     × ((σ : Signature) → readTerm σ input ≡ fault code offset → offset ≤ length input)
-
--- ---- the round trips
-
--- Every accepted file, decoded to words and encoded into an output with room, gives back its bytes.
-abbrev pub DecodeThenEncode : Type 0
-DecodeThenEncode = (bytes output : List ℕ) (n : ℕ) → ((i : ℕ) → getD bytes i 0 < 256) →
-    decoded bytes output .reply ≡ accepted n → (buffer : List ℕ) → length bytes ≤ length buffer →
-    let back = encoded (take n (decoded bytes output .output)) buffer in
-    (back .reply ≡ accepted (length bytes)) × (take (length bytes) (back .output) ≡ bytes)
-
--- Every accepted list of words, encoded to bytes and decoded into an output with room, gives back its words.
-abbrev pub EncodeThenDecode : Type 0
-EncodeThenDecode = (input output : List ℕ) (n : ℕ) →
-    encoded input output .reply ≡ accepted n → (buffer : List ℕ) → length input ≤ length buffer →
-    let back = decoded (take n (encoded input output .output)) buffer in
-    (back .reply ≡ accepted (length input)) × (take (length input) (back .output) ≡ input)

@@ -1,12 +1,5 @@
 // The numbers of the file format, one name each: widths, limits and the errors' codes, as specs/Layout and specs/Errors
-// have them. The only other code is the error.
-
-// An error's code, the input at fault, and the offset in it.
-pub struct Error {
-    pub code: u8,
-    pub input: u8,
-    pub offset: usize,
-}
+// have them. No function stands here.
 
 pub const FORM: u16 = 1;
 

@@ -1,4 +1,5 @@
--- The claims of specs/Guarantees.antt: from what marking and comparing give back to the theorems of the order.
+-- The claims of specs/: from what the operations give back to the theorems of the order and of the format.
 pub mod MarkedLaws
 pub mod LikeLaws
+pub mod RoundTrip
 pub mod Theorems

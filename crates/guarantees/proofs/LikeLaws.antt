@@ -21,11 +21,12 @@ use Rattle.format.specs.Layout.{maxNodes}
 use Rattle.format.specs.Reading.{Reading}
 use Rattle.format.specs.Reading.Reading.{got, fault}
 use Rattle.format.specs.Files.{readTerm}
-use Rattle.format.specs.Replies.{Reply, _>>=_, fromInput}
-use Rattle.format.specs.Replies.Reply.{accepted}
+use Rattle.operations.specs.Replies.{Reply, _>>=_, fromInput}
+use Rattle.operations.specs.Replies.Reply.{accepted}
 use Rattle.format.specs.Statements.{IsTerm}
 use Rattle.format.proofs.Theorems.{read-term-well-formed, well-formed-reads}
-use Rattle.comparing.specs.Comparing.{Comparison, relation, comparison}
+use Rattle.operations.specs.declared.Comparison.{Comparison}
+use Rattle.operations.specs.Comparing.{relation, comparison}
 use Rattle.guarantees.specs.Guarantees.{Like}
 use Rattle.guarantees.specs.Guarantees.Like.{sameWords, equalTerms}
 

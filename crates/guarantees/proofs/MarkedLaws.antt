@@ -1,18 +1,19 @@
 -- What marking gives back for a readable file, and what it says of the rules.
 --     marked-reply, marked-output     an accepted reply, and the marks written
---     all-decreasing                  where the falling count is the count of rules, every rule is decreasing
+--     all-decreasing, counted-all     the falling count is the count of rules exactly where every rule is decreasing
 use mathlib.Core.List.{List, [], _∷_, _++_, map, List·Memᴰ, List·Memᴰ·head, List·Memᴰ·tail, List·Memᴰ·not-nil}
 use mathlib.Core.List.{List·Memᴰ·cases-cons, Memᴰ·map}
 use mathlib.Core.Logic.{⊎-elim}
 use mathlib.Core.Path.{_≡_, refl, sym, ap, _∙_}
 use mathlib.Core.Bool.{Bool, true, false, false≢true, and-eq-true-iff}
-use borrow.Author.Tests.{leb-true}
+use borrow.Author.Tests.{leb-true, le-leb}
 use Prim.Native.Nat.{ℕ, suc, zero, _≤_, _<_}
 use native.Mathlib.Omega.{arith}
 use lib.ListN.{length, getD, take, drop, length-map, List·getD-append}
 use lib.Seq.{take-at}
 use lib.Dec.{leb}
 use Rattle.multisets.specs.Multiset.{choose}
+use Rattle.multisets.proofs.MultisetMaps.{choose-length}
 use Rattle.multisets.proofs.Relations.{byTest}
 use Rattle.terms.specs.Order.{mark}
 use Rattle.terms.specs.Rewriting.{Rule}
@@ -20,10 +21,10 @@ use Rattle.format.specs.Reading.Reading.{got}
 use Rattle.format.specs.Format.{RuleFile, systemOf}
 use Rattle.format.specs.Files.{readBytes}
 use Rattle.format.specs.Errors.{marksTooShort}
-use Rattle.format.specs.Replies.{Reply, Written, _>>_, demand, outcome}
-use Rattle.format.specs.Replies.Reply.{accepted, refused}
-use Rattle.marking.proofs.RuleLaws.{length-choose}
-use Rattle.marking.specs.Marking.{marksOf, isDecreasing, decreasingCount, Summary, summaryOf, marked}
+use Rattle.operations.specs.Replies.{Reply, Written, _>>_, demand, outcome}
+use Rattle.operations.specs.Replies.Reply.{accepted, refused}
+use Rattle.operations.specs.declared.Summary.{Summary}
+use Rattle.operations.specs.Marking.{marksOf, isDecreasing, decreasingCount, summaryOf, marked}
 
 -- ---- lists
 
@@ -44,10 +45,19 @@ module _ {A : Type 0} (p : A → Bool) where
   all-chosen (b ∷ l) h a m =
       byTest (p b)
       (λ e. ⊎-elim (λ q. rw q e) (λ k. all-chosen l (omega (arith, rw e at h)) a k) (List·Memᴰ·cases-cons m))
-      λ e. absurd (omega (arith, length-choose p l, rw e at h))
+      λ e. absurd (omega (arith, choose-length p l, rw e at h))
   all-chosen [] h a m = absurd (List·Memᴰ·not-nil m)
 
+-- Where each passes, as many are chosen as there are.
+chosen-all : {A B : Type 0} (f : A → B) (p : B → Bool) (l : List A) → ((a : A) → List·Memᴰ a l → p (f a) ≡ true) →
+    length (choose p (map f l)) ≡ length (map f l)
+chosen-all f p [] h = refl
+chosen-all f p (a ∷ l) h = rw (h a (List·Memᴰ·head refl)) (ap suc (chosen-all f p l λ b m. h b (List·Memᴰ·tail m)))
+
 -- ---- marking
+
+pub test-of-marks : (m : ℕ) → (1 ≤ m) × (m ≤ 6) → isDecreasing m ≡ true
+test-of-marks m (a, b) = rw (le-leb 1 m a, le-leb m 6 b)
 
 pub marks-of-test : (m : ℕ) → isDecreasing m ≡ true → (1 ≤ m) × (m ≤ 6)
 marks-of-test m e = let (a, b) = and-eq-true-iff (leb 1 m) (leb m 6) .0 e in (leb-true 1 m a, leb-true m 6 b)
@@ -114,3 +124,16 @@ module _ (bytes marks : List ℕ) (file : RuleFile) (at : ℕ) (reads : readByte
       let s = marked-both .0 in
       all-chosen isDecreasing ruleMarks
       (ap (λ (s : Summary). s .decreasing) (sym s) ∙ e ∙ ap (λ (s : Summary). s .rules) s) _ (Memᴰ·map _ m)
+
+-- Lent as many bytes as there are rules, marking counts them all where every rule's mark is one of 1 to 6.
+module _ (bytes : List ℕ) (file : RuleFile) (at : ℕ) (reads : readBytes bytes ≡ got file at) where
+  pub marks-accepted : marked bytes (marksOf (systemOf file)) .reply ≡ accepted (summaryOf (marksOf (systemOf file)))
+  unfolding marked
+  marks-accepted =
+      let h : length (file .rules) ≤ length (marksOf (systemOf file)) = omega (arith, length-marks file) in
+      rw (reads, le-leb (length (file .rules)) (length (marksOf (systemOf file))) h)
+
+  pub counted-all : ((r : Rule) → List·Memᴰ r (systemOf file .rules) →
+      isDecreasing (mark (file .signature) (r .left) (r .right)) ≡ true) →
+      summaryOf (marksOf (systemOf file)) .decreasing ≡ summaryOf (marksOf (systemOf file)) .rules
+  counted-all h = chosen-all _ isDecreasing (systemOf file .rules) h

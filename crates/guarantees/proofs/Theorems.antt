@@ -1,12 +1,14 @@
--- The claims of specs/Guarantees.antt.
-use mathlib.Core.List.{List}
+-- The claims of specs/Guarantees.antt and specs/RoundTrips.antt.
+use mathlib.Core.List.{List, List·Memᴰ}
 use mathlib.Core.Path.{_≡_, refl, sym, _∙_}
+use mathlib.Core.Bool.{true}
 use Prim.Native.Nat.{ℕ, _≤_}
 use native.Mathlib.Omega.{arith}
 use lib.ListN.{length, getD}
 use Rattle.terms.specs.Signature.{Admissible}
 use Rattle.terms.specs.Term.Term.{var}
 use Rattle.terms.specs.Words.{firstVariable}
+use Rattle.terms.specs.Order.{mark}
 use Rattle.terms.specs.Rewriting.{Rule, WellFormedRules, AllDecreasing}
 use Rattle.theory.proofs.Theorems.{greater-irreflexive, greater-transitive, closed-under-contexts, derivations-descend}
 use Rattle.theory.proofs.Theorems.{step-ceiling}
@@ -15,16 +17,20 @@ use Rattle.format.specs.Reading.{Reading}
 use Rattle.format.specs.Reading.Reading.{got, fault}
 use Rattle.format.specs.Format.{RuleFile, systemOf}
 use Rattle.format.specs.Files.{readBytes, readTerm}
-use Rattle.format.specs.Replies.{_>>=_, fromInput}
+use Rattle.operations.specs.Replies.{_>>=_, fromInput}
 use Rattle.format.specs.Statements.{IsRead}
 use Rattle.format.specs.Statements.IsRead.{fromBytes}
 use Rattle.format.proofs.Theorems.{readable-admissible, readable-well-formed}
-use Rattle.comparing.specs.Comparing.{comparedRight, comparedTerms, compared}
-use Rattle.guarantees.specs.Guarantees.{Holds, AllFall, ReadableOrder, DerivationsDescend, DerivationsBounded}
+use Rattle.operations.specs.Marking.{marksOf, isDecreasing, summaryOf}
+use Rattle.operations.specs.Comparing.{comparedRight, comparedTerms, compared}
+use Rattle.guarantees.specs.Guarantees.{Holds, ReadableOrder, FilesDescend, FilesBounded, CountedAll, CountTells}
 use Rattle.guarantees.specs.Guarantees.{Like, LikeComparisonsAgree, MarksExact, FallingCounted}
-use Rattle.guarantees.proofs.MarkedLaws.{marks-of-test, all-decreasing, mark-written, falling-counted}
+use Rattle.guarantees.proofs.MarkedLaws.{test-of-marks, marks-of-test, all-decreasing, marks-accepted}
+use Rattle.guarantees.proofs.MarkedLaws.{counted-all, mark-written, falling-counted}
 use Rattle.guarantees.proofs.MarkedLaws.{length-rules, getD-member}
 use Rattle.guarantees.proofs.LikeLaws.{compares, like-reads, compared-like}
+use Rattle.guarantees.specs.RoundTrips.{DecodeThenEncode, EncodeThenDecode}
+use Rattle.guarantees.proofs.RoundTrip.{decode-encode, encode-decode}
 
 -- ---- what a readable file promises
 
@@ -41,11 +47,17 @@ module _ (bytes : List ℕ) (file : RuleFile) (h : Holds bytes file) where
   rules-formed : WellFormedRules (systemOf file)
   rules-formed = readable-well-formed file read .1
 
-  rules-decrease : AllFall bytes → AllDecreasing (systemOf file)
+  rules-decrease : CountedAll bytes → AllDecreasing (systemOf file)
   rules-decrease a r m =
       let (v, w) = rules-formed r m in
       let e = all-decreasing bytes (a .marks) file (h .0) (h .1) (a .summary) (a .reply) (a .all) r m in
       decreasing-marks (file .signature) admissible (r .left) (r .right) v w .1 (marks-of-test _ e)
+
+  rules-marked : AllDecreasing (systemOf file) → (r : Rule) → List·Memᴰ r (systemOf file .rules) →
+      isDecreasing (mark (file .signature) (r .left) (r .right)) ≡ true
+  rules-marked a r m =
+      let (v, w) = rules-formed r m in
+      test-of-marks _ (decreasing-marks (file .signature) admissible (r .left) (r .right) v w .0 (a r m))
 
 pub readable-order : ReadableOrder
 readable-order bytes file h = let A = admissible bytes file h in record {
@@ -54,14 +66,23 @@ readable-order bytes file h = let A = admissible bytes file h in record {
   closed = closed-under-contexts (file .signature) A;
 }
 
-pub derivations-descend-read : DerivationsDescend
-derivations-descend-read bytes file h a s t d x =
-    derivations-descend (systemOf file) (admissible bytes file h) (rules-formed bytes file h)
-    (rules-decrease bytes file h a) s t d
+pub files-descend : FilesDescend
+files-descend bytes file h a s t d x =
+    derivations-descend (systemOf file) (admissible bytes file h) (rules-formed bytes file h) a s t d
 
-pub derivations-bounded : DerivationsBounded
-derivations-bounded bytes file h a =
-    step-ceiling (systemOf file) (admissible bytes file h) (rules-formed bytes file h) (rules-decrease bytes file h a)
+pub files-bounded : FilesBounded
+files-bounded bytes file h a = step-ceiling (systemOf file) (admissible bytes file h) (rules-formed bytes file h) a
+
+pub count-tells : CountTells
+count-tells bytes file h = (
+  rules-decrease bytes file h,
+  λ a. record {
+    marks = marksOf (systemOf file);
+    summary = summaryOf (marksOf (systemOf file));
+    reply = marks-accepted bytes file (h .0) (h .1);
+    all = counted-all bytes file (h .0) (h .1) (rules-marked bytes file h a);
+  },
+)
 
 -- ---- like comparisons
 
@@ -107,3 +128,13 @@ marks-exact bytes marks file summary h e i l =
 
 pub falling-counted-read : FallingCounted
 falling-counted-read bytes marks file summary h e = falling-counted bytes marks file (h .0) (h .1) summary e
+
+-- ---- the round trips
+
+pub decode-then-encode : DecodeThenEncode
+decode-then-encode bytes output n small e buffer room =
+    let w = decode-encode bytes output n small e buffer room in (w .reply, w .output)
+
+pub encode-then-decode : EncodeThenDecode
+encode-then-decode input output n e buffer room =
+    let w = encode-decode input output n e buffer room in (w .reply, w .output)

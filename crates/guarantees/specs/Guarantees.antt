@@ -16,23 +16,18 @@ use Rattle.terms.specs.Order.{isGreater}
 use Rattle.terms.specs.Marks.{Marked}
 use Rattle.terms.specs.Article.{Greater}
 use Rattle.terms.specs.Rewriting.{Rule, Context, fill, ExpressionContext, Derivation, stepCount, along, StronglySorted}
+use Rattle.terms.specs.Rewriting.{AllDecreasing}
 use Rattle.format.specs.Reading.Reading.{got}
 use Rattle.format.specs.Format.{RuleFile, systemOf}
 use Rattle.format.specs.Files.{readBytes}
-use Rattle.format.specs.Replies.Reply.{accepted}
-use Rattle.comparing.specs.Comparing.{compared}
-use Rattle.marking.specs.Marking.{decreasingCount, Summary, marked}
+use Rattle.operations.specs.Replies.Reply.{accepted}
+use Rattle.operations.specs.Comparing.{compared}
+use Rattle.operations.specs.declared.Summary.{Summary}
+use Rattle.operations.specs.Marking.{decreasingCount, marked}
 
 -- 01: the book is readable, and holds that file.
 abbrev pub Holds : List ℕ → RuleFile → Type 0
 Holds bytes file = (at : ℕ) × (readBytes bytes ≡ got file at)
-
--- 01: all rules fall: the count of falling rules that marking gives is the count of rules.
-pub record AllFall (bytes : List ℕ) : Type 0 where
-  pub marks : List ℕ
-  pub summary : Summary
-  pub reply : marked bytes marks .reply ≡ accepted summary
-  pub all : summary .decreasing ≡ summary .rules
 
 -- ---- (a) the order on expressions
 
@@ -61,11 +56,23 @@ module _ (file : RuleFile) where
   Bounded = (s t : Term) (d : Derivation (systemOf file) s t) → Expression (file .signature) s →
       stepCount (systemOf file) d < suc (length (file .signature .symbols)) ^ (2 * weight (file .signature) s - 1)
 
-abbrev pub DerivationsDescend : Type 0
-DerivationsDescend = (bytes : List ℕ) (file : RuleFile) → Holds bytes file → AllFall bytes → Descends file
+-- 01: for any readable book all of whose rules fall.
+abbrev pub FilesDescend : Type 0
+FilesDescend = (bytes : List ℕ) (file : RuleFile) → Holds bytes file → AllDecreasing (systemOf file) → Descends file
 
-abbrev pub DerivationsBounded : Type 0
-DerivationsBounded = (bytes : List ℕ) (file : RuleFile) → Holds bytes file → AllFall bytes → Bounded file
+abbrev pub FilesBounded : Type 0
+FilesBounded = (bytes : List ℕ) (file : RuleFile) → Holds bytes file → AllDecreasing (systemOf file) → Bounded file
+
+-- The count of falling rules that marking gives is the count of rules.
+pub record CountedAll (bytes : List ℕ) : Type 0 where
+  pub marks : List ℕ
+  pub summary : Summary
+  pub reply : marked bytes marks .reply ≡ accepted summary
+  pub all : summary .decreasing ≡ summary .rules
+
+-- All rules of a book fall exactly if marking counts as many.
+abbrev pub CountTells : Type 0
+CountTells = (bytes : List ℕ) (file : RuleFile) → Holds bytes file → CountedAll bytes ↔ AllDecreasing (systemOf file)
 
 -- ---- (d) like comparisons
 

@@ -1,2 +1,3 @@
 -- The claims of demands 2 and 3, over what the operations give back.
 pub mod Guarantees
+pub mod RoundTrips

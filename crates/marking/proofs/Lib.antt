@@ -1,6 +1,5 @@
--- What the code of marking cites, and checks of the definitions of specs/.
+-- What the code of marking cites.
 pub mod RuleLaws
 pub mod OrientLaws
 pub mod MarkLaws
 pub mod ReportLaws
-mod ListingChecks

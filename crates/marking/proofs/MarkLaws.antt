@@ -17,11 +17,11 @@ use Rattle.format.specs.Reading.Reading.{got, fault}
 use Rattle.terms.specs.Signature.{Signature}
 use Rattle.format.specs.Format.{Sides}
 use Rattle.format.specs.Files.{readBytes}
-use Rattle.format.specs.Replies.Reply.{accepted, refused}
+use Rattle.operations.specs.Replies.Reply.{accepted, refused}
 use Rattle.format.proofs.Theorems.{faults-within}
 use Rattle.reader.specs.File.{HeadParts}
 use Rattle.reader.proofs.FileLaws.{table-of}
-use Rattle.marking.specs.Marking.{decreasingCount, scoreOf, marked}
+use Rattle.operations.specs.Marking.{decreasingCount, scoreOf, marked}
 use Rattle.marking.specs.Rule.{IsTable, sidesMarks}
 use Rattle.marking.proofs.RuleLaws.{length-marks}
 

@@ -17,7 +17,7 @@ use Rattle.terms.specs.Signature.{Signature}
 use Rattle.terms.specs.Term.{weight}
 use Rattle.terms.specs.Words.{termOf}
 use Rattle.terms.specs.Order.{mark}
-use Rattle.text.specs.Text.{ascii, decimal, signedDecimal, line}
+use Rattle.operations.specs.Text.{ascii, decimal, signedDecimal, line}
 use Rattle.text.specs.Put.{Put}
 use Rattle.text.proofs.TextLaws.{put-append}
 use Rattle.format.specs.Reading.{Source}
@@ -25,8 +25,8 @@ use Rattle.format.specs.Reading.Reading.{got, fault}
 use Rattle.format.specs.Format.{Sides, RuleFile, systemOf, rulesReader}
 use Rattle.format.specs.Files.{readBytes}
 use Rattle.reader.specs.Rule.{ruleReader}
-use Rattle.marking.specs.Marking.{marksOf, decreasingCount, scoreOf}
-use Rattle.marking.specs.Report.{summaryLines, report}
+use Rattle.operations.specs.Marking.{marksOf, decreasingCount, scoreOf}
+use Rattle.operations.specs.Report.{summaryLines, report}
 use Rattle.marking.specs.Rule.{sidesMarks, sidesLines}
 use Rattle.reader.proofs.RuleLaws.{Done, done-none, done-fault, done-more, done-all}
 use Rattle.marking.specs.declared.rule.Oriented.{Oriented}

@@ -1,7 +1,7 @@
 -- Rules read one after another, and their marks.
 --     fault-unread, got-same                           what a reading gave
 --     MarkedSoFar, marked-none, marked-fault, marked-more, marked-all     what a loop has counted and stored
---     decreasing-one, decreasing-append, length-choose     how many marks are those of the order
+--     decreasing-below, -above, -within, -append     how many marks are those of the order
 use mathlib.Core.List.{List, [], _∷_, _++_, map}
 use mathlib.Core.Path.{_≡_, refl, ap, _∙_}
 use mathlib.Core.Bool.{Bool, true, false, false≢true}
@@ -27,7 +27,7 @@ use Rattle.marking.specs.declared.rule.Oriented.{Oriented}
 use Rattle.marking.specs.declared.rule.RuleReading.the-variants.{Got}
 use Rattle.marking.specs.declared.mark.RulesMarked.the-variants.{Marked}
 use Rattle.marking.specs.declared.mark.RulesMarked.the-variants as marked
-use Rattle.marking.specs.Marking.{isDecreasing, decreasingCount}
+use Rattle.operations.specs.Marking.{isDecreasing, decreasingCount}
 use Rattle.marking.specs.Rule.{sidesMarks, OrientsRead, MarksRead}
 
 abbrev pub sidesThemselves : Sides → Sides
@@ -55,11 +55,6 @@ decreasing-above m h k = rw (le-leb 1 m h, lt-leb m 6 k)
 
 pub decreasing-within : (m : ℕ) → 1 ≤ m → m ≤ 6 → decreasingCount (m ∷ []) ≡ 1
 decreasing-within m h k = rw (le-leb 1 m h, le-leb m 6 k)
-
-pub length-choose : {A : Type 0} (p : A → Bool) (l : List A) → length (choose p l) ≤ length l
-length-choose p [] = omega arith
-length-choose p (a ∷ l) =
-    byTest (p a) (λ e. rw e (omega (arith, length-choose p l))) λ e. rw e (omega (arith, length-choose p l))
 
 pub decreasing-append : (l m : List ℕ) → decreasingCount (l ++ m) ≡ decreasingCount l + decreasingCount m
 decreasing-append l m = ap length (choose-append isDecreasing l m) ∙ length-append (choose isDecreasing l)

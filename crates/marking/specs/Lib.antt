@@ -1,5 +1,2 @@
--- What marking the rules of a rule file gives back, and the text that the program prints.
-pub mod Marking
-pub mod Report
+-- What orienting the rules of a packed file gives.
 pub mod Rule
-pub mod Reply

@@ -19,8 +19,8 @@ use Rattle.marking.specs.declared.rule.RuleReading.the-variants.{Got, Fa
 use Rattle.marking.specs.declared.mark.RulesMarked.{RulesMarked}
 use Rattle.marking.specs.declared.mark.RulesMarked.the-variants.{Marked}
 use Rattle.marking.specs.declared.mark.RulesMarked.the-variants as marked
-use Rattle.marking.specs.Marking.{marksOf, decreasingCount}
-use Rattle.marking.specs.Report.{ruleLines}
+use Rattle.operations.specs.Marking.{marksOf, decreasingCount}
+use Rattle.operations.specs.Report.{ruleLines}
 
 -- A table as reading leaves it: of at most 255 symbols, and admissible.
 pub record IsTable (table : List ℕ) : Type 0 where

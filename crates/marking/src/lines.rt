@@ -5,7 +5,7 @@ ghost use Prim.Native.Nat.{_+_, _^_, _≤_, _<_};
 ghost use lib.IntN.{subℕ};
 ghost use lib.ListN.{length};
 ghost use lib.Seq.{sets};
-ghost use Rattle.text.specs.Text.{ascii, decimal, signedDecimal, line};
+ghost use Rattle.operations.specs.Text.{ascii, decimal, signedDecimal, line};
 
 // The line of a refusal.
 pub fn put_refusal(out: &mut [u8], code: u64, offset: u64) -> usize

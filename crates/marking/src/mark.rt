@@ -7,28 +7,24 @@ ghost use Rattle.format.specs.Layout.{maxBytes};
 ghost use Rattle.format.specs.Reading.{bitSource};
 ghost use Rattle.format.specs.Format.{rulesReader};
 ghost use Rattle.format.specs.Files.{readBytes};
-ghost use Rattle.format.specs.Replies.Reply.{refused as refusedOf};
+ghost use Rattle.operations.specs.Replies.Reply.{refused as refusedOf};
 ghost use Rattle.symbols.specs.Table.{signatureOf};
 ghost use Rattle.symbols.specs.Arities.{Arities};
 ghost use Rattle.order.specs.Sums.{NodeSums};
 ghost use Rattle.reader.specs.File.{restReader};
-ghost use Rattle.marking.specs.Marking.{decreasingCount, scoreOf, marked};
+ghost use Rattle.operations.specs.Marking.{decreasingCount, scoreOf, marked};
 ghost use Rattle.marking.specs.Rule.{IsTable, MarksRead, MarkedWithin};
-ghost use Rattle.marking.specs.Reply.{replyOf};
+ghost use Rattle.operations.specs.Enums.{markReply};
 use crate::rule::RuleReading;
 use crate::rule::orient;
 use bits::BitCursor;
-use format::Error;
+use operations::Error;
+use operations::MarkReply;
+use operations::Summary;
 use order::sums::node_sums;
 use reader::file::Head;
 use reader::file::TABLE_WORDS;
 use reader::file::read_head;
-
-// The counts of rules and of those that decrease, and the score; or why nothing was marked.
-pub enum MarkReply {
-    Accepted(usize, usize, usize),
-    Refused(Error),
-}
 
 // How many rules decrease and the cursor past them, or an error's code and offset.
 pub enum RulesMarked {
@@ -37,7 +33,7 @@ pub enum RulesMarked {
 }
 
 fn refused(code: u8, input: u8, offset: usize) -> MarkReply
-    ensures { λ r. ⌜ replyOf r ≡ refusedOf (record { code = code; input = input; offset = offset }) ⌝ }
+    ensures { λ r. ⌜ markReply r ≡ refusedOf (record { code = code; input = input; offset = offset }) ⌝ }
 {
     MarkReply::Refused(Error {
         code,
@@ -125,7 +121,7 @@ fn mark_under(
     ensures { λ r. ⌜
         (readBytes (now (book .entry))
         ≡ restReader (now (book .entry)) (signatureOf (now (table .entry))) count (cursor .at)
-        → (replyOf r ≡ marked (now (book .entry)) (now (marks .entry)) .reply)
+        → (markReply r ≡ marked (now (book .entry)) (now (marks .entry)) .reply)
         × (now (marks .exit) ≡ marked (now (book .entry)) (now (marks .entry)) .output))
         ⌝ }
 {
@@ -142,14 +138,19 @@ fn mark_under(
                 return refused(12, 1, 0);
             }
             text::put_bytes(marks, 0, &found[..count]);
-            MarkReply::Accepted(count, decreasing, score(decreasing, count))
+            let score = score(decreasing, count);
+            MarkReply::Accepted(Summary {
+                rules: count,
+                decreasing,
+                score,
+            })
         }
     }
 }
 
 // Marks the rules of a packed file, a byte for each at the front of the marks.
 pub fn mark(book: &[u8], marks: &mut [u8]) -> MarkReply
-    ensures { λ r. ⌜ replyOf r ≡ marked (now (book .entry)) (now (marks .entry)) .reply ⌝ }
+    ensures { λ r. ⌜ markReply r ≡ marked (now (book .entry)) (now (marks .entry)) .reply ⌝ }
     ensures { λ _. ⌜ now (marks .exit) ≡ marked (now (book .entry)) (now (marks .entry)) .output ⌝ }
 {
     let mut table = [0u16; TABLE_WORDS];

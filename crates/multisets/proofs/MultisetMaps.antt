@@ -1,11 +1,12 @@
 -- Multisets under choosing and flattening.
---     choose-append, -member, -none, -same            what is chosen of a list; some-member, an element that passes
+--     choose-append, -length, -member, -none, -same   what is chosen of a list; some-member, an element that passes
 --     choose-in, choose-out, multisetEqual-choose     choosing by a test that respects likeness
 use mathlib.Core.List.{List, [], _∷_, _++_, flatMap, List·Memᴰ, List·Memᴰ·head, List·Memᴰ·tail}
 use mathlib.Core.List.{List·Memᴰ·not-nil, append-assoc}
 use mathlib.Core.Path.{_≡_, refl, sym, ap, ap₂, _∙_}
 use mathlib.Core.Bool.{Bool, true, false, cond, true≢false, false≢true}
-use Prim.Native.Nat.{ℕ, _+_}
+use Prim.Native.Nat.{ℕ, _+_, _≤_}
+use lib.ListN.{length}
 use native.Mathlib.Omega.{arith}
 use Rattle.multisets.proofs.Relations.{byTest, IsEquivalence}
 use Rattle.multisets.specs.Multiset.{choose, some, multisetEqual}
@@ -19,6 +20,11 @@ module _ {A : Type 0} (p : A → Bool) where
   choose-append [] m = refl
   choose-append (a ∷ l) m =
       byTest (p a) (λ e. rw e (ap (_∷_ a) (choose-append l m))) λ e. rw e (choose-append l m)
+
+  pub choose-length : (l : List A) → length (choose p l) ≤ length l
+  choose-length [] = omega arith
+  choose-length (a ∷ l) =
+      byTest (p a) (λ e. rw e (omega (arith, choose-length l))) λ e. rw e (omega (arith, choose-length l))
 
   pub choose-member : (l : List A) {a : A} → List·Memᴰ a (choose p l) → List·Memᴰ a l × (p a ≡ true)
   choose-member [] m = absurd (List·Memᴰ·not-nil m)

@@ -13,7 +13,7 @@ use lib.Seq.{sets, length-sets, length-take-le, take-suc, take-all}
 use borrow.Author.Tests.{lt-ltb, le-ltb}
 use Rattle.multisets.proofs.Relations.{byOrder}
 use Rattle.text.specs.Put.{Put}
-use Rattle.text.specs.Text.{digits, decimal, signedDecimal, line}
+use Rattle.operations.specs.Text.{digits, decimal, signedDecimal, line}
 
 -- More digits than enough change nothing.
 digits-enough : (k m n : ℕ) → n < k → n < m → digits k n ≡ digits m n

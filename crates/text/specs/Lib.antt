@@ -1,3 +1,2 @@
--- Text as bytes, and text put into a buffer.
-pub mod Text
+-- Text put into a buffer.
 pub mod Put

@@ -4,7 +4,7 @@ ghost use mathlib.Core.List.{[], _∷_, _++_};
 ghost use Prim.Native.Nat.{_+_, _^_, _≤_, _<_};
 ghost use lib.ListN.{length};
 ghost use lib.Seq.{sets};
-ghost use Rattle.text.specs.Text.{decimal, signedDecimal};
+ghost use Rattle.operations.specs.Text.{decimal, signedDecimal};
 ghost use lib.IntN.{subℕ};
 
 // A byte past the end is left out.

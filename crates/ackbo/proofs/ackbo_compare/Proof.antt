@@ -2,7 +2,7 @@ use mir.Syntax.{w64}
 use mir.ValLaws.{toZ-ofZ}
 use native.Mathlib.Omega.{arith}
 use mathlib.Core.Path.{_∙_}
-use Rattle.ackbo.specs.Boundary.{comparisonValues}
+use Rattle.operations.specs.Boundary.{comparisonValues}
 use Rattle.ackbo.proofs.BoundLaws.{offset-small, compared-small}
 use Rattle.ackbo.proofs.ReplyLaws.{accepts, refuses}
 use borrow.Author.Needs.{needs}

@@ -1,5 +1,5 @@
 use native.Mathlib.Omega.{arith}
-use Rattle.ackbo.specs.Boundary.{countValues}
+use Rattle.operations.specs.Boundary.{countValues}
 use Rattle.ackbo.proofs.BoundLaws.{value-small, offset-small, decoded-small}
 use Rattle.ackbo.proofs.ReplyLaws.{accepts, refuses}
 use borrow.Author.Needs.{needs}

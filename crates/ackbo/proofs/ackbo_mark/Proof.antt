@@ -1,4 +1,4 @@
-use Rattle.ackbo.specs.Boundary.{summaryValues}
+use Rattle.operations.specs.Boundary.{summaryValues}
 use Rattle.ackbo.proofs.BoundLaws.{value-small, offset-small, marked-small}
 use Rattle.ackbo.proofs.BoundLaws.{rules-small, decreasing-small, score-small}
 use Rattle.ackbo.proofs.ReplyLaws.{accepts, refuses}
@@ -11,7 +11,7 @@ put-counts-requires c κs =
     let a = c .before .before .before .before .before .before .before .before .before .before .args in
     let small = marked-small (a .book .now) (a .marks .now) in
     let gave = c .before .before .before .before .before .before .mark .ensures .0 in
-    let reply = rw (c .before .before .rules .given .1) at gave in (
+    let reply = rw (c .before .before .summary .given .1) at gave in (
       value-small (λ s. s .rules) _ (small (λ s. s .rules) rules-small) _ reply,
       value-small (λ s. s .decreasing) _ (small (λ s. s .decreasing) decreasing-small) _ reply,
       value-small (λ s. s .score) _ (small (λ s. s .score) score-small) _ reply,
@@ -29,7 +29,7 @@ returns c =
     let entry =
     c .before .before .before .before .before .before .before .before .before .before .before .args .reply .now in
     let gave = c .before .before .before .before .before .before .before .mark .ensures in
-    let reply = rw (c .before .before .before .rules .given .1) at (gave .0) in
+    let reply = rw (c .before .before .before .summary .given .1) at (gave .0) in
     let (code, values) =
     accepts summaryValues _ _ entry _ _ reply (c .put-counts .ensures .0) (c .put-counts .ensures .1) in
     (code, (values, gave .1))

@@ -1,5 +1,5 @@
 use mathlib.Core.Path.{sym, ap, _∙_}
-use Rattle.encoder.specs.Encode.{replyOf}
+use Rattle.operations.specs.Enums.{countReply}
 use Rattle.cases.proofs.CloseLaws.{accepted-counts}
 use borrow.Author.Needs.{needs}
 use Rattle.cases.proofs.print.close.Statement.{statement}
@@ -10,7 +10,7 @@ returns c =
     let a = c .before .before .before .before .before .before .before .before .before .args in
     let r = c .before .before .before .before .before .encode in
     accepted-counts (a .sheet .now) (a .book .now) (r .last .1 .0) _
-    (sym (r .ensures .0) ∙ ap replyOf (c .before .count .given .1)) (r .kept .1 .0)
+    (sym (r .ensures .0) ∙ ap countReply (c .before .count .given .1)) (r .kept .1 .0)
 
 pub close-spec : {M : Type 1} → statement M
 close-spec =

@@ -1,6 +1,6 @@
 use mathlib.Core.List.{[], _∷_}
 use native.Mathlib.Omega.{arith}
-use Rattle.text.specs.Text.{decimal}
+use Rattle.operations.specs.Text.{decimal}
 use Rattle.text.proofs.TextLaws.{put-append, put-line2}
 use borrow.Author.Needs.{needs}
 use Rattle.marking.proofs.lines.put_count.Statement.{statement}

@@ -1,6 +1,6 @@
 use native.Mathlib.Omega.{arith}
 use mathlib.Core.List.{[], _∷_}
-use Rattle.text.specs.Text.{ascii, decimal, line}
+use Rattle.operations.specs.Text.{ascii, decimal, line}
 use Rattle.text.proofs.TextLaws.{put-line3, put-first}
 use borrow.Author.Needs.{needs}
 use Rattle.marking.proofs.lines.put_refusal.Statement.{statement}

@@ -1,7 +1,7 @@
 use mathlib.Core.List.{[], _∷_}
 use native.Mathlib.Omega.{arith}
 use lib.IntN.{subℕ}
-use Rattle.text.specs.Text.{decimal, signedDecimal}
+use Rattle.operations.specs.Text.{decimal, signedDecimal}
 use Rattle.text.proofs.TextLaws.{put-append, put-line3}
 use borrow.Author.Needs.{needs}
 use Rattle.marking.proofs.lines.put_rule.Statement.{statement}

@@ -5,15 +5,11 @@ use mathlib.Core.List.{List, _++_}
 use mathlib.Core.Bool.{Bool, cond}
 use Prim.Native.Nat.{ℕ}
 use lib.ListN.{length, drop}
 use Rattle.format.specs.Reading.{Reading}
+use Rattle.operations.specs.declared.Error.{Error}
 use Rattle.format.specs.Reading.Reading.{got, fault}
 
--- 01: a refusal's number, input and place.
-pub record Error : Type 0 where
-  pub code : ℕ
-  pub input : ℕ
-  pub offset : ℕ
-
+-- An answer, or 01's refusal: a number, an input and a place.
 pub data Reply (A : Type 0) : Type 0 where
   accepted : A → Reply A
   refused : Error → Reply A

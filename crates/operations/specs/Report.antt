@@ -10,12 +10,13 @@ use lib.Dec.{eqb}
 use Rattle.terms.specs.Signature.{Signature}
 use Rattle.terms.specs.Order.{mark, margin}
 use Rattle.terms.specs.Rewriting.{System, Rule}
-use Rattle.text.specs.Text.{ascii, decimal, signedDecimal, line}
+use Rattle.operations.specs.Text.{ascii, decimal, signedDecimal, line}
 use Rattle.format.specs.Reading.{Reading}
 use Rattle.format.specs.Reading.Reading.{got, fault}
 use Rattle.format.specs.Format.{RuleFile, systemOf}
 use Rattle.format.specs.Files.{readBytes}
-use Rattle.marking.specs.Marking.{marksOf, Summary, summaryOf}
+use Rattle.operations.specs.declared.Summary.{Summary}
+use Rattle.operations.specs.Marking.{marksOf, summaryOf}
 
 abbrev pub verdict : Summary → String
 verdict s = cond (eqb (s .decreasing) (s .rules)) "accepted" "returned"

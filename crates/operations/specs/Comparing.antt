@@ -3,31 +3,23 @@
 use mathlib.Core.List.{List}
 use mathlib.Core.Bool.{cond}
 use Prim.Native.Nat.{ℕ}
-use lib.IntN.{ℤ}
 use Rattle.terms.specs.Signature.{Signature}
 use Rattle.terms.specs.Term.{Term}
 use Rattle.terms.specs.Words.{termOf}
 use Rattle.terms.specs.Equivalence.{isEquivalent}
 use Rattle.terms.specs.Order.{isGreater, margin}
 use Rattle.format.specs.Files.{readBytes, readTerm}
-use Rattle.format.specs.Replies.{Reply, _>>=_, fromInput}
-use Rattle.format.specs.Replies.Reply.{accepted}
-
-pub data Relation : Type 0 where
-  greater : Relation
-  less : Relation
-  equivalent : Relation
-  unrelated : Relation
-
-pub record Comparison : Type 0 where
-  pub relation : Relation
-  pub margin : ℤ
+use Rattle.operations.specs.declared.Relation.{Relation}
+use Rattle.operations.specs.declared.Relation.the-variants.{Greater, Less, Equivalent, Unrelated}
+use Rattle.operations.specs.declared.Comparison.{Comparison}
+use Rattle.operations.specs.Replies.{Reply, _>>=_, fromInput}
+use Rattle.operations.specs.Replies.Reply.{accepted}
 
 module _ (σ : Signature) where
   -- Less: the right is greater than the left. Unrelated: none of the three.
   unfoldable pub relation : Term → Term → Relation
   relation s t =
-      cond (isGreater σ s t) greater (cond (isGreater σ t s) less (cond (isEquivalent σ s t) equivalent unrelated))
+      cond (isGreater σ s t) Greater (cond (isGreater σ t s) Less (cond (isEquivalent σ s t) Equivalent Unrelated))
 
   abbrev pub comparison : Term → Term → Comparison
   comparison s t = record { relation = relation s t; margin = margin σ s t }

@@ -6,16 +6,17 @@ use Rattle.multisets.specs.Multiset.{multisetEqual, multisetGreater, rowEqual, 
 use Rattle.terms.specs.Words.{forestOf}
 use Rattle.terms.specs.Equivalence.{isEquivalentTo, isEquivalent}
 use Rattle.terms.specs.Order.{noneOftener, flattenedMark, rootMark, decreasingMark, isGreaterTo, isGreater, mark}
-use Rattle.text.specs.Text.{ascii, digits}
+use Rattle.operations.specs.Text.{ascii, digits}
 use Rattle.format.specs.Errors.{fieldMissing, marksTooShort}
 use Rattle.format.specs.Reading.{bitField}
 use Rattle.format.specs.Format.{symbolReader, symbolsReader, forestReader, rulesReader, fileReader}
 use Rattle.format.specs.Files.{paddingReader, readBytes}
-use Rattle.format.specs.Replies.{Outcome}
-use Rattle.format.specs.Replies.Reply.{accepted, refused}
+use Rattle.operations.specs.Replies.{Outcome}
+use Rattle.operations.specs.Replies.Reply.{accepted, refused}
 use Rattle.format.specs.Listing.{listing}
-use Rattle.marking.specs.Marking.{Summary, marked}
-use Rattle.marking.specs.Report.{report}
+use Rattle.operations.specs.declared.Summary.{Summary}
+use Rattle.operations.specs.Marking.{marked}
+use Rattle.operations.specs.Report.{report}
 
 listing-marked : marked listing (7 ∷ 7 ∷ 7 ∷ []) ≡
     record { reply = accepted (record { rules = 2; decreasing = 1; score = 50 }); output = 2 ∷ 10 ∷ 7 ∷ [] }

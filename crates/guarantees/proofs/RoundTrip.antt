@@ -11,18 +11,18 @@ use lib.Seq.{take-append-seam}
 use lib.Dec.{leb}
 use borrow.Author.Tests.{leb-true, le-leb}
 use Rattle.multisets.proofs.Relations.{byTest}
 use Rattle.format.specs.Errors.{wordsTooShort, bytesTooShort}
 use Rattle.format.specs.Layout.{maxBytes}
 use Rattle.format.specs.Reading.{Reading}
 use Rattle.format.specs.Reading.Reading.{got, fault}
 use Rattle.format.specs.Format.{RuleFile}
 use Rattle.format.specs.Files.{readBytes, readWords}
 use Rattle.format.specs.Packing.{packed, unpacked}
-use Rattle.format.specs.Replies.{Reply, Written, Outcome, _>>=_, fromInput, outcome}
-use Rattle.format.specs.Replies.Reply.{accepted}
-use Rattle.format.specs.Operations.{write, decoded, encoded}
+use Rattle.operations.specs.Replies.{Reply, Written, Outcome, _>>=_, fromInput, outcome}
+use Rattle.operations.specs.Replies.Reply.{accepted}
+use Rattle.operations.specs.Coding.{write, decoded, encoded}
 use Rattle.format.proofs.FileLaws.{bytes-readable, bytes-short, bytes-packed, words-readable, words-unpacked}
 use Rattle.format.proofs.FileLaws.{packed-reads, unpacked-reads, fileBits}
 
 -- ---- an output
 

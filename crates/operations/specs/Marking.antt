@@ -12,8 +12,9 @@ use Rattle.terms.specs.Rewriting.{System, Rule}
 use Rattle.format.specs.Errors.{marksTooShort}
 use Rattle.format.specs.Format.{systemOf}
 use Rattle.format.specs.Files.{readBytes}
-use Rattle.format.specs.Replies.{Reply, Written, Outcome, _>>=_, _>>_, fromInput, demand, outcome}
-use Rattle.format.specs.Replies.Reply.{accepted}
+use Rattle.operations.specs.declared.Summary.{Summary}
+use Rattle.operations.specs.Replies.{Reply, Written, Outcome, _>>=_, _>>_, fromInput, demand, outcome}
+use Rattle.operations.specs.Replies.Reply.{accepted}
 
 abbrev pub marksOf : System → List ℕ
 marksOf R = map (λ (r : Rule). mark (R .signature) (r .left) (r .right)) (R .rules)
@@ -31,11 +32,6 @@ abbrev pub scoreOf : ℕ → ℕ → ℕ
 scoreOf decreasing rules = cond (eqb rules 0) 100 (100 * decreasing / rules)
 
 -- 01: N, the count of marks 1 to 6, the score.
-pub record Summary : Type 0 where
-  pub rules : ℕ
-  pub decreasing : ℕ
-  pub score : ℕ
-
 abbrev pub summaryOf : List ℕ → Summary
 summaryOf marks =
     let decreasing = decreasingCount marks in

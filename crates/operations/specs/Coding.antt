@@ -5,12 +5,12 @@ use mathlib.Core.List.{List}
 use Prim.Native.Nat.{ℕ}
 use lib.ListN.{length}
 use lib.Dec.{leb}
 use Rattle.format.specs.Errors.{fileTooLong, wordsTooShort, bytesTooShort}
 use Rattle.format.specs.Layout.{maxBytes}
 use Rattle.format.specs.Packing.{packed, unpacked}
 use Rattle.format.specs.Files.{readBytes, readWords}
-use Rattle.format.specs.Replies.{Reply, Written, Outcome, _>>=_, _>>_, fromInput, demand, outcome}
-use Rattle.format.specs.Replies.Reply.{accepted}
+use Rattle.operations.specs.Replies.{Reply, Written, Outcome, _>>=_, _>>_, fromInput, demand, outcome}
+use Rattle.operations.specs.Replies.Reply.{accepted}
 
 -- Writes at the front of an output that is input 1; that error where it is too short.
 abbrev pub write : ℕ → List ℕ → List ℕ → Reply (Written ℕ)

@@ -4,11 +4,12 @@
 use mathlib.Core.List.{List, [], _∷_}
 use Prim.Native.Nat.{ℕ}
 use lib.IntN.{ℤ, pos}
-use Rattle.format.specs.Replies.{Reply}
-use Rattle.format.specs.Replies.Reply.{accepted, refused}
-use Rattle.comparing.specs.Comparing.{Relation, Comparison}
-use Rattle.comparing.specs.Comparing.Relation.{greater, less, equivalent, unrelated}
-use Rattle.marking.specs.Marking.{Summary}
+use Rattle.operations.specs.Replies.{Reply}
+use Rattle.operations.specs.Replies.Reply.{accepted, refused}
+use Rattle.operations.specs.declared.Relation.{Relation}
+use Rattle.operations.specs.declared.Relation.the-variants.{Greater, Less, Equivalent, Unrelated}
+use Rattle.operations.specs.declared.Comparison.{Comparison}
+use Rattle.operations.specs.declared.Summary.{Summary}
 
 module _ {A : Type 0} where
   -- 0, or the error's code.
@@ -25,10 +26,10 @@ abbrev pub countValues : ℕ → List ℤ
 countValues n = pos n ∷ pos 0 ∷ pos 0 ∷ []
 
 abbrev pub relationValue : Relation → ℤ
-relationValue greater = pos 1
-relationValue less = pos 2
-relationValue equivalent = pos 3
-relationValue unrelated = pos 4
+relationValue Greater = pos 1
+relationValue Less = pos 2
+relationValue Equivalent = pos 3
+relationValue Unrelated = pos 4
 
 abbrev pub comparisonValues : Comparison → List ℤ
 comparisonValues c = relationValue (c .relation) ∷ c .margin ∷ pos 0 ∷ []

@@ -1,22 +1,34 @@
--- Each error that decoding and encoding can give, with its input and offset, and the output unchanged.
+-- What decoding and encoding give back for the listing; each error that they can give, with its input and offset, and
+-- the output unchanged.
 use mathlib.Core.Path.{_≡_, refl}
 use mathlib.Core.List.{List, [], _∷_, _++_, map, flatMap}
 use Prim.Native.Nat.{ℕ}
 use lib.ListN.{take, replicate}
 use Rattle.format.specs.Errors.{fileTooLong, fieldMissing, wrongForm, noSymbols, variableWeightless, acNotBinary}
 use Rattle.format.specs.Errors.{weightInadmissible, rankTaken, noSuchSymbol, tooManyNodes, badPadding}
 use Rattle.format.specs.Errors.{wordsTooShort, wordTooWide, wordsLeftOver, bytesTooShort}
 use Rattle.format.specs.Layout.{formWidth, symbolCountWidth, weightWidth, ruleCountWidth, arityWidth, acWidth}
 use Rattle.format.specs.Layout.{rankWidth}
 use Rattle.format.specs.Reading.{bitField, wordBelow}
 use Rattle.format.specs.Format.{symbolReader, symbolsReader, forestReader, rulesReader, fileReader}
 use Rattle.format.specs.Files.{paddingReader, endReader, readBytes, readWords}
 use Rattle.format.specs.Packing.{Item, itemBits, itemWord, bytesOf, items, packed, unpacked}
 use Rattle.format.specs.Packing.Item.{field, node}
-use Rattle.format.specs.Replies.{Outcome}
-use Rattle.format.specs.Replies.Reply.{refused}
-use Rattle.format.specs.Operations.{decoded, encoded}
+use Rattle.operations.specs.Replies.{Outcome}
+use Rattle.operations.specs.Replies.Reply.{accepted, refused}
+use Rattle.operations.specs.Coding.{decoded, encoded}
 use Rattle.format.specs.Listing.{listing, listingWords}
+use Rattle.format.proofs.ListingChecks.{listing-reads, listing-packs, listing-unpacks, listing-words-read}
+
+listing-decodes : decoded listing (replicate 18 7) ≡
+    record { reply = accepted 16; output = listingWords ++ replicate 2 7 }
+unfolding decoded
+listing-decodes = rw (listing-reads, listing-unpacks)
+
+listing-encodes : encoded listingWords (replicate 19 7) ≡
+    record { reply = accepted 17; output = listing ++ replicate 2 7 }
+unfolding encoded
+listing-encodes = rw (listing-words-read, listing-packs)
 
 -- What is read, what is lent for writing, and the error's code, input and offset.
 record ErrorCase : Type 0 where

@@ -13,10 +13,12 @@ use Rattle.format.specs.Errors.{fieldMissing, noSuchSymbol, tooManyNodes, wordT
 use Rattle.format.specs.Reading.{bitField, wordBelow}
 use Rattle.format.specs.Format.{symbolReader, symbolsReader, forestReader, rulesReader, fileReader}
 use Rattle.format.specs.Files.{paddingReader, endReader, readBytes, readTerm}
-use Rattle.format.specs.Replies.{Reply}
-use Rattle.format.specs.Replies.Reply.{accepted, refused}
-use Rattle.comparing.specs.Comparing.{Relation, Comparison, relation, comparedRight, comparedTerms, compared}
-use Rattle.comparing.specs.Comparing.Relation.{greater, less, equivalent, unrelated}
+use Rattle.operations.specs.Replies.{Reply}
+use Rattle.operations.specs.Replies.Reply.{accepted, refused}
+use Rattle.operations.specs.declared.Relation.{Relation}
+use Rattle.operations.specs.declared.Relation.the-variants.{Greater, Less, Equivalent, Unrelated}
+use Rattle.operations.specs.declared.Comparison.{Comparison}
+use Rattle.operations.specs.Comparing.{relation, comparedRight, comparedTerms, compared}
 
 -- Form 1, two symbols, w0 1, no rules; the symbols weigh 1 and have the ranks 1 and 0.
 abbrev book : List ℕ
@@ -37,10 +39,10 @@ gives s t code input offset =
 -- The last has a fault in both terms.
 abbrev cases : List Case
 cases =
-    relates (0 ∷ 1 ∷ []) (1 ∷ []) greater (pos 1) ∷
-    relates (256 ∷ []) (0 ∷ 256 ∷ []) less (negsuc 0) ∷
-    relates (0 ∷ 256 ∷ []) (0 ∷ 256 ∷ []) equivalent (pos 0) ∷
-    relates (256 ∷ []) (1 ∷ []) unrelated (pos 0) ∷
+    relates (0 ∷ 1 ∷ []) (1 ∷ []) Greater (pos 1) ∷
+    relates (256 ∷ []) (0 ∷ 256 ∷ []) Less (negsuc 0) ∷
+    relates (0 ∷ 256 ∷ []) (0 ∷ 256 ∷ []) Equivalent (pos 0) ∷
+    relates (256 ∷ []) (1 ∷ []) Unrelated (pos 0) ∷
     gives (replicate 129 0) (1 ∷ []) tooManyNodes 1 128 ∷
     gives [] (1 ∷ []) fieldMissing 1 0 ∷
     gives (0 ∷ 272 ∷ []) (1 ∷ []) wordTooWide 1 1 ∷

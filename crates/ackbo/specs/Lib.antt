@@ -1,2 +1,0 @@
--- The numbers by which a reply crosses the C boundary.
-pub mod Boundary

@@ -1,2 +1,0 @@
--- What decoding's reply stands for.
-pub mod Decode

@@ -1,0 +1,26 @@
+-- What the replies of the functions stand for.
+-- Renders: 01, "What form each place needs": "When an answer is an enum, a definition gives this paper's number and
+-- values for each of its cases".
+use Prim.Native.Nat.{ℕ}
+use Rattle.operations.specs.declared.CountReply.{CountReply}
+use Rattle.operations.specs.declared.CountReply.the-variants as count
+use Rattle.operations.specs.declared.Comparison.{Comparison}
+use Rattle.operations.specs.declared.CompareReply.{CompareReply}
+use Rattle.operations.specs.declared.CompareReply.the-variants as compare
+use Rattle.operations.specs.declared.Summary.{Summary}
+use Rattle.operations.specs.declared.MarkReply.{MarkReply}
+use Rattle.operations.specs.declared.MarkReply.the-variants as mark
+use Rattle.operations.specs.Replies.{Reply}
+use Rattle.operations.specs.Replies.Reply.{accepted, refused}
+
+abbrev pub countReply : CountReply → Reply ℕ
+countReply (count.Accepted n) = accepted n
+countReply (count.Refused e) = refused e
+
+abbrev pub compareReply : CompareReply → Reply Comparison
+compareReply (compare.Accepted c) = accepted c
+compareReply (compare.Refused e) = refused e
+
+abbrev pub markReply : MarkReply → Reply Summary
+markReply (mark.Accepted s) = accepted s
+markReply (mark.Refused e) = refused e

@@ -1,0 +1,9 @@
+-- What the operations give back, the reply and the memory lent to them afterwards, for every input.
+pub mod Replies
+pub mod Coding
+pub mod Comparing
+pub mod Marking
+pub mod Text
+pub mod Report
+pub mod Enums
+pub mod Boundary

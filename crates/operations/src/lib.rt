@@ -1,0 +1,47 @@
+// What the operations reply, as types. What each gives back is defined in specs/; no function stands here.
+
+// An error's code, the input at fault, and the offset in it.
+pub struct Error {
+    pub code: u8,
+    pub input: u8,
+    pub offset: usize,
+}
+
+// How many words or bytes were written, or why none was.
+pub enum CountReply {
+    Accepted(usize),
+    Refused(Error),
+}
+
+// How the left term is related to the right one.
+pub enum Relation {
+    Greater,
+    Less,
+    Equivalent,
+    Unrelated,
+}
+
+// The relation, and the weight of the left term less that of the right one.
+pub struct Comparison {
+    pub relation: Relation,
+    pub margin: i64,
+}
+
+// How two terms compare, or why they were not compared.
+pub enum CompareReply {
+    Accepted(Comparison),
+    Refused(Error),
+}
+
+// The counts of rules and of those that decrease, and the score.
+pub struct Summary {
+    pub rules: usize,
+    pub decreasing: usize,
+    pub score: usize,
+}
+
+// A file's summary, or why nothing was marked.
+pub enum MarkReply {
+    Accepted(Summary),
+    Refused(Error),
+}

@@ -1,13 +1,13 @@
 -- A fault lies within the input, or at its end.
 --     Within, within-fault, within-got     the next offset, or the fault's, is no further than the limit
 --     node-within-got, node-within-fault   the same of a node
---     Bounded, file-within         what is asked of a source, and what then holds of reading a file
+--     Bounded, whole-within        what is asked of a source, and what then holds of reading a file
 --     words-bounded, bits-bounded, bits-within, bits-node   the two sources
 --     bytes-fault, words-fault, term-fault
 use mathlib.Core.Path.{_≡_}
 use mathlib.Core.List.{List, [], _∷_, _++_}
-use mathlib.Core.Bool.{Bool, true, false, cond, _||_, _&&_, not}
-use Prim.Native.Nat.{ℕ, suc, zero, _+_, _-_, _*_, _^_, _≤_}
+use mathlib.Core.Bool.{Bool, true, false, cond, _||_, not}
+use Prim.Native.Nat.{ℕ, suc, zero, _+_, _*_, _^_, _≤_}
 use native.Mathlib.Omega.{arith}
 use lib.ListN.{length, getD}
 use lib.Dec.{eqb, ltb, leb}
@@ -16,13 +16,15 @@ use Rattle.multisets.proofs.Relations.{byTest}
 use Rattle.terms.specs.Term.{variableCount}
 use Rattle.terms.specs.Words.{firstVariable}
 use Rattle.terms.specs.Signature.{Symbol, Signature, leastWeight}
-use Rattle.format.specs.Layout.{formWidth, formNumber, symbolCountWidth, weightWidth, ruleCountWidth, arityWidth}
+use Rattle.format.specs.Layout.{formWidth, symbolCountWidth, weightWidth, ruleCountWidth, arityWidth}
 use Rattle.format.specs.Layout.{acWidth, rankWidth, tagWidth, symbolWidth, variableWidth, maxNodes, maxBytes}
-use Rattle.format.specs.Reading.{Reading, Reader, andThen, require, Node, Source, spelt}
-use Rattle.format.specs.Reading.{bitAt, bitField, bitSource, wordBelow, wordSource}
+use Rattle.format.specs.Layout.{formNumber}
+use Rattle.format.specs.Reading.{Reading, Reader, andThen, require, Node, Source, isPadding}
+use Rattle.format.specs.Reading.{bitField, bitSource, wordBelow, wordSource}
 use Rattle.format.specs.Reading.Reading.{got, fault}
-use Rattle.format.specs.Format.{heldBy, symbolReader, symbolsReader, forestReader, rulesReader, fileReader}
-use Rattle.format.specs.Files.{paddingReader, endReader, readBytes, readWords, readTerm}
+use Rattle.format.specs.Format.{heldBy, symbolReader, symbolsReader, forestReader, ruleReader, rulesReader}
+use Rattle.format.specs.Format.{bodyReader, fileReader}
+use Rattle.format.specs.Files.{wholeReader, readBytes, readWords, readTerm}
 use Rattle.format.proofs.ForestLaws.{known, argumentCount}
 
 module _ (limit : ℕ) where
@@ -49,6 +51,12 @@ module _ (limit : ℕ) where
   unfolding Within
   within-require true code offset at k h f = f
   within-require false code offset at k h f = h
+
+  -- A test at the end of a file.
+  within-end : (ok : Bool) (code at : ℕ) → at ≤ limit → Within (require ok code at at)
+  unfolding Within
+  within-end true code at h = h
+  within-end false code at h = h
 
   -- A node's next offset and its number's.
   unfoldable pub NodeWithin : Reading Node → Type 0
@@ -79,6 +87,7 @@ module _ (limit : ℕ) where
   pub record Bounded (source : Source) : Type 0 where
     pub field : (width at : ℕ) → at ≤ limit → Within (source .field width at)
     pub node : (at : ℕ) → at ≤ limit → NodeWithin (source .node at)
+    pub end : (at : ℕ) → at ≤ limit → Within (source .end at)
 
   module _ (source : Source) (b : Bounded source) where
     forest-within : (σ : Signature) (a n at : ℕ) → at ≤ limit → Within (forestReader source σ a n at)
@@ -92,13 +101,18 @@ module _ (limit : ℕ) where
         (within-then (forestReader source σ a (argumentCount σ (v .word) + n) next) _
         (forest-within σ a (argumentCount σ (v .word) + n) next l) λ ws end e. e)
 
+    rule-within : (σ : Signature) (at : ℕ) → at ≤ limit → Within (ruleReader source σ at)
+    unfolding ruleReader Within
+    rule-within σ at h =
+        within-then (forestReader source σ maxNodes 1 at) _ (forest-within σ maxNodes 1 at h) λ left at₁ h₁.
+        within-then (forestReader source σ maxNodes 1 at₁) _ (forest-within σ maxNodes 1 at₁ h₁) λ right end e. e
+
     pub rules-within : (σ : Signature) (n at : ℕ) → at ≤ limit → Within (rulesReader source σ n at)
     unfolding rulesReader Within
     rules-within σ zero at h = h
     rules-within σ (suc n) at h =
-        within-then (forestReader source σ maxNodes 1 at) _ (forest-within σ maxNodes 1 at h) λ ls at₁ h₁.
-        within-then (forestReader source σ maxNodes 1 at₁) _ (forest-within σ maxNodes 1 at₁ h₁) λ rs at₂ h₂.
-        within-then (rulesReader source σ n at₂) _ (rules-within σ n at₂ h₂) λ rest end e. e
+        within-then (ruleReader source σ at) _ (rule-within σ at h) λ r mid l.
+        within-then (rulesReader source σ n mid) _ (rules-within σ n mid l) λ rest end e. e
 
     symbol-within : (w0 : ℕ) (earlier : List Symbol) (at : ℕ) → at ≤ limit → Within (symbolReader source w0 earlier at)
     unfolding symbolReader Within
@@ -119,19 +133,30 @@ module _ (limit : ℕ) where
         within-then (symbolReader source w0 earlier at) _ (symbol-within w0 earlier at h) λ s mid l.
         symbols-within w0 n (earlier ++ (s ∷ [])) mid l
 
-    pub file-within : (at : ℕ) → at ≤ limit → Within (fileReader source at)
+    body-within : (w0 k n at : ℕ) → at ≤ limit → Within (bodyReader source w0 k n at)
+    unfolding bodyReader Within
+    body-within w0 k n at h =
+        within-then (symbolsReader source w0 k [] at) _ (symbols-within w0 k [] at h) λ ss mid l.
+        within-then (rulesReader source (record { w0 = w0; symbols = ss }) n mid) _
+        (rules-within (record { w0 = w0; symbols = ss }) n mid l) λ rs end e. e
+
+    file-within : (form at : ℕ) → at ≤ limit → Within (fileReader form source at)
     unfolding fileReader Within
-    file-within at h =
-        within-then (source .field formWidth at) _ (b .field formWidth at h) λ form at₁ h₁.
-        within-require (eqb form formNumber) _ at at₁ _ h
+    file-within form at h =
+        within-then (source .field formWidth at) _ (b .field formWidth at h) λ read at₁ h₁.
+        within-require (eqb read form) _ at at₁ _ h
         (within-then (source .field symbolCountWidth at₁) _ (b .field symbolCountWidth at₁ h₁) λ k at₂ h₂.
         within-require (ltb 0 k) _ at₁ at₂ _ h₁
         (within-then (source .field weightWidth at₂) _ (b .field weightWidth at₂ h₂) λ w0 at₃ h₃.
         within-require (ltb 0 w0) _ at₂ at₃ _ h₂
         (within-then (source .field ruleCountWidth at₃) _ (b .field ruleCountWidth at₃ h₃) λ n at₄ h₄.
-        within-then (symbolsReader source w0 k [] at₄) _ (symbols-within w0 k [] at₄ h₄) λ ss at₅ h₅.
-        within-then (rulesReader source (record { w0 = w0; symbols = ss }) n at₅) _
-        (rules-within (record { w0 = w0; symbols = ss }) n at₅ h₅) λ rs end e. e)))
+        body-within w0 k n at₄ h₄)))
+
+    pub whole-within : (form at : ℕ) → at ≤ limit → Within (wholeReader form source at)
+    unfolding wholeReader Within
+    whole-within form at h =
+        within-then (fileReader form source at) _ (file-within form at h) λ file end l.
+        within-then (source .end end) _ (b .end end l) λ u next e. e
 
 -- ---- the two sources
 
@@ -152,20 +177,20 @@ module _ (words : List ℕ) where
       node-after (length words) (wordBelow words bound at) _ (below-within bound at h) λ w next l. (h, l)
 
   words-bounded : Bounded (length words) (wordSource words)
-  words-bounded = record { field = λ width. below-within (2 ^ width); node = words-node }
-
-  words-within : Within (length words) (readWords words)
-  unfolding readWords endReader Within
-  words-within =
-      within-then (length words) (fileReader (wordSource words) 0) _
-      (file-within (length words) (wordSource words) words-bounded 0 (omega arith)) λ f end h.
-      within-require (length words) (eqb end (length words)) _ end end _ h h
+  words-bounded = record {
+    field = λ width. below-within (2 ^ width);
+    node = words-node;
+    end = λ at. within-end (length words) (eqb at (length words)) _ at;
+  }
 
   pub words-fault : (code offset : ℕ) → readWords words ≡ fault code offset → offset ≤ length words
-  words-fault code offset = within-fault (length words) (readWords words) code offset words-within
+  unfolding readWords
+  words-fault code offset =
+      within-fault (length words) (readWords words) code offset
+      (whole-within (length words) (wordSource words) words-bounded formNumber 0 (omega arith))
 
   term-within : (σ : Signature) → Within (length words) (readTerm σ words)
-  unfolding readTerm endReader Within
+  unfolding readTerm Within
   term-within σ =
       within-then (length words) (forestReader (wordSource words) σ maxNodes 1 0) _
       (forest-within (length words) (wordSource words) words-bounded σ maxNodes 1 0 (omega arith)) λ ws end h.
@@ -191,18 +216,17 @@ module _ (bytes : List ℕ) where
       node-after bitCount (bitField bytes width at₁) _ (bits-within width at₁ h₁) λ number next l. (h₁, l)
 
   pub bits-bounded : Bounded bitCount (bitSource bytes)
-  bits-bounded = record { field = bits-within; node = bits-node }
+  bits-bounded = record {
+    field = bits-within;
+    node = bits-node;
+    end = λ at. within-end bitCount (isPadding bytes at) _ at;
+  }
 
   bytes-within : Within bitCount (readBytes bytes)
-  unfolding readBytes paddingReader Within
+  unfolding readBytes Within
   bytes-within =
       byTest (leb (length bytes) maxBytes)
-      (λ e.
-      rw e
-      (within-then bitCount (fileReader (bitSource bytes) 0) _
-      (file-within bitCount (bitSource bytes) bits-bounded 0 (omega arith)) λ f end h.
-      let left = bitCount - end in
-      within-require bitCount (ltb left 8 && eqb (spelt (bitAt bytes) end left) 0) _ end end _ h h))
+      (λ e. rw e (whole-within bitCount (bitSource bytes) bits-bounded formNumber 0 (omega arith)))
       λ e. rw e (omega arith)
 
   pub bytes-fault : (code offset : ℕ) → readBytes bytes ≡ fault code offset → offset ≤ 8 * length bytes

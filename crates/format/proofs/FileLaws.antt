@@ -15,11 +15,11 @@ use lib.Seq.{ext-getD}
 use lib.Dec.{eqb, ltb, leb}
 use borrow.Author.Tests.{ltb-true, leb-true, eqb-true, lt-ltb, le-leb, eq-eqb}
 use Rattle.multisets.proofs.Relations.{byTest, byOrder}
-use Rattle.format.specs.Layout.{maxBytes}
+use Rattle.format.specs.Layout.{formNumber, maxBytes}
 use Rattle.format.specs.Reading.{Source, spelt, bitAt, bitSource, wordSource}
 use Rattle.format.specs.Reading.Reading.{got}
 use Rattle.format.specs.Format.{RuleFile, fileReader}
-use Rattle.format.specs.Files.{paddingReader, endReader, readBytes, readWords}
+use Rattle.format.specs.Files.{wholeReader, readBytes, readWords}
 use Rattle.format.specs.Packing.{Item, items, itemWord, itemBits, bytesOf, packed, unpacked}
 use Rattle.format.specs.Packing.Item.{field, node}
 use Rattle.format.proofs.ReadingLaws.{Holds, holds-got, holds-then, holds-require}
@@ -38,7 +38,7 @@ pub record Readable (f : RuleFile) : Type 0 where
 
 module _ {source : Source} {cell : ℕ → ℕ} {limit : ℕ} {code : Item → List ℕ} (C : Coding source cell limit code) where
   -- A file read from the start is readable, and the cells hold its code.
-  pub source-read : (f : RuleFile) (end : ℕ) → fileReader source 0 ≡ got f end →
+  pub source-read : (f : RuleFile) (end : ℕ) → fileReader formNumber source 0 ≡ got f end →
       Readable f × (end ≡ length (flatMap code (items f))) × (end ≤ limit) × Agrees cell 0 (flatMap code (items f))
   source-read f end e =
       let field-fits : (width at v next : ℕ) → source .field width at ≡ got v next → v < 2 ^ width =
@@ -48,7 +48,7 @@ module _ {source : Source} {cell : ℕ → ℕ} {limit : ℕ} {code : Item → L
       (record { ok = ok; fits = fits }, omega arith, l, a)
 
   pub source-reads : (f : RuleFile) → Readable f → length (flatMap code (items f)) ≤ limit →
-      Agrees cell 0 (flatMap code (items f)) → fileReader source 0 ≡ got f (length (flatMap code (items f)))
+      Agrees cell 0 (flatMap code (items f)) → fileReader formNumber source 0 ≡ got f (length (flatMap code (items f)))
   source-reads f r l a =
       let n = length (flatMap code (items f)) in
       let p = coded→spells C (items f) 0 (r .fits) (omega arith) a in
@@ -67,10 +67,10 @@ nodes-each [] = refl
 nodes-each (w ∷ ws) = ap (_∷_ w) (nodes-each ws)
 
 words-read : (words : List ℕ) →
-    Holds (λ f end. (fileReader (wordSource words) 0 ≡ got f end) × (end ≡ length words)) (readWords words)
-unfolding readWords endReader Holds
+    Holds (λ f end. (fileReader formNumber (wordSource words) 0 ≡ got f end) × (end ≡ length words)) (readWords words)
+unfolding readWords wholeReader Holds
 words-read words =
-    holds-then _ (fileReader (wordSource words) 0) _ λ f end e.
+    holds-then _ (fileReader formNumber (wordSource words) 0) _ λ f end e.
     holds-require _ (eqb end (length words)) _ end end _ λ t.
     (e, eqb-true end (length words) t)
 
@@ -89,12 +89,12 @@ module _ (words : List ℕ) (f : RuleFile) (end : ℕ) (e : readWords words ≡ 
       λ i h. sym (agrees-at (wordAt words) 0 (map itemWord (items f)) a′ i h) ∙ ap (wordAt words) (zero-add i)
 
 pub unpacked-reads : (f : RuleFile) → Readable f → readWords (unpacked f) ≡ got f (length (unpacked f))
-unfolding readWords endReader unpacked
+unfolding readWords wholeReader unpacked
 unpacked-reads f r =
     let ws = map itemWord (items f) in
     let same : flatMap (λ i. itemWord i ∷ []) (items f) ≡ ws = one-each (items f) in
     let a = agrees-of (wordAt ws) 0 ws (λ i h. ap (wordAt ws) (zero-add i)) in
-    let e : fileReader (wordSource ws) 0 ≡ got f (length ws) =
+    let e : fileReader formNumber (wordSource ws) 0 ≡ got f (length ws) =
     rw same at (source-reads (word-coding ws) f r (rw same (omega arith)) (rw same a)) in
     rw (e, eq-eqb (length ws) (length ws) refl)
 
@@ -104,13 +104,13 @@ abbrev pub fileBits : RuleFile → List ℕ
 fileBits f = flatMap itemBits (items f)
 
 bytes-read : (bytes : List ℕ) → Holds (λ (f : RuleFile) (end : ℕ).
-    (fileReader (bitSource bytes) 0 ≡ got f end) × (length bytes ≤ maxBytes) × Padded bytes end) (readBytes bytes)
-unfolding readBytes paddingReader Holds
+    (fileReader formNumber (bitSource bytes) 0 ≡ got f end) × (length bytes ≤ maxBytes) × Padded bytes end) (readBytes bytes)
+unfolding readBytes wholeReader Holds
 bytes-read bytes =
     byTest (leb (length bytes) maxBytes)
     (λ short.
     rw short
-    (holds-then _ (fileReader (bitSource bytes) 0) _ λ f end e.
+    (holds-then _ (fileReader formNumber (bitSource bytes) 0) _ λ f end e.
     let left = 8 * length bytes - end in
     let zeros = eqb (spelt (bitAt bytes) end left) 0 in
     holds-require _ (ltb left 8 && zeros) _ end end _ λ t.
@@ -138,7 +138,7 @@ module _ (bytes : List ℕ) (f : RuleFile) (end : ℕ) (e : readBytes bytes ≡ 
 
 pub packed-reads : (f : RuleFile) → Readable f → length (packed f) ≤ maxBytes →
     readBytes (packed f) ≡ got f (length (fileBits f))
-unfolding readBytes paddingReader packed
+unfolding readBytes wholeReader packed
 packed-reads f r short =
     let bits = fileBits f in
     let bytes = bytesOf bits in

@@ -18,7 +18,8 @@ use Rattle.format.specs.Layout.{acWidth, rankWidth, maxNodes}
 use Rattle.format.specs.Reading.{Source}
 use Rattle.format.specs.Reading.Reading.{got}
 use Rattle.format.specs.Format.{Sides, RuleFile, heldBy}
-use Rattle.format.specs.Format.{symbolReader, symbolsReader, forestReader, rulesReader, fileReader}
+use Rattle.format.specs.Format.{symbolReader, symbolsReader, forestReader, ruleReader, rulesReader, bodyReader}
+use Rattle.format.specs.Format.{fileReader}
 use Rattle.format.specs.Packing.{symbolItems, ruleItems, items}
 use Rattle.format.specs.Packing.Item.{field, node}
 use Rattle.format.proofs.ReadingLaws.{Holds, holds-got, holds-map, holds-then, holds-require}
@@ -90,6 +91,26 @@ module _ (source : Source) where
 
   -- ---- rules
 
+  abbrev RuleRead : Signature → ℕ → Sides → ℕ → Type 0
+  RuleRead σ at r end =
+      Forest σ maxNodes 1 (r .left) × Forest σ maxNodes 1 (r .right) × Spells source (ruleItems r) at end
+
+  rule-read : (σ : Signature) (at : ℕ) → Holds (RuleRead σ at) (ruleReader source σ at)
+  unfolding ruleReader Holds
+  rule-read σ at =
+      holds-then _ (forestReader source σ maxNodes 1 at) _ λ ls mid e₁.
+      holds-then _ (forestReader source σ maxNodes 1 mid) _ λ rs end e₂.
+      let l = holds-got _ _ ls mid (forest-read σ maxNodes 1 at) e₁ in
+      let r = holds-got _ _ rs end (forest-read σ maxNodes 1 mid) e₂ in
+      (l .0, r .0, spells-append source (l .1) (r .1))
+
+  rule-reads : (σ : Signature) (r : Sides) (at end : ℕ) → Forest σ maxNodes 1 (r .left) →
+      Forest σ maxNodes 1 (r .right) → Spells source (ruleItems r) at end → ruleReader source σ at ≡ got r end
+  unfolding ruleReader
+  rule-reads σ r at end f g p =
+      let (mid, p₁, p₂) = spells-split source (map node (r .left)) p in
+      rw (forest-reads σ f p₁, forest-reads σ g p₂)
+
   abbrev RulesRead : Signature → ℕ → ℕ → List Sides → ℕ → Type 0
   RulesRead σ n at rs end = (length rs ≡ n) × RulesOk σ rs × Spells source (flatMap ruleItems rs) at end
 
@@ -97,22 +118,19 @@ module _ (source : Source) where
   unfolding rulesReader Holds flatMap
   rules-read σ zero at = (refl, tt, none)
   rules-read σ (suc n) at =
-      holds-then _ (forestReader source σ maxNodes 1 at) _ λ ls at₁ e₁.
-      holds-then _ (forestReader source σ maxNodes 1 at₁) _ λ rs at₂ e₂.
-      holds-then _ (rulesReader source σ n at₂) _ λ rest end e₃.
-      let l = holds-got _ _ ls at₁ (forest-read σ maxNodes 1 at) e₁ in
-      let r = holds-got _ _ rs at₂ (forest-read σ maxNodes 1 at₁) e₂ in
-      let (k, ok, p) = holds-got _ _ rest end (rules-read σ n at₂) e₃ in
-      (ap suc k, (l .0, r .0, ok), spells-append source (spells-append source (l .1) (r .1)) p)
+      holds-then _ (ruleReader source σ at) _ λ r mid e₁.
+      holds-then _ (rulesReader source σ n mid) _ λ rs end e₂.
+      let (f, g, p) = holds-got _ _ r mid (rule-read σ at) e₁ in
+      let (k, ok, q) = holds-got _ _ rs end (rules-read σ n mid) e₂ in
+      (ap suc k, (f, g, ok), spells-append source p q)
 
   rules-reads : (σ : Signature) (rs : List Sides) (at end : ℕ) → RulesOk σ rs →
       Spells source (flatMap ruleItems rs) at end → rulesReader source σ (length rs) at ≡ got rs end
   unfolding rulesReader flatMap
   rules-reads σ [] at end h none = refl
   rules-reads σ (r ∷ rs) at end h p =
-      let (at₂, q, p₃) = spells-split source (ruleItems r) p in
-      let (at₁, p₁, p₂) = spells-split source (map node (r .left)) q in
-      rw (forest-reads σ (h .0) p₁, forest-reads σ (h .1) p₂, rules-reads σ rs at₂ end (h .2) p₃)
+      let (mid, q, q′) = spells-split source (ruleItems r) p in
+      rw (rule-reads σ r at mid (h .0) (h .1) q, rules-reads σ rs mid end (h .2) q′)
 
   -- ---- symbols
 
@@ -171,8 +189,8 @@ module _ (source : Source) where
         holds-map _ _ (symbolsReader source w0 n upTo mid) (symbols-read w0 n upTo mid) λ all end (ss, a, k, oks, q).
         (s ∷ ss, a ∙ append-assoc earlier (s ∷ []) ss, ap suc k, symbol ok oks, spells-append source p q)
 
-    pub file-read : (at : ℕ) → Holds (FileRead at) (fileReader source at)
-    unfolding fileReader items Holds
+    pub file-read : (at : ℕ) → Holds (FileRead at) (fileReader formNumber source at)
+    unfolding fileReader bodyReader items Holds
     file-read at =
         holds-then _ (source .field formWidth at) _ λ form at₁ e₁.
         holds-require _ (eqb form formNumber) _ at at₁ _ λ isForm.
@@ -200,8 +218,8 @@ module _ (source : Source) where
         (ok, more r₁ (more r₂ (more e₃ (more r₄ (spells-append source (rw (← a) at p) q)))))
 
   pub file-reads : (f : RuleFile) (at end : ℕ) → FileOk f → Spells source (items f) at end →
-      fileReader source at ≡ got f end
-  unfolding fileReader items
+      fileReader formNumber source at ≡ got f end
+  unfolding fileReader bodyReader items
   file-reads f at end ok (more e₁ (more e₂ (more e₃ (more e₄ p)))) =
       let (mid, q, r) = spells-split source (flatMap symbolItems (f .signature .symbols)) p in
       let symbols = symbols-reads (ok .symbolsOk) _ mid q in

@@ -3,13 +3,15 @@ use mathlib.Core.Path.{_≡_, refl}
 use mathlib.Core.List.{flatMap}
 use Rattle.format.specs.Reading.{bitField, wordBelow}
 use Rattle.format.specs.Reading.Reading.{got}
-use Rattle.format.specs.Format.{symbolReader, symbolsReader, forestReader, rulesReader, fileReader}
-use Rattle.format.specs.Files.{paddingReader, endReader, readBytes, readWords}
+use Rattle.format.specs.Format.{symbolReader, symbolsReader, forestReader, ruleReader, rulesReader, bodyReader}
+use Rattle.format.specs.Format.{fileReader}
+use Rattle.format.specs.Files.{wholeReader, readBytes, readWords}
 use Rattle.format.specs.Packing.{items, packed, unpacked}
 use Rattle.format.specs.Listing.{listing, listingFile, listingWords}
 
 pub listing-reads : readBytes listing ≡ got listingFile 130
-unfolding readBytes fileReader symbolsReader symbolReader rulesReader forestReader bitField paddingReader
+unfolding readBytes wholeReader fileReader bodyReader symbolsReader symbolReader rulesReader ruleReader forestReader
+    bitField
 listing-reads = refl
 
 pub listing-packs : packed listingFile ≡ listing
@@ -21,5 +23,6 @@ unfolding unpacked items flatMap
 listing-unpacks = refl
 
 pub listing-words-read : readWords listingWords ≡ got listingFile 16
-unfolding readWords fileReader symbolsReader symbolReader rulesReader forestReader wordBelow endReader
+unfolding readWords wholeReader fileReader bodyReader symbolsReader symbolReader rulesReader ruleReader forestReader
+    wordBelow
 listing-words-read = refl

@@ -19,7 +19,7 @@ use Rattle.format.specs.Layout.{maxNodes}
 use Rattle.format.specs.Reading.{wordSource}
 use Rattle.format.specs.Reading.Reading.{got}
 use Rattle.format.specs.Format.{Sides, RuleFile, systemOf, forestReader}
-use Rattle.format.specs.Files.{endReader, readFirstTerm, readTerm}
+use Rattle.format.specs.Files.{readFirstTerm, readTerm}
 use Rattle.format.specs.Packing.{items, symbolItems, ruleItems}
 use Rattle.format.specs.Packing.Item.{node}
 use Rattle.format.specs.Statements.{WithinWidths, IsTerm}
@@ -102,7 +102,7 @@ module _ (σ : Signature) (input nodes : List ℕ) (end : ℕ) where
       (ext-getD 0 nodes (take end input) (omega arith) each, count, forest-term σ nodes f fits)
 
   term-read : Holds (λ ws at. (readFirstTerm σ input ≡ got ws at) × (at ≡ length input)) (readTerm σ input)
-  unfolding readFirstTerm readTerm endReader Holds
+  unfolding readFirstTerm readTerm Holds
   term-read =
       holds-then _ (forestReader (wordSource input) σ maxNodes 1 0) _ λ ws at e.
       holds-require _ (eqb at (length input)) _ at at _ λ t.

@@ -6,10 +6,11 @@ use Rattle.terms.specs.Words.{words, forestOf}
 use Rattle.terms.specs.Sample.{Case, sample, starred}
 use Rattle.format.specs.Reading.{bitField, wordBelow}
 use Rattle.format.specs.Reading.Reading.{got}
-use Rattle.format.specs.Format.{symbolReader, symbolsReader, forestReader, rulesReader, fileReader}
+use Rattle.format.specs.Format.{symbolReader, symbolsReader, forestReader, ruleReader, rulesReader, bodyReader}
+use Rattle.format.specs.Format.{fileReader}
 use Rattle.format.specs.Format.{RuleFile, systemOf}
 use Rattle.format.specs.Packing.{items, packed, unpacked}
-use Rattle.format.specs.Files.{paddingReader, endReader, readBytes, readWords}
+use Rattle.format.specs.Files.{wholeReader, readBytes, readWords}
 
 abbrev sampleFile : RuleFile
 sampleFile = record {
@@ -18,13 +19,13 @@ sampleFile = record {
 }
 
 sample-packs : readBytes (packed sampleFile) ≡ got sampleFile 825
-unfolding readBytes fileReader symbolsReader symbolReader rulesReader forestReader bitField paddingReader packed items
-    flatMap
+unfolding readBytes wholeReader fileReader bodyReader symbolsReader symbolReader rulesReader ruleReader forestReader
+    bitField packed items flatMap
 sample-packs = refl
 
 sample-unpacks : readWords (unpacked sampleFile) ≡ got sampleFile 103
-unfolding readWords fileReader symbolsReader symbolReader rulesReader forestReader wordBelow endReader unpacked items
-    flatMap
+unfolding readWords wholeReader fileReader bodyReader symbolsReader symbolReader rulesReader ruleReader forestReader
+    wordBelow unpacked items flatMap
 sample-unpacks = refl
 
 sample-means : systemOf sampleFile .rules ≡ map (λ (c : Case). record { left = c .left; right = c .right }) starred

@@ -24,7 +24,7 @@ use Rattle.format.specs.Layout.{maxNodes}
 use Rattle.format.specs.Reading.{Source, wordSource}
 use Rattle.format.specs.Reading.Reading.{got, fault}
 use Rattle.format.specs.Format.{forestReader}
-use Rattle.format.specs.Files.{endReader, readTerm}
+use Rattle.format.specs.Files.{readTerm}
 use Rattle.format.specs.Packing.Item.{node}
 use Rattle.format.proofs.ForestLaws.{known, argumentCount}
 use Rattle.format.proofs.SpellingLaws.{AllFit, Spells, agrees-of, coded→spells}
@@ -115,7 +115,7 @@ module _ (σ : Signature) (few : length (σ .symbols) ≤ firstVariable) (t : Te
   nodes-form a = rw (append-nil (words t)) at (forest-words σ few t h a 0 [] noTerm)
 
   pub term-reads : size t ≤ maxNodes → readTerm σ (words t) ≡ got (words t) (size t)
-  unfolding readTerm endReader
+  unfolding readTerm
   term-reads l =
       let ws = words t in
       let all : size t + (maxNodes - size t) ≡ maxNodes = omega arith in
@@ -124,7 +124,7 @@ module _ (σ : Signature) (few : length (σ .symbols) ≤ firstVariable) (t : Te
       rw (forest-reads (wordSource ws) σ f p, eqb-self (length ws), length-words t)
 
   pub term-refused : maxNodes < size t → readTerm σ (words t) ≡ fault tooManyNodes maxNodes
-  unfolding readTerm endReader
+  unfolding readTerm
   term-refused l =
       let ws = words t in
       let n = length-take-le maxNodes ws (omega (arith, length-words t)) in

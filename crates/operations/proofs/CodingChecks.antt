@@ -10,8 +10,9 @@ use Rattle.format.specs.Errors.{wordsTooShort, wordTooWide, wordsLeftOver, byte
 use Rattle.format.specs.Layout.{formWidth, symbolCountWidth, weightWidth, ruleCountWidth, arityWidth, acWidth}
 use Rattle.format.specs.Layout.{rankWidth}
 use Rattle.format.specs.Reading.{bitField, wordBelow}
-use Rattle.format.specs.Format.{symbolReader, symbolsReader, forestReader, rulesReader, fileReader}
-use Rattle.format.specs.Files.{paddingReader, endReader, readBytes, readWords}
+use Rattle.format.specs.Format.{symbolReader, symbolsReader, forestReader, ruleReader, rulesReader, bodyReader}
+use Rattle.format.specs.Format.{fileReader}
+use Rattle.format.specs.Files.{wholeReader, readBytes, readWords}
 use Rattle.format.specs.Packing.{Item, itemBits, itemWord, bytesOf, items, packed, unpacked}
 use Rattle.format.specs.Packing.Item.{field, node}
 use Rattle.operations.specs.Replies.{Outcome}
@@ -95,8 +96,8 @@ decodeCases =
     []
 
 decode-errors : map (λ (c : ErrorCase). decoded (c .read) (c .lent)) decodeCases ≡ map refusal decodeCases
-unfolding decoded readBytes fileReader symbolsReader symbolReader rulesReader forestReader bitField paddingReader
-    unpacked items flatMap
+unfolding decoded readBytes wholeReader fileReader bodyReader symbolsReader symbolReader rulesReader ruleReader
+    forestReader bitField unpacked items flatMap
 decode-errors = refl
 
 abbrev encodeCases : List ErrorCase
@@ -122,6 +123,6 @@ encodeCases =
     []
 
 encode-errors : map (λ (c : ErrorCase). encoded (c .read) (c .lent)) encodeCases ≡ map refusal encodeCases
-unfolding encoded readWords fileReader symbolsReader symbolReader rulesReader forestReader wordBelow endReader packed
-    items flatMap
+unfolding encoded readWords wholeReader fileReader bodyReader symbolsReader symbolReader rulesReader ruleReader
+    forestReader wordBelow packed items flatMap
 encode-errors = refl

@@ -1,16 +1,14 @@
 -- What the bit cursor's answers stand for.
 -- Renders: 01, "Book layout": "The reading position moves on by the width of each field"; "Reading a book", 2: "a field
 -- doesn't fit, place of its first bit".
-use mathlib.Core.List.{List}
-use mathlib.Core.Bool.{Bool, cond, _&&_}
-use Prim.Native.Nat.{ℕ, _+_, _-_, _*_, _/_, _<_}
-use lib.ListN.{length}
-use lib.Dec.{eqb, ltb}
+use mathlib.Core.Bool.{cond}
+use Prim.Native.Nat.{ℕ, _+_, _/_, _<_}
+use lib.Dec.{ltb}
 use Rattle.terms.specs.Term.{variableCount}
 use Rattle.terms.specs.Words.{firstVariable}
 use Rattle.format.specs.Errors.{fieldMissing}
 use Rattle.format.specs.Layout.{tagWidth}
-use Rattle.format.specs.Reading.{Reading, spelt, bitAt}
+use Rattle.format.specs.Reading.{Reading}
 use Rattle.format.specs.Reading as reading
 use Rattle.format.specs.Reading.Reading.{got, fault}
 use Rattle.bits.specs.declared.Field.{Field}
@@ -40,9 +38,3 @@ nodeWidth nine = cond (ltb nine 256) 9 5
 
 abbrev pub nodeWord : ℕ → ℕ
 nodeWord nine = cond (ltb nine 256) nine (nine / 16 + 240)
-
--- 01, 11: fewer than eight bits are left, and none of them is set.
-abbrev pub isPadding : List ℕ → ℕ → Bool
-isPadding bytes at =
-    let left = 8 * length bytes - at in
-    ltb left 8 && eqb (spelt (bitAt bytes) at left) 0

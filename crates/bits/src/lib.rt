@@ -3,9 +3,9 @@ ghost use mathlib.Core.Path.{_≡_};
 ghost use Prim.Native.Nat.{_+_, _*_, _/_, _^_, _<_, _≤_};
 ghost use lib.ListN.{length, getD};
 ghost use Rattle.format.specs.Layout.{maxBytes, tagWidth};
-ghost use Rattle.format.specs.Reading.{bitField, bitSource};
+ghost use Rattle.format.specs.Reading.{bitField, isPadding, bitSource};
 ghost use Rattle.format.specs.Reading.Reading.{got};
-ghost use Rattle.bits.specs.Cursor.{fieldReading, nodeReading, WordFits, nodeWidth, nodeWord, isPadding};
+ghost use Rattle.bits.specs.Cursor.{fieldReading, nodeReading, WordFits, nodeWidth, nodeWord};
 
 // An offset in bits.
 pub struct BitCursor {

@@ -15,7 +15,7 @@ use Rattle.terms.specs.Words.{firstVariable}
 use Rattle.format.specs.Layout.{tagWidth, symbolWidth, variableWidth, maxNodes}
 use Rattle.format.specs.Reading.{Reading, andThen, give, Node, Source, bitField, bitSource}
 use Rattle.format.specs.Reading.Reading.{got, fault}
-use Rattle.format.specs.Format.{Sides, forestReader, rulesReader}
+use Rattle.format.specs.Format.{Sides, forestReader, ruleReader, rulesReader}
 use Rattle.format.proofs.ForestLaws.{
   before,
   nothing-owed,
@@ -25,7 +25,7 @@ use Rattle.format.proofs.ForestLaws.{
   variable-read,
   symbol-read,
 }
-use Rattle.reader.specs.Rule.{ruleReader, sideWords, rulesWords}
+use Rattle.reader.specs.Rule.{sideWords, rulesWords}
 use Rattle.bits.proofs.NodeLaws.{field-next}
 use Rattle.reader.proofs.RuleLaws.{rules-step}
 

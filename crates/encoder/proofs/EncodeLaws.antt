@@ -12,8 +12,8 @@ use lib.Dec.{eqb, ltb}
 use borrow.Author.Tests.{eqb-true, ltb-true, le-leb, lt-leb}
 use Rattle.format.specs.Reading.{Reading, wordBelow, wordSource}
 use Rattle.format.specs.Reading.Reading.{got, fault}
-use Rattle.format.specs.Format.{RuleFile, symbolsReader, rulesReader, fileReader}
-use Rattle.format.specs.Files.{readWords, endReader}
+use Rattle.format.specs.Format.{RuleFile, symbolsReader, rulesReader, bodyReader, fileReader}
+use Rattle.format.specs.Files.{wholeReader, readWords}
 use Rattle.format.specs.Packing.{Item, items, itemBits, bytesOf, packed}
 use Rattle.operations.specs.Replies.{Reply}
 use Rattle.operations.specs.Replies.Reply.{accepted, refused}
@@ -49,8 +49,8 @@ file-listed words k n b file x =
       few = omega (arith, x .few, x .symbols);
     }
 
-file-if : (words : List ℕ) → IfWhole words (fileReader (wordSource words) 0)
-unfolding fileReader
+file-if : (words : List ℕ) → IfWhole words (fileReader 1 (wordSource words) 0)
+unfolding fileReader bodyReader
 file-if words =
     let P = IfWhole words in
     on-read P (λ c o. tt) (wordBelow words 16 0) _ λ f n₁ e₁.
@@ -79,9 +79,9 @@ IfEnded words (got file at) = Listed words file
 IfEnded words (fault code offset) = Unit {0}
 
 words-if : (words : List ℕ) → IfEnded words (readWords words)
-unfolding readWords endReader
+unfolding readWords wholeReader
 words-if words =
-    on-read (IfEnded words) (λ c o. tt) (fileReader (wordSource words) 0) _ λ file at e.
+    on-read (IfEnded words) (λ c o. tt) (fileReader 1 (wordSource words) 0) _ λ file at e.
     on-required (IfEnded words) (λ c o. tt) (eqb at (length words)) 15 at at _ λ t.
     let h : IfWhole words (got file at) = rw e at (file-if words) in
     h (eqb-true at (length words) t)

@@ -26,6 +26,7 @@ use Rattle.files.specs.File.{HeaderAt}
 use Rattle.words.proofs.WordLaws.{on-read}
 use Rattle.words.proofs.TermLaws.{Front, forest-front}
 use Rattle.files.proofs.SymbolLaws.{SymbolAt, symbol-facts}
+use Rattle.files.proofs.RuleLaws.{sides-first}
 use Rattle.files.proofs.ItemsLaws.{items-add, flat-append}
 
 module _ (words : List ℕ) (nodes : ℕ) where
@@ -94,12 +95,13 @@ module _ (words : List ℕ) (nodes : ℕ) where
       record { items = ap (itemsFrom words nodes at) e; onward = omega arith; short = omega arith; count = refl }
   rules-if σ (suc n) at h =
       let P = IfRules at (suc n) in
-      on-read P (λ c o. tt) (forestReader (wordSource words) σ maxNodes 1 at) _ λ xs at₁ e₁.
+      rw (sides-first (wordSource words) σ n at)
+      (on-read P (λ c o. tt) (forestReader (wordSource words) σ maxNodes 1 at) _ λ xs at₁ e₁.
       on-read P (λ c o. tt) (forestReader (wordSource words) σ maxNodes 1 at₁) _ λ ys at₂ e₂.
       on-read P (λ c o. tt) (rulesReader (wordSource words) σ n at₂) _ λ rules next e₃.
       let f = side-facts σ at xs at₁ h e₁ in
       let g = side-facts σ at₁ ys at₂ (omega (arith, f .end)) e₂ in
-      rule-before at n xs ys at₁ at₂ next rules f g (rw e₃ at (rules-if σ n at₂ (omega (arith, f .end, g .end))))
+      rule-before at n xs ys at₁ at₂ next rules f g (rw e₃ at (rules-if σ n at₂ (omega (arith, f .end, g .end)))))
 
   pub rules-facts : (σ : Signature) (n at : ℕ) (rules : List Sides) (next : ℕ) → nodes ≤ at →
       rulesReader (wordSource words) σ n at ≡ got rules next → RulesAt at n rules next

@@ -12,8 +12,7 @@ use borrow.Author.Tests.{eq-eqb, ne-eqb, lt-ltb}
 use Rattle.terms.specs.Signature.{Symbol, Signature}
 use Rattle.format.specs.Reading.{Reading, wordBelow, wordSource}
 use Rattle.format.specs.Reading.Reading.{got, fault}
-use Rattle.format.specs.Format.{Sides, rulesReader, symbolsReader, fileReader}
-use Rattle.format.specs.Files.{endReader}
+use Rattle.format.specs.Format.{Sides, rulesReader, symbolsReader, bodyReader, fileReader}
 use Rattle.symbols.specs.Table.{symbolsAt, signatureOf}
 use Rattle.symbols.specs.Arities.{cellOf, Arities}
 use Rattle.words.specs.declared.cursor.WordCursor.{WordCursor}
@@ -22,7 +21,7 @@ use Rattle.words.specs.declared.cursor.Passed.the-variants as passing
 use Rattle.files.specs.declared.file.FileReading.{FileReading}
 use Rattle.files.specs.declared.file.FileReading.the-variants as counts
 use Rattle.words.specs.Cursor.{passed, passedOf}
-use Rattle.files.specs.File.{HeaderAt, afterHeader, endOf, fileReading}
+use Rattle.files.specs.File.{HeaderAt, endOf, fileReading}
 use Rattle.words.proofs.WordLaws.{word-read}
 use Rattle.files.proofs.FileItems.{symbols-facts, file-facts}
 
@@ -49,8 +48,8 @@ module _ (words : List ℕ) (f s w r n₁ n₂ n₃ n₄ : ℕ) (e₁ : wordBelo
         fewRules = x₄ .small;
       }
 
-  pub header-got : afterHeader (wordSource words) s w r 4 ≡ fileReader (wordSource words) 0
-  unfolding fileReader afterHeader
+  pub header-got : bodyReader (wordSource words) w s r 4 ≡ fileReader 1 (wordSource words) 0
+  unfolding fileReader
   header-got =
       let x₁ = word-read words 16 0 f n₁ e₁ in
       let x₂ = word-read words 256 n₁ s n₂ e₂ in
@@ -98,10 +97,10 @@ module _ (words : List ℕ) (symbolCount w0 ruleCount : ℕ) (symbolsRead : Pass
   σ = record { w0 = w0; symbols = symbols }
 
   abbrev whole : FileReading
-  whole = fileReading (endOf words (afterHeader (wordSource words) symbolCount w0 ruleCount 4))
+  whole = fileReading (endOf words (bodyReader (wordSource words) w0 symbolCount ruleCount 4))
 
   pub body-symbols : (code offset : ℕ) → symbolsRead ≡ passing.Fault code offset → counts.Fault code offset ≡ whole
-  unfolding afterHeader
+  unfolding bodyReader
   body-symbols code offset e = rw (← s, e)
 
   module _ (h : HeaderAt words symbolCount w0 ruleCount) (first : WordCursor) (e : symbolsRead ≡ passing.At first) where
@@ -142,7 +141,7 @@ module _ (words : List ℕ) (symbolCount w0 ruleCount : ℕ) (symbolsRead : Pass
       module _ (rulesRead : Passed) (r : (τ : Signature) → Arities τ cells →
           rulesRead ≡ passedOf (rulesReader (wordSource words) τ ruleCount (first .at))) where
         pub body-rules : (code offset : ℕ) → rulesRead ≡ passing.Fault code offset → counts.Fault code offset ≡ whole
-        unfolding afterHeader
+        unfolding bodyReader
         body-rules code offset f = rw (symbols-got, fault-of-passed rulesFrom code offset (sym (r σ part-arities) ∙ f))
 
         module _ (end : WordCursor) (f : rulesRead ≡ passing.At end) where
@@ -150,14 +149,14 @@ module _ (words : List ℕ) (symbolCount w0 ruleCount : ℕ) (symbolsRead : Pass
           rules-got = got-of-passed rulesFrom end (sym (r σ part-arities) ∙ f)
 
           pub body-left : (end .at ≡ length words → ⊥) → counts.Fault 15 (end .at) ≡ whole
-          unfolding afterHeader endReader
+          unfolding bodyReader
           body-left l =
               let (rules, g) = rules-got in
               rw (symbols-got, g, ne-eqb (end .at) (length words) l)
 
           pub body-done : end .at ≡ length words →
               counts.Got (record { symbols = symbolCount; rules = ruleCount }) ≡ whole
-          unfolding afterHeader endReader
+          unfolding bodyReader
           body-done l =
               let (rules, g) = rules-got in
               let k = g ∙ ap (λ (n : ℕ). got rules n) l in

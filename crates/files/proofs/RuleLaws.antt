@@ -3,7 +3,7 @@
 --     rules-none     no rule
 --     rules-more     some rules are one and then the others
 --     rule-end       a rule's words are no more than the nodes allowed
-use mathlib.Core.List.{List}
+use mathlib.Core.List.{List, _∷_}
 use mathlib.Core.Path.{_≡_, refl, sym, ap, _∙_}
 use Prim.Native.Nat.{ℕ, suc, _+_, _-_, _≤_, _<_}
 use native.Mathlib.Omega.{arith}
@@ -11,7 +11,8 @@ use Rattle.terms.specs.Signature.{Signature}
 use Rattle.format.specs.Layout.{maxNodes}
 use Rattle.format.specs.Reading.{Reading, Reader, Source, andThen, give, wordSource}
 use Rattle.format.specs.Reading.Reading.{got, fault}
-use Rattle.format.specs.Format.{forestReader, rulesReader}
+use Rattle.format.specs.Format.{forestReader, ruleReader, rulesReader}
+use Rattle.format.proofs.ReadingLaws.{andThen-assoc, andThen-same}
 use Rattle.words.specs.declared.cursor.WordCursor.{WordCursor}
 use Rattle.words.specs.declared.cursor.Passed.{Passed}
 use Rattle.words.specs.declared.cursor.Passed.the-variants as passing
@@ -42,10 +43,21 @@ module _ (source : Source) (σ : Signature) where
   abbrev side : ℕ → Passed
   side at = passedOf (forestReader source σ maxNodes 1 at)
 
+  -- The rules by their first rule's sides.
+  pub sides-first : (n at : ℕ) → rulesReader source σ (suc n) at ≡ andThen (forestReader source σ maxNodes 1 at)
+      (λ left mid. andThen (forestReader source σ maxNodes 1 mid)
+      (λ right next. andThen (rulesReader source σ n next)
+      (λ rest. give (record { left = left; right = right } ∷ rest))))
+  unfolding rulesReader ruleReader
+  sides-first n at =
+      andThen-assoc (forestReader source σ maxNodes 1 at) _ _ ∙ andThen-same (forestReader source σ maxNodes 1 at) _ _
+      (λ left mid. andThen-assoc (forestReader source σ maxNodes 1 mid) _ _)
+
   pub rule-one : (at : ℕ) → passedOf (rulesReader source σ 1 at) ≡ afterPassed (side at) (λ c. side (c .at))
   unfolding rulesReader
   rule-one at =
-      after-terms (forestReader source σ maxNodes 1 at) _ (λ c. side (c .at)) λ left middle.
+      ap passedOf (sides-first 0 at)
+      ∙ after-terms (forestReader source σ maxNodes 1 at) _ (λ c. side (c .at)) λ left middle.
       passed-give (forestReader source σ maxNodes 1 middle) _
 
   pub rules-none : (n at : ℕ) → n ≡ 0 → passedOf (rulesReader source σ n at) ≡ passing.At (record { at = at })
@@ -58,7 +70,7 @@ module _ (source : Source) (σ : Signature) where
   rules-more n at h =
       let k : WordCursor → Passed = λ d. passedOf (rulesReader source σ (n - 1) (d .at)) in
       let e : n ≡ suc (n - 1) = omega arith in
-      ap (λ (m : ℕ). passedOf (rulesReader source σ m at)) e
+      ap (λ (m : ℕ). passedOf (rulesReader source σ m at)) e ∙ ap passedOf (sides-first (n - 1) at)
       ∙ after-terms (forestReader source σ maxNodes 1 at) _ (λ c. afterPassed (side (c .at)) k) (λ left middle.
       after-terms (forestReader source σ maxNodes 1 middle) _ k λ right end.
       passed-give (rulesReader source σ (n - 1) end) _)

@@ -1,29 +1,21 @@
 -- What the answers of reading a file from its words stand for.
 -- Renders: 01, "Book layout": the header; "Replies and refusals", "Closing".
-use mathlib.Core.List.{List, []}
+use mathlib.Core.List.{List}
 use mathlib.Core.Path.{_≡_}
 use Prim.Native.Nat.{ℕ, _≤_, _<_}
 use lib.ListN.{length, getD}
 use Rattle.format.specs.Layout.{formNumber}
-use Rattle.format.specs.Reading.{Reading, Reader, Source, andThen, _>>=_, _>>_, give, wordSource}
+use Rattle.format.specs.Reading.{Reading, andThen, give, wordSource}
 use Rattle.format.specs.Reading.Reading.{got, fault}
-use Rattle.format.specs.Format.{RuleFile, symbolsReader, rulesReader}
-use Rattle.format.specs.Files.{endReader}
+use Rattle.format.specs.Format.{RuleFile, bodyReader}
 use Rattle.files.specs.declared.file.HeaderReading.{HeaderReading}
 use Rattle.files.specs.declared.file.HeaderReading.the-variants as header
 use Rattle.files.specs.declared.file.FileReading.{FileReading}
 use Rattle.files.specs.declared.file.FileReading.the-variants as counts
 
--- The symbols and the rules, given the header.
-unfoldable pub afterHeader : Source → ℕ → ℕ → ℕ → Reader RuleFile
-afterHeader source symbolCount w0 ruleCount = do
-  symbols ← symbolsReader source w0 symbolCount []
-  rules ← rulesReader source (record { w0 = w0; symbols = symbols }) ruleCount
-  give (record { signature = record { w0 = w0; symbols = symbols }; rules = rules })
-
 -- The file that follows a header of four words.
 abbrev pub headerReading : List ℕ → HeaderReading → Reading RuleFile
-headerReading words (header.Got h) = afterHeader (wordSource words) (h .symbols) (h .w0) (h .rules) 4
+headerReading words (header.Got h) = bodyReader (wordSource words) (h .w0) (h .symbols) (h .rules) 4
 headerReading words (header.Fault code offset) = fault code offset
 
 -- The header's fields are the first four words, of which the first is the form.
@@ -42,7 +34,7 @@ HeaderRead words (header.Fault code offset) = Unit {0}
 
 -- A file after which no word may follow.
 abbrev pub endOf : List ℕ → Reading RuleFile → Reading RuleFile
-endOf words r = andThen r (λ file at. andThen (endReader words at) (λ u. give file))
+endOf words r = andThen r (λ file at. andThen (wordSource words .end at) (λ u. give file))
 
 -- A file's counts of symbols and of rules.
 abbrev pub fileReading : Reading RuleFile → FileReading

@@ -1,9 +1,10 @@
 // Reading a whole rule file from its words.
 ghost use mathlib.Core.Path.{_≡_};
 ghost use Rattle.format.specs.Reading.{wordSource};
-ghost use Rattle.format.specs.Format.{fileReader};
+ghost use Rattle.format.specs.Layout.{formNumber};
+ghost use Rattle.format.specs.Format.{bodyReader, fileReader};
 ghost use Rattle.format.specs.Files.{readWords};
-ghost use Rattle.files.specs.File.{HeaderAt, HeaderRead, afterHeader, headerReading, fileReading, endOf};
+ghost use Rattle.files.specs.File.{HeaderAt, HeaderRead, headerReading, fileReading, endOf};
 use crate::rule::read_rules;
 use crate::symbol::read_symbols;
 use words::cursor::Passed;
@@ -37,7 +38,7 @@ pub enum FileReading {
 
 // Reads the header.
 fn read_header(words: &[u16]) -> HeaderReading
-    ensures { λ r. ⌜ headerReading (now (words .entry)) r ≡ fileReader (wordSource (now (words .entry))) 0 ⌝ }
+    ensures { λ r. ⌜ headerReading (now (words .entry)) r ≡ fileReader formNumber (wordSource (now (words .entry))) 0 ⌝ }
     ensures { λ r. ⌜ HeaderRead (now (words .entry)) r ⌝ }
 {
     let start = WordCursor { at: 0 };
@@ -77,7 +78,7 @@ fn read_header(words: &[u16]) -> HeaderReading
 fn read_body(words: &[u16], w0: u16, symbols: usize, rules: usize) -> FileReading
     requires { ⌜ HeaderAt (now words) symbols w0 rules ⌝ }
     ensures { λ r. ⌜
-        r ≡ fileReading (endOf (now (words .entry)) (afterHeader (wordSource (now (words .entry))) symbols w0 rules 4))
+        r ≡ fileReading (endOf (now (words .entry)) (bodyReader (wordSource (now (words .entry))) w0 symbols rules 4))
         ⌝ }
 {
     let first = match read_symbols(words, w0, symbols) {

@@ -22,7 +22,7 @@ use Rattle.format.proofs.CodingLaws.{bit-coding}
 use Rattle.format.proofs.SideLaws.{side-formed, forest-le}
 use Rattle.symbols.specs.Table.{signatureOf}
 use Rattle.order.specs.Compared.{Whole}
-use Rattle.reader.specs.Rule.{ruleReader}
+use Rattle.format.specs.Format.{ruleReader}
 use Rattle.marking.specs.declared.rule.Oriented.{Oriented}
 use Rattle.marking.specs.declared.rule.RuleReading.{RuleReading}
 use Rattle.marking.specs.declared.rule.RuleReading.the-variants.{Got, Fault}

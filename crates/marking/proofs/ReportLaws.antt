@@ -24,7 +24,7 @@ use Rattle.format.specs.Reading.{Source}
 use Rattle.format.specs.Reading.Reading.{got, fault}
 use Rattle.format.specs.Format.{Sides, RuleFile, systemOf, rulesReader}
 use Rattle.format.specs.Files.{readBytes}
-use Rattle.reader.specs.Rule.{ruleReader}
+use Rattle.format.specs.Format.{ruleReader}
 use Rattle.operations.specs.Marking.{marksOf, decreasingCount, scoreOf}
 use Rattle.operations.specs.Report.{summaryLines, report}
 use Rattle.marking.specs.Rule.{sidesMarks, sidesLines}

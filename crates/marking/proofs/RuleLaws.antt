@@ -20,7 +20,7 @@ use Rattle.text.proofs.TextLaws.{sets-append}
 use Rattle.format.specs.Reading.{Reading, Source}
 use Rattle.format.specs.Reading.Reading.{got, fault}
 use Rattle.format.specs.Format.{Sides, rulesReader}
-use Rattle.reader.specs.Rule.{ruleReader}
+use Rattle.format.specs.Format.{ruleReader}
 use Rattle.reader.proofs.RuleLaws.{Done, done-none, done-fault, done-more, done-all}
 use Rattle.bits.specs.declared.BitCursor.{BitCursor}
 use Rattle.marking.specs.declared.rule.Oriented.{Oriented}

@@ -9,7 +9,7 @@ ghost use Rattle.format.specs.Format.{Sides, forestReader};
 ghost use Rattle.format.specs.Statements.{IsTerm};
 ghost use Rattle.symbols.specs.Table.{signatureOf};
 ghost use Rattle.symbols.specs.Arities.{Arities};
-ghost use Rattle.reader.specs.Rule.{ruleReader};
+ghost use Rattle.format.specs.Format.{ruleReader};
 ghost use Rattle.order.specs.Sums.{NodeSums};
 ghost use Rattle.marking.specs.Rule.{IsTable, Orients, OrientsRead, OrientedWithin};
 use bits::BitCursor;

@@ -11,8 +11,9 @@ use Rattle.terms.specs.Equivalence.{isEquivalentTo, isEquivalent}
 use Rattle.terms.specs.Order.{noneOftener, flattenedMark, rootMark, decreasingMark, isGreaterTo, isGreater}
 use Rattle.format.specs.Errors.{fieldMissing, noSuchSymbol, tooManyNodes, wordTooWide, wordsLeftOver}
 use Rattle.format.specs.Reading.{bitField, wordBelow}
-use Rattle.format.specs.Format.{symbolReader, symbolsReader, forestReader, rulesReader, fileReader}
-use Rattle.format.specs.Files.{paddingReader, endReader, readBytes, readTerm}
+use Rattle.format.specs.Format.{symbolReader, symbolsReader, forestReader, ruleReader, rulesReader, bodyReader}
+use Rattle.format.specs.Format.{fileReader}
+use Rattle.format.specs.Files.{wholeReader, readBytes, readTerm}
 use Rattle.operations.specs.Replies.{Reply}
 use Rattle.operations.specs.Replies.Reply.{accepted, refused}
 use Rattle.operations.specs.declared.Relation.{Relation}
@@ -57,12 +58,12 @@ cases =
     []
 
 cases-hold : map (λ (c : Case). compared book (c .left) (c .right)) cases ≡ map (λ (c : Case). c .reply) cases
-unfolding compared comparedTerms comparedRight relation readBytes readTerm fileReader symbolsReader symbolReader
-    rulesReader forestReader bitField
-    wordBelow paddingReader endReader forestOf isGreater isGreaterTo decreasingMark rootMark flattenedMark noneOftener
-    isEquivalent isEquivalentTo rowEqual rowGreater multisetEqual multisetGreater
+unfolding compared comparedTerms comparedRight relation readBytes readTerm wholeReader fileReader bodyReader
+    symbolsReader symbolReader rulesReader ruleReader forestReader bitField wordBelow forestOf isGreater isGreaterTo
+    decreasingMark rootMark flattenedMark noneOftener isEquivalent isEquivalentTo rowEqual rowGreater multisetEqual
+    multisetGreater
 cases-hold = refl
 
 faulty-book : compared (0x20 ∷ []) [] [] ≡ refused (record { code = 3; input = 0; offset = 0 })
-unfolding compared readBytes fileReader bitField
+unfolding compared readBytes wholeReader fileReader bitField
 faulty-book = refl

@@ -15,10 +15,9 @@ use lib.Seq.{getD-take, length-take-le}
 use Rattle.terms.specs.Signature.{Symbol, Signature, Admissible}
 use Rattle.format.specs.Errors.{badPadding}
 use Rattle.format.specs.Layout.{formNumber, maxBytes}
-use Rattle.format.specs.Reading.{Reading, andThen, give, Source, bitSource}
+use Rattle.format.specs.Reading.{Reading, andThen, give, Source, isPadding, bitSource}
 use Rattle.format.specs.Reading.Reading.{got, fault}
-use Rattle.format.specs.Format.{Sides, RuleFile, symbolsReader, rulesReader}
-use Rattle.format.specs.Files.{paddingReader}
+use Rattle.format.specs.Format.{Sides, RuleFile, symbolsReader, ruleReader, rulesReader, bodyReader}
 use Rattle.format.specs.Packing.{itemWord, symbolItems, ruleItems, items, unpacked}
 use Rattle.format.specs.Packing.Item.{node}
 use Rattle.symbols.specs.Table.{symbolsAt, signatureOf}
@@ -26,9 +25,8 @@ use Rattle.bits.specs.declared.BitCursor.{BitCursor}
 use Rattle.reader.specs.declared.rule.Stored.the-variants.{Past, Fault}
 use Rattle.reader.specs.declared.file.Head.the-variants as head
 use Rattle.reader.specs.declared.file.File.the-variants as file
-use Rattle.bits.specs.Cursor.{isPadding}
-use Rattle.reader.specs.Rule.{WordsRead, ruleReader, rulesWords}
-use Rattle.reader.specs.File.{bodyReader, restReader, HeadParts, HeadRead, RestRead, FileRead, symbolsWords}
+use Rattle.reader.specs.Rule.{WordsRead, rulesWords}
+use Rattle.reader.specs.File.{restOfFile, restReader, HeadParts, HeadRead, RestRead, FileRead, symbolsWords}
 use Rattle.symbols.proofs.TableLaws.{length-symbols}
 use Rattle.format.proofs.ReadingLaws.{andThen-assoc, andThen-same, holds-got}
 use Rattle.format.proofs.FormatLaws.{symbols-read}
@@ -129,10 +127,10 @@ unpacked-length file =
 
 -- What follows a header is what follows the symbols, after the symbols.
 body-rest : (bytes : List ℕ) (w0 symbols rules at : ℕ) →
-    bodyReader bytes w0 symbols rules at ≡
+    restOfFile bytes w0 symbols rules at ≡
     andThen (symbolsReader (bitSource bytes) w0 symbols [] at)
     (λ ss. restReader bytes (record { w0 = w0; symbols = ss }) rules)
-unfolding bodyReader restReader
+unfolding restOfFile bodyReader restReader
 body-rest bytes w0 symbols rules at =
     andThen-assoc (symbolsReader (bitSource bytes) w0 symbols [] at) _ _
     ∙ andThen-same (symbolsReader (bitSource bytes) w0 symbols [] at) _ _
@@ -148,14 +146,14 @@ symbols-admissible bytes w0 n at ss end e positive =
 
 module _ (bytes : List ℕ) (w0 symbols rules at : ℕ) where
   pub symbols-fault : (code offset : ℕ) → symbolsReader (bitSource bytes) w0 symbols [] at ≡ fault code offset →
-      bodyReader bytes w0 symbols rules at ≡ fault code offset
+      restOfFile bytes w0 symbols rules at ≡ fault code offset
   symbols-fault code offset e = body-rest bytes w0 symbols rules at ∙ rw e
 
   pub head-read : (table : List ℕ) (next : BitCursor) →
       symbolsReader (bitSource bytes) w0 symbols [] at ≡ got (symbolsAt table 0 symbols) (next .at) →
       getD table 0 0 ≡ w0 → 1 + 4 * symbols ≤ length table → at ≤ 8 * length bytes → length bytes ≤ maxBytes →
       symbols < 256 → rules < 1024 → 0 < w0 →
-      HeadRead bytes (bodyReader bytes w0 symbols rules at) (head.Read symbols rules next) table
+      HeadRead bytes (restOfFile bytes w0 symbols rules at) (head.Read symbols rules next) table
   head-read table next read weight room start short few some positive =
       let σ : signatureOf (take (1 + 4 * symbols) table) ≡ record { w0 = w0; symbols = symbolsAt table 0 symbols } =
       signature-front table symbols room ∙ rw weight in (
@@ -191,12 +189,12 @@ module _ (bytes : List ℕ) (σ : Signature) (count at : ℕ) where
 
   module _ (rules : List Sides) (next : ℕ) (e : rulesReader (bitSource bytes) σ count at ≡ got rules next) where
     pub rest-unpadded : isPadding bytes next ≡ false → restReader bytes σ count at ≡ fault badPadding next
-    unfolding restReader paddingReader
+    unfolding restReader
     rest-unpadded p = rw (e, p)
 
     pub rest-padded : isPadding bytes next ≡ true →
         restReader bytes σ count at ≡ got (record { signature = σ; rules = rules }) next
-    unfolding restReader paddingReader
+    unfolding restReader
     rest-padded p = rw (e, p)
 
   pub rest-read : (nodes : ℕ) (next : BitCursor) (before after : List ℕ) →

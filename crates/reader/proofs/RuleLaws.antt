@@ -17,12 +17,12 @@ use Rattle.terms.specs.Signature.{Signature}
 use Rattle.format.specs.Layout.{maxNodes}
 use Rattle.format.specs.Reading.{Reading, andThen, give, Source}
 use Rattle.format.specs.Reading.Reading.{got, fault}
-use Rattle.format.specs.Format.{Sides, forestReader, rulesReader}
+use Rattle.format.specs.Format.{Sides, forestReader, ruleReader, rulesReader}
 use Rattle.format.proofs.ReadingLaws.{andThen-give, andThen-assoc, andThen-same}
 use Rattle.bits.specs.declared.BitCursor.{BitCursor}
 use Rattle.reader.specs.declared.rule.Stored.{Stored}
 use Rattle.reader.specs.declared.rule.Stored.the-variants.{Past, Fault}
-use Rattle.reader.specs.Rule.{WordsRead, StoredWithin, ruleReader, sideWords, rulesWords}
+use Rattle.reader.specs.Rule.{WordsRead, StoredWithin, sideWords, rulesWords}
 use Rattle.reader.proofs.TermLaws.{sets-append}
 
 abbrev pub itself : List ℕ → List ℕ
@@ -79,11 +79,8 @@ module _ (source : Source) (σ : Signature) (at index : ℕ) (words : List ℕ) 
 
 pub rules-step : (source : Source) (σ : Signature) (n at : ℕ) → rulesReader source σ (suc n) at ≡
     andThen (ruleReader source σ at) (λ r next. andThen (rulesReader source σ n next) (λ rest. give (r ∷ rest)))
-unfolding rulesReader ruleReader
-rules-step source σ n at =
-    sym (andThen-assoc (forestReader source σ maxNodes 1 at) _ _
-    ∙ andThen-same (forestReader source σ maxNodes 1 at) _ _ (λ left next. andThen-assoc (forestReader source σ maxNodes
-    1 next) _ _))
+unfolding rulesReader
+rules-step source σ n at = refl
 
 -- That many rules of the count are done, and the others are read from an offset on.
 abbrev pub Done : Source → Signature → ℕ → ℕ → ℕ → ℕ → List Sides → Type 0

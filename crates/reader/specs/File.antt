@@ -8,8 +8,7 @@ use lib.Seq.{sets}
 use Rattle.format.specs.Layout.{maxBytes}
 use Rattle.format.specs.Reading.{Reading, Reader, _>>=_, _>>_, give, bitSource}
 use Rattle.format.specs.Reading.Reading.{got, fault}
-use Rattle.format.specs.Format.{Sides, RuleFile, symbolsReader, rulesReader}
-use Rattle.format.specs.Files.{paddingReader}
+use Rattle.format.specs.Format.{Sides, RuleFile, rulesReader, bodyReader}
 use Rattle.terms.specs.Signature.{Symbol, Signature, Admissible}
 use Rattle.format.specs.Packing.{itemWord, symbolItems}
 use Rattle.symbols.specs.Table.{signatureOf}
@@ -23,23 +22,17 @@ use Rattle.reader.specs.declared.file.File.the-variants.{Read, Fault}
 use Rattle.reader.specs.Rule.{rulesWords}
 
 -- What follows a header: the symbols, the rules and the padding.
-unfoldable pub bodyReader : List ℕ → ℕ → ℕ → ℕ → Reader RuleFile
-bodyReader bytes w0 symbolCount ruleCount =
-    let body : Reader RuleFile = do
-      symbols ← symbolsReader (bitSource bytes) w0 symbolCount []
-      rules ← rulesReader (bitSource bytes) (record { w0 = w0; symbols = symbols }) ruleCount
-      give (record { signature = record { w0 = w0; symbols = symbols }; rules = rules })
-    in
-    do
-      file ← body
-      paddingReader bytes
-      give file
+unfoldable pub restOfFile : List ℕ → ℕ → ℕ → ℕ → Reader RuleFile
+restOfFile bytes w0 symbolCount ruleCount = do
+  file ← bodyReader (bitSource bytes) w0 symbolCount ruleCount
+  bitSource bytes .end
+  give file
 
 -- What follows the symbols: the rules and the padding.
 unfoldable pub restReader : List ℕ → Signature → ℕ → Reader RuleFile
 restReader bytes σ ruleCount = do
   rules ← rulesReader (bitSource bytes) σ ruleCount
-  paddingReader bytes
+  bitSource bytes .end
   give (record { signature = σ; rules = rules })
 
 -- A file's counts of symbols and of rules, its signature, and the offset of its rules.

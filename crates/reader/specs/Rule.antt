@@ -6,11 +6,9 @@ use mathlib.Core.List.{List, [], _∷_, _++_}
 use Prim.Native.Nat.{ℕ, _+_, _≤_}
 use lib.ListN.{length}
 use lib.Seq.{sets}
-use Rattle.terms.specs.Signature.{Signature}
-use Rattle.format.specs.Layout.{maxNodes}
-use Rattle.format.specs.Reading.{Reading, Reader, _>>=_, give, Source}
+use Rattle.format.specs.Reading.{Reading}
 use Rattle.format.specs.Reading.Reading.{got, fault}
-use Rattle.format.specs.Format.{Sides, forestReader}
+use Rattle.format.specs.Format.{Sides}
 use Rattle.reader.specs.declared.rule.Stored.{Stored}
 use Rattle.reader.specs.declared.rule.Stored.the-variants.{Past, Fault}
 
@@ -33,10 +31,3 @@ sideWords r = r .left ++ r .right
 abbrev pub rulesWords : List Sides → List ℕ
 rulesWords [] = []
 rulesWords (r ∷ rs) = sideWords r ++ rulesWords rs
-
--- One rule: its left side, then its right side.
-unfoldable pub ruleReader : Source → Signature → Reader Sides
-ruleReader source σ = do
-  left ← forestReader source σ maxNodes 1
-  right ← forestReader source σ maxNodes 1
-  give (record { left = left; right = right })

@@ -4,7 +4,7 @@ ghost use lib.ListN.{length};
 ghost use Rattle.format.specs.Layout.{maxBytes};
 ghost use Rattle.format.specs.Files.{readBytes};
 ghost use Rattle.symbols.specs.Table.{signatureOf};
-ghost use Rattle.reader.specs.File.{bodyReader, HeadRead, RestRead, FileRead};
+ghost use Rattle.reader.specs.File.{restOfFile, HeadRead, RestRead, FileRead};
 use crate::rule::Stored;
 use crate::rule::put_rules;
 use crate::symbol::Step;
@@ -41,7 +41,7 @@ fn read_table(
     requires { ⌜ (length (now book) ≤ maxBytes) × (cursor .at ≤ 8 * length (now book)) ⌝ }
     requires { ⌜ (4 * symbols < length (now table)) × (symbols < 256) × (rules < 1024) × (0 < w0) ⌝ }
     ensures { λ r. ⌜
-        HeadRead (now (book .entry)) (bodyReader (now (book .entry)) w0 symbols rules (cursor .at)) r
+        HeadRead (now (book .entry)) (restOfFile (now (book .entry)) w0 symbols rules (cursor .at)) r
         (now (table .exit))
         ⌝ }
 {

@@ -23,7 +23,7 @@ use Rattle.format.specs.Layout.{maxNodes}
 use Rattle.format.specs.Reading.{Reading, Node, wordSource, wordBelow}
 use Rattle.format.specs.Reading.Reading.{got, fault}
 use Rattle.format.specs.Format.{forestReader}
-use Rattle.format.specs.Files.{readTerm, endReader}
+use Rattle.format.specs.Files.{readTerm}
 use Rattle.format.proofs.ForestLaws.{nothing-owed, none-allowed, node-fault, unknown-symbol, variable-read, symbol-read}
 use Rattle.format.proofs.ForestLaws.{before, forest-short}
 use Rattle.symbols.specs.Arities.{Arities}
@@ -189,9 +189,9 @@ module _ (words : List ℕ) (σ : Signature) where
         go (fault code offset) e f p = let z : _≡_ {A = ℕ} 0 1 = cc in absurd (omega arith)
 
     pub whole-read : end .at ≡ length words → got (take (end .at) words) (end .at) ≡ readTerm σ words
-    unfolding readTerm endReader
+    unfolding readTerm
     whole-read e = rw (first-read, eq-eqb (end .at) (length words) e)
 
     pub whole-longer : ¬ (end .at ≡ length words) → fault wordsLeftOver (end .at) ≡ readTerm σ words
-    unfolding readTerm endReader
+    unfolding readTerm
     whole-longer e = rw (first-read, ne-eqb (end .at) (length words) e)

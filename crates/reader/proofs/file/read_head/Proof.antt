@@ -4,8 +4,8 @@ use lib.ListN.{length}
 use borrow.Author.Tests.{lt-ltb, le-ltb, lt-leb, le-leb, eq-eqb, ne-eqb}
 use Rattle.format.specs.Layout.{maxBytes}
 use Rattle.format.specs.Format.{fileReader}
-use Rattle.format.specs.Files.{readBytes}
-use Rattle.reader.specs.File.{bodyReader}
+use Rattle.format.specs.Files.{wholeReader, readBytes}
+use Rattle.reader.specs.File.{restOfFile}
 use Rattle.bits.specs.Cursor.{fieldReading}
 use Rattle.bits.proofs.NodeLaws.{field-lt, field-end}
 use borrow.Author.Needs.{needs}
@@ -13,12 +13,12 @@ use Rattle.reader.proofs.file.read_head.Statement.{statement}
 use Rattle.reader.proofs.file.read_head.Tie as tie
 
 returns : tie.Need-returns
-unfolding readBytes fileReader bodyReader
+unfolding readBytes wholeReader fileReader restOfFile
 returns c =
     rw (lt-leb (length (c .before .before .before .args .book .now)) maxBytes (c .if1 .taken))
 
 returns-2 : tie.Need-returns-2
-unfolding readBytes fileReader bodyReader
+unfolding readBytes wholeReader fileReader restOfFile
 returns-2 c =
     rw (
       le-leb (length (c .before .before .before .before .before .before .args .book .now)) maxBytes (c .before .before
@@ -27,7 +27,7 @@ returns-2 c =
     )
 
 returns-3 : tie.Need-returns-3
-unfolding readBytes fileReader bodyReader
+unfolding readBytes wholeReader fileReader restOfFile
 returns-3 c =
     rw (
       le-leb (length (c .before .before .before .before .before .before .before .before .args .book .now)) maxBytes (c
@@ -37,7 +37,7 @@ returns-3 c =
     )
 
 returns-4 : tie.Need-returns-4
-unfolding readBytes fileReader bodyReader
+unfolding readBytes wholeReader fileReader restOfFile
 returns-4 c =
     rw (
       le-leb (length (c .before .before .before .before .before .before .before .before .before .before .before .args
@@ -49,7 +49,7 @@ returns-4 c =
     )
 
 returns-5 : tie.Need-returns-5
-unfolding readBytes fileReader bodyReader
+unfolding readBytes wholeReader fileReader restOfFile
 returns-5 c =
     let c4 = c .before .before .before .before in
     let c7 = c4 .before .before .before in
@@ -64,7 +64,7 @@ returns-5 c =
     )
 
 returns-6 : tie.Need-returns-6
-unfolding readBytes fileReader bodyReader
+unfolding readBytes wholeReader fileReader restOfFile
 returns-6 c =
     let c5 = c .before .before .before .before .before in
     let c7 = c5 .before .before in
@@ -81,7 +81,7 @@ returns-6 c =
     )
 
 returns-7 : tie.Need-returns-7
-unfolding readBytes fileReader bodyReader
+unfolding readBytes wholeReader fileReader restOfFile
 returns-7 c =
     let c4 = c .before .before .before .before in
     let c7 = c4 .before .before .before in
@@ -100,7 +100,7 @@ returns-7 c =
     )
 
 returns-8 : tie.Need-returns-8
-unfolding readBytes fileReader bodyReader
+unfolding readBytes wholeReader fileReader restOfFile
 returns-8 c =
     let c5 = c .before .before .before .before .before in
     let c7 = c5 .before .before in
@@ -121,7 +121,7 @@ returns-8 c =
     )
 
 read-table-requires : tie.Need-read-table-requires
-unfolding readBytes fileReader bodyReader
+unfolding readBytes wholeReader fileReader restOfFile
 read-table-requires c κs = omega (
   arith,
   c .before .before .before .before .before .before .before .before .before
@@ -146,7 +146,7 @@ read-table-requires c κs = omega (
 )
 
 returns-9 : tie.Need-returns-9
-unfolding readBytes fileReader bodyReader
+unfolding readBytes wholeReader fileReader restOfFile
 returns-9 c =
     let c3 = c .before .before .before in
     let c7 = c3 .before .before .before .before in

@@ -26,7 +26,7 @@ use Rattle.operations.specs.Coding.{decoded}
 use Rattle.reader.specs.Rule.{rulesWords}
 use Rattle.symbols.specs.Table.{signatureOf}
 use Rattle.reader.specs.File.{symbolsWords, FileParts}
-use Rattle.reader.proofs.TermLaws.{sets-append}
+use Rattle.multisets.proofs.ListLaws.{sets-append}
 use Rattle.reader.proofs.FileLaws.{length-symbolsWords, unpacked-parts, unpacked-length}
 use Rattle.decoder.proofs.NodesLaws.{nodes-fit}
 

@@ -16,7 +16,7 @@ use Rattle.multisets.proofs.Relations.{byTest}
 use Rattle.terms.specs.Signature.{Signature}
 use Rattle.terms.specs.Words.{termOf}
 use Rattle.terms.specs.Order.{mark}
-use Rattle.text.proofs.TextLaws.{sets-append}
+use Rattle.multisets.proofs.ListLaws.{sets-append}
 use Rattle.format.specs.Reading.{Reading, Source}
 use Rattle.format.specs.Reading.Reading.{got, fault}
 use Rattle.format.specs.Format.{Sides, rulesReader}

@@ -1,4 +1,5 @@
--- The laws of multisets and rows, over any likeness and any order.
+-- Laws of plain lists; the laws of multisets and rows, over any likeness and any order.
+pub mod ListLaws
 pub mod Relations
 pub mod RowLaws
 pub mod MultisetLaws

@@ -13,6 +13,7 @@ use native.Mathlib.Numerals.{add-one}
 use native.Mathlib.Omega.{arith}
 use lib.ListN.{length, length-append, getD, set, take}
 use lib.Seq.{sets, take-suc, length-take-le}
+use Rattle.multisets.proofs.ListLaws.{sets-append}
 use Rattle.terms.specs.Signature.{Signature}
 use Rattle.format.specs.Layout.{maxNodes}
 use Rattle.format.specs.Reading.{Reading, andThen, give, Source}
@@ -23,7 +24,6 @@ use Rattle.bits.specs.declared.BitCursor.{BitCursor}
 use Rattle.reader.specs.declared.rule.Stored.{Stored}
 use Rattle.reader.specs.declared.rule.Stored.the-variants.{Past, Fault}
 use Rattle.reader.specs.Rule.{WordsRead, StoredWithin, sideWords, rulesWords}
-use Rattle.reader.proofs.TermLaws.{sets-append}
 
 abbrev pub itself : List ℕ → List ℕ
 itself nodes = nodes

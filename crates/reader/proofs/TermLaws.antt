@@ -1,16 +1,14 @@
 -- What the code that reads terms has to show at each of its ends.
---     sets-append                          words stored after words
 --     fewer-allowed, owed-fits             one node fewer is allowed, and what is owed stays small
 --     node-read, node-unknown              what follows a node, by its cell in the table of arities
 --     answers-none, answers-many, answers-fault, answers-before     the number that answers a reading
 --     side-read, side-fault                a side, from that number
 use mathlib.Core.Path.{_≡_, sym, ap, _∙_}
-use mathlib.Core.List.{List, [], _∷_, _++_}
+use mathlib.Core.List.{List, []}
 use Prim.Native.Nat.{ℕ, suc, _+_, _-_, _*_, _/_, _%_, _^_, _≤_, _<_}
-use native.Mathlib.Nat.{add-zero, suc-add, add-suc}
 use native.Mathlib.Omega.{arith}
 use lib.ListN.{length, getD, set, take, drop}
-use lib.Seq.{sets, sets-eq, take-append-seam}
+use lib.Seq.{sets-eq, take-append-seam}
 use Rattle.multisets.proofs.Relations.{byOrder}
 use Rattle.terms.specs.Signature.{Signature, symbolOf}
 use Rattle.terms.specs.Words.{firstVariable}
@@ -24,10 +22,6 @@ use Rattle.format.proofs.ForestLaws.{symbol-read}
 use Rattle.symbols.specs.Arities.{cellOf, Arities}
 use Rattle.symbols.proofs.ArityLaws.{variable-cell, symbol-cell, no-cell}
 use Rattle.reader.specs.Term.{numbered, Answers}
-
-pub sets-append : (l : List ℕ) (i : ℕ) (xs ys : List ℕ) → sets l i (xs ++ ys) ≡ sets (sets l i xs) (i + length xs) ys
-sets-append l i [] ys = rw add-zero
-sets-append l i (x ∷ xs) ys = sets-append (set l i x) (suc i) xs ys ∙ rw (suc-add, add-suc)
 
 -- ---- a node by its cell
 

@@ -1,16 +1,16 @@
 -- Decimal numbers digit by digit, and text stored in a buffer.
 --     decimal-small, decimal-large     the last digit, and the digits before it
 --     length-decimal, decimal-few      how many digits there are at most
---     sets-append                      one text stored after another
 use mathlib.Core.List.{List, [], _∷_, _++_, append-assoc}
 use mathlib.Core.Path.{_≡_, sym, ap, _∙_}
 use Prim.Native.Nat.{ℕ, suc, zero, _+_, _-_, _/_, _%_, _^_, _≤_, _<_}
-use native.Mathlib.Nat.{add-zero, zero-add, suc-add, add-suc, pow-succ'}
+use native.Mathlib.Nat.{zero-add, pow-succ'}
 use native.Mathlib.Omega.{arith}
 use lib.IntN.{subℕ}
-use lib.ListN.{length, getD, take, length-append, set}
+use lib.ListN.{length, getD, take, length-append}
 use lib.Seq.{sets, length-sets, length-take-le, take-suc, take-all}
 use borrow.Author.Tests.{lt-ltb, le-ltb}
+use Rattle.multisets.proofs.ListLaws.{sets-append}
 use Rattle.multisets.proofs.Relations.{byOrder}
 use Rattle.text.specs.Put.{Put}
 use Rattle.operations.specs.Text.{digits, decimal, signedDecimal, line}
@@ -66,10 +66,6 @@ digits-few (suc k) (suc m) n h =
 
 pub decimal-few : (k n : ℕ) → n < 10 ^ suc k → length (decimal n) ≤ suc k
 decimal-few k n h = digits-few k (suc n) n h
-
-pub sets-append : (l : List ℕ) (i : ℕ) (xs ys : List ℕ) → sets l i (xs ++ ys) ≡ sets (sets l i xs) (i + length xs) ys
-sets-append l i [] ys = rw add-zero
-sets-append l i (x ∷ xs) ys = sets-append (set l i x) (suc i) xs ys ∙ rw (suc-add, add-suc)
 
 -- ---- text put into a list
 

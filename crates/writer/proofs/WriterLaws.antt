@@ -6,7 +6,7 @@
 use mathlib.Core.List.{List, [], _∷_, _++_}
 use mathlib.Core.Path.{_≡_, refl, sym, ap, _∙_}
 use Prim.Native.Nat.{ℕ, suc, zero, _+_, _-_, _*_, _/_, _%_, _^_, _≤_, _<_}
-use native.Mathlib.Nat.{add-zero, zero-add, add-suc, suc-add, mod-lt, mod-eq-of-lt, lt-of-lt-of-le}
+use native.Mathlib.Nat.{add-zero, zero-add, mod-lt, mod-eq-of-lt, lt-of-lt-of-le}
 use native.Mathlib.Decide.{decLt}
 use native.Mathlib.Numerals.{add-one}
 use native.Mathlib.Omega.{arith}
@@ -15,6 +15,7 @@ use lib.Seq.{sets, getD-append-add}
 use lib.Pow.{high, low, pow-pos, pow-add, pow-mono, shr-lt, shl-lt}
 use lib.Arith.{digits-lt}
 use borrow.Author.Tests.{lt-ltb, le-ltb}
+use Rattle.multisets.proofs.ListLaws.{sets-append}
 use Rattle.format.specs.Reading.{spelt}
 use Rattle.format.specs.Packing.{bitsOf, bytesFrom, bytesOf}
 use Rattle.writer.specs.declared.BitWriter.{BitWriter}
@@ -36,10 +37,6 @@ bitOf bits i = getD bits i 0
 -- The number that the bits of byte n spell.
 abbrev byteOf : List ℕ → ℕ → ℕ
 byteOf bits n = spelt (bitOf bits) (8 * n) 8
-
-pub sets-append : (l : List ℕ) (i : ℕ) (xs ys : List ℕ) → sets l i (xs ++ ys) ≡ sets (sets l i xs) (i + length xs) ys
-sets-append l i [] ys = rw add-zero
-sets-append l i (x ∷ xs) ys = sets-append (set l i x) (suc i) xs ys ∙ rw (suc-add, add-suc)
 
 pub writes-none : (old : List ℕ) → Writes old [] (record { stored = 0; pending = 0; count = 0 }) old
 writes-none old = record { binary = λ i. omega arith; total = refl; waiting = refl; front = refl }

@@ -1,3 +1,2 @@
 -- What the code of cases cites.
 mod CloseLaws
-mod SignLaws

@@ -1,5 +1,5 @@
 // Printing what the operations give back.
-ghost use Prim.Native.Nat.{_+_, _^_, _≤_, _<_};
+ghost use Prim.Native.Nat.{_<_};
 ghost use Rattle.io.specs.Counts.{Counts};
 use comparing::compare;
 use encoder::encode::encode;
@@ -87,34 +87,13 @@ fn relation_number(relation: Relation) -> u64
     }
 }
 
-// A number without its sign; !n is -n - 1.
-fn magnitude(n: i64) -> u64
-    ensures { λ r. ⌜ r < 10 ^ 19 ⌝ }
-{
-    if n < 0 {
-        return !n as u64 + 1;
-    }
-    n as u64
-}
-
-// Writes a signed number.
-fn put_signed(out: &mut [u8], at: usize, n: i64) -> usize
-    requires { ⌜ at < 2 ^ 31 ⌝ }
-    ensures { λ r. ⌜ r ≤ at + 20 ⌝ }
-{
-    if n < 0 {
-        return text::put_difference(out, at, 0, magnitude(n));
-    }
-    text::put_difference(out, at, magnitude(n), 0)
-}
-
 // Prints the number of a relation, and a margin.
 fn print_relation(number: u64, margin: i64)
     requires { ⌜ number < 10 ⌝ }
 {
     let mut line = [0u8; 32];
     let start = text::put_number(&mut line, 0, number, b' ');
-    let end = put_signed(&mut line, start, margin);
+    let end = text::put_signed(&mut line, start, margin);
     let past = text::put_byte(&mut line, end, b'\n');
     print(&line[..past]);
 }

@@ -1,5 +1,5 @@
 -- What the code of marking cites.
-pub mod RuleLaws
-pub mod OrientLaws
+pub mod WalkLaws
+pub mod SideLaws
 pub mod MarkLaws
 pub mod ReportLaws

@@ -1,29 +1,30 @@
 -- What marking gives back, by what its bytes read as.
 --     is-table                                 the table that reading leaves
+--     fault-small                              where a fault may lie
 --     mark-fault, mark-short, mark-written     the ends of marking
---     front-stored                             the marks that were kept elsewhere
+--     found-front                              the marks that were kept elsewhere
 use mathlib.Core.List.{List}
-use mathlib.Core.Path.{_≡_, _∙_}
+use mathlib.Core.Path.{_≡_, sym, _∙_}
 use Prim.Native.Nat.{ℕ, _+_, _*_, _^_, _≤_, _<_}
 use native.Mathlib.Omega.{arith}
 use native.Mathlib.Nat.{zero-add}
-use lib.ListN.{length, take, drop}
-use lib.Seq.{sets, sets-eq, take-append-seam}
+use lib.IntN.{ℤ}
+use lib.ListN.{length, take, length-map}
+use lib.Seq.{sets, sets-eq}
 use borrow.Author.Tests.{le-leb, lt-leb}
 use Rattle.multisets.proofs.Relations.{byOrder}
 use Rattle.format.specs.Errors.{fileTooLong, marksTooShort}
 use Rattle.format.specs.Layout.{maxBytes}
 use Rattle.format.specs.Reading.Reading.{got, fault}
-use Rattle.terms.specs.Signature.{Signature}
-use Rattle.format.specs.Format.{Sides}
+use Rattle.format.specs.Format.{RuleFile, systemOf}
 use Rattle.format.specs.Files.{readBytes}
 use Rattle.operations.specs.Replies.Reply.{accepted, refused}
 use Rattle.format.proofs.Theorems.{faults-within}
 use Rattle.reader.specs.File.{HeadParts}
 use Rattle.reader.proofs.FileLaws.{table-of}
-use Rattle.operations.specs.Marking.{decreasingCount, scoreOf, marked}
-use Rattle.marking.specs.Rule.{IsTable, sidesMarks}
-use Rattle.marking.proofs.RuleLaws.{length-marks}
+use Rattle.operations.specs.Marking.{marksOf, scoreOf, marked}
+use Rattle.marking.specs.Rule.{IsTable, MarkedAs}
+use Rattle.marking.proofs.WalkLaws.{stored-front}
 
 pub is-table : (bytes table : List ℕ) (symbols rules offset : ℕ) → 1021 ≡ length table →
     HeadParts bytes table symbols rules offset → IsTable (take (1 + 4 * symbols) table)
@@ -47,34 +48,32 @@ module _ (bytes marks : List ℕ) where
   unfolding marked
   mark-fault code offset e = (rw e, rw e)
 
-  module _ (σ : Signature) (rules : List Sides) (end : ℕ)
-      (e : readBytes bytes ≡ got (record { signature = σ; rules = rules }) end) (count : ℕ) (k : length rules ≡ count)
-    where
-      pub mark-short : length marks < count →
-          (refused (record { code = marksTooShort; input = 1; offset = 0 }) ≡ marked bytes marks .reply)
-          × (marks ≡ marked bytes marks .output)
-      unfolding marked
-      mark-short h =
-          let no = lt-leb (length rules) (length marks) (omega arith) in
-          (rw (e, no), rw (e, no))
+  module _ (file : RuleFile) (end : ℕ) (e : readBytes bytes ≡ got file end) (rules decreasing : ℕ)
+      (before found : List ℕ) (margins₀ margins : List ℤ)
+      (m : MarkedAs file rules decreasing before found margins₀ margins) where
+    pub mark-short : length marks < rules →
+        (refused (record { code = marksTooShort; input = 1; offset = 0 }) ≡ marked bytes marks .reply)
+        × (marks ≡ marked bytes marks .output)
+    unfolding marked
+    mark-short h =
+        let no = lt-leb (length (file .rules)) (length marks) (omega (arith, m .count)) in
+        (rw (e, no), rw (e, no))
 
-      pub mark-written : (decreasing score : ℕ) (out : List ℕ) → count ≤ length marks →
-          decreasing ≡ decreasingCount (sidesMarks σ rules) → score ≡ scoreOf decreasing count →
-          out ≡ sets marks 0 (sidesMarks σ rules) →
-          (accepted (record { rules = count; decreasing = decreasing; score = score }) ≡ marked bytes marks .reply)
-          × (out ≡ marked bytes marks .output)
-      unfolding marked
-      mark-written decreasing score out h d q w =
-          let n : length (sidesMarks σ rules) ≡ count = length-marks σ rules ∙ k in
-          let fits = le-leb (length rules) (length marks) (omega arith) in (
-            rw (e, fits, q, n, ← d),
-            w ∙ rw (e, fits, sets-eq (sidesMarks σ rules) marks 0 (omega arith), zero-add),
-          )
+    length-marks : length (marksOf (systemOf file)) ≡ rules
+    length-marks = length-map (systemOf file .rules) _ ∙ length-map (file .rules) _ ∙ sym (m .count)
 
--- The marks that stand first, once stored.
-pub front-stored : (σ : Signature) (rules : List Sides) (before after : List ℕ) (count : ℕ) → length rules ≡ count →
-    count ≤ length before → after ≡ sets before 0 (sidesMarks σ rules) → take count after ≡ sidesMarks σ rules
-front-stored σ rules before after count k room stored =
-    let l = sidesMarks σ rules in
-    let n : length l ≡ count = length-marks σ rules ∙ k in
-    rw (stored, ← n, sets-eq l before 0 (omega arith)) (take-append-seam l (drop (0 + length l) before))
+    -- The marks that were found stand first.
+    pub found-front : rules ≤ length before → take rules found ≡ marksOf (systemOf file)
+    found-front room = stored-front (marksOf (systemOf file)) before found rules length-marks room (m .marks)
+
+    pub mark-written : (score : ℕ) (out : List ℕ) → rules ≤ length marks → rules ≤ length before →
+        score ≡ scoreOf decreasing rules → out ≡ sets marks 0 (take rules found) →
+        (accepted (record { rules = rules; decreasing = decreasing; score = score }) ≡ marked bytes marks .reply)
+        × (out ≡ marked bytes marks .output)
+    unfolding marked
+    mark-written score out h room q w =
+        let n = length-marks in
+        let fits = le-leb (length (file .rules)) (length marks) (omega (arith, m .count)) in (
+          rw (e, fits, q, n, m .falling),
+          w ∙ rw (e, fits, found-front room, sets-eq (marksOf (systemOf file)) marks 0 (omega arith), zero-add),
+        )

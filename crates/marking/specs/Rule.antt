@@ -1,64 +1,84 @@
--- What orienting the rules of a packed file gives: a rule's mark and the weights of its sides, and all marks.
--- Renders: 01, "Replies and refusals", Marking: "One mark byte a rule is written".
-use mathlib.Core.List.{List}
+-- What marking the rules of a packed file gives: a rule's mark and margin, and those of all rules.
+use mathlib.Core.List.{List, map}
 use mathlib.Core.Path.{_≡_}
-use Prim.Native.Nat.{ℕ, _^_, _≤_, _<_}
+use Prim.Native.Nat.{ℕ, _≤_, _<_}
+use lib.IntN.{ℤ}
 use lib.ListN.{length}
 use lib.Seq.{sets}
 use Rattle.terms.specs.Signature.{Signature, Admissible}
-use Rattle.terms.specs.Term.{weight}
 use Rattle.terms.specs.Words.{termOf}
-use Rattle.terms.specs.Order.{mark}
+use Rattle.terms.specs.Order.{mark, margin}
 use Rattle.format.specs.Reading.{Reading}
 use Rattle.format.specs.Reading.Reading.{got, fault}
-use Rattle.format.specs.Format.{Sides, systemOf}
+use Rattle.format.specs.Format.{Sides, RuleFile, systemOf}
+use Rattle.operations.specs.Marking.{marksOf, marginsOf, decreasingCount}
 use Rattle.symbols.specs.Table.{signatureOf}
-use Rattle.marking.specs.declared.rule.Oriented.{Oriented}
+use Rattle.marking.specs.declared.rule.MarkedRule.{MarkedRule}
 use Rattle.marking.specs.declared.rule.RuleReading.{RuleReading}
-use Rattle.marking.specs.declared.rule.RuleReading.the-variants.{Got, Fault}
-use Rattle.marking.specs.declared.mark.RulesMarked.{RulesMarked}
-use Rattle.marking.specs.declared.mark.RulesMarked.the-variants.{Marked}
-use Rattle.marking.specs.declared.mark.RulesMarked.the-variants as marked
-use Rattle.operations.specs.Marking.{marksOf, decreasingCount}
-use Rattle.operations.specs.Report.{ruleLines}
+use Rattle.marking.specs.declared.rule.RuleReading.the-variants as rule
+use Rattle.marking.specs.declared.walk.RulesMarked.{RulesMarked}
+use Rattle.marking.specs.declared.walk.RulesMarked.the-variants as rules
+use Rattle.marking.specs.declared.walk.FileMarked.{FileMarked}
+use Rattle.marking.specs.declared.walk.FileMarked.the-variants as file
 
 -- A table as reading leaves it: of at most 255 symbols, and admissible.
 pub record IsTable (table : List ℕ) : Type 0 where
   pub short : length table ≤ 1021
   pub admissible : Admissible (signatureOf table)
 
--- The marks of rules given by the node words of their sides.
-abbrev pub sidesMarks : Signature → List Sides → List ℕ
-sidesMarks σ rules = marksOf (systemOf (record { signature = σ; rules = rules }))
+module _ (σ : Signature) where
+  -- The mark and the margin of a rule given by the node words of its sides.
+  abbrev pub sidesMark : Sides → ℕ
+  sidesMark r = mark σ (termOf σ (r .left)) (termOf σ (r .right))
 
--- Their lines, the first of them with that number.
-abbrev pub sidesLines : Signature → ℕ → List Sides → List ℕ
-sidesLines σ n rules = ruleLines σ n (systemOf (record { signature = σ; rules = rules }) .rules)
+  abbrev pub sidesMargin : Sides → ℤ
+  sidesMargin r = margin σ (termOf σ (r .left)) (termOf σ (r .right))
 
--- The mark of a rule, and the weights of its sides.
-pub record Orients (σ : Signature) (r : Sides) (o : Oriented) : Type 0 where
-  pub mark : o .mark ≡ mark σ (termOf σ (r .left)) (termOf σ (r .right))
-  pub left : o .left ≡ weight σ (termOf σ (r .left))
-  pub right : o .right ≡ weight σ (termOf σ (r .right))
+  pub record Marks (r : Sides) (m : MarkedRule) : Type 0 where
+    pub mark : m .mark ≡ sidesMark r
+    pub margin : m .margin ≡ sidesMargin r
 
--- What was read, the sides that it makes, and the answer: the rule is oriented, and the cursor stands past it.
-abbrev pub OrientsRead : {A : Type 0} → Signature → (A → Sides) → Reading A → RuleReading → Type 0
-OrientsRead {A} σ sidesOf reading (Got o) = (a : A) × (reading ≡ got a (o .next .at)) × Orients σ (sidesOf a) o
-OrientsRead σ sidesOf reading (Fault code offset) = reading ≡ fault code offset
+  -- What was read, the sides that it makes, and the answer: the rule is marked, and the cursor stands past it.
+  abbrev pub MarksRead : {A : Type 0} → (A → Sides) → Reading A → RuleReading → Type 0
+  MarksRead {A} sidesOf reading (rule.Got m) = (a : A) × (reading ≡ got a (m .next .at)) × Marks (sidesOf a) m
+  MarksRead sidesOf reading (rule.Fault code offset) = reading ≡ fault code offset
 
--- The weights are small, and the rule ends by that offset.
-abbrev pub OrientedWithin : ℕ → RuleReading → Type 0
-OrientedWithin end (Got o) = (o .left < 10 ^ 19) × (o .right < 10 ^ 19) × (o .next .at ≤ end)
-OrientedWithin end (Fault code offset) = Unit {0}
+  -- So many of the rules decrease, and their marks and margins stand first in the lists, as far as there is room.
+  pub record Listed (rules : List Sides) (decreasing : ℕ) (marks₀ marks₁ : List ℕ) (margins₀ margins₁ : List ℤ) : Type 0
+    where
+      pub falling : decreasing ≡ decreasingCount (map sidesMark rules)
+      pub marks : marks₁ ≡ sets marks₀ 0 (map sidesMark rules)
+      pub margins : margins₁ ≡ sets margins₀ 0 (map sidesMargin rules)
 
--- What was read of all rules, the marks before, the answer, and the marks after.
-abbrev pub MarksRead : Signature → Reading (List Sides) → List ℕ → RulesMarked → List ℕ → Type 0
-MarksRead σ reading before (Marked decreasing next) after =
-    (rules : List Sides) × (reading ≡ got rules (next .at)) × (decreasing ≡ decreasingCount (sidesMarks σ rules))
-    × (after ≡ sets before 0 (sidesMarks σ rules))
-MarksRead σ reading before (marked.Fault code offset) after = reading ≡ fault code offset
+  -- What was read of all rules, the answer, and the lists before and after.
+  abbrev pub AllMarked : Reading (List Sides) → RulesMarked → List ℕ → List ℕ → List ℤ → List ℤ → Type 0
+  AllMarked reading (rules.Marked decreasing next) marks₀ marks margins₀ margins =
+      (rs : List Sides) × (reading ≡ got rs (next .at)) × Listed rs decreasing marks₀ marks margins₀ margins
+  AllMarked reading (rules.Fault code offset) marks₀ marks margins₀ margins = reading ≡ fault code offset
+
+-- The rule ends by that offset.
+abbrev pub MarkedWithin : ℕ → RuleReading → Type 0
+MarkedWithin end (rule.Got m) = m .next .at ≤ end
+MarkedWithin end (rule.Fault code offset) = Unit {0}
 
 -- That many rules decrease at most, and the last ends by that offset.
-abbrev pub MarkedWithin : ℕ → ℕ → RulesMarked → Type 0
-MarkedWithin most end (Marked decreasing next) = (decreasing ≤ most) × (next .at ≤ end)
-MarkedWithin most end (marked.Fault code offset) = Unit {0}
+abbrev pub AllWithin : ℕ → ℕ → RulesMarked → Type 0
+AllWithin most end (rules.Marked decreasing next) = (decreasing ≤ most) × (next .at ≤ end)
+AllWithin most end (rules.Fault code offset) = Unit {0}
+
+-- A file's rules are counted, with those that decrease, and their marks and margins stand first in the lists, as far as
+-- there is room.
+pub record MarkedAs (f : RuleFile) (rules decreasing : ℕ) (marks₀ marks₁ : List ℕ) (margins₀ margins₁ : List ℤ) : Type 0
+  where
+    pub count : rules ≡ length (f .rules)
+    pub few : rules < 1024
+    pub most : decreasing ≤ rules
+    pub falling : decreasing ≡ decreasingCount (marksOf (systemOf f))
+    pub marks : marks₁ ≡ sets marks₀ 0 (marksOf (systemOf f))
+    pub margins : margins₁ ≡ sets margins₀ 0 (marginsOf (systemOf f))
+
+-- What was read of a file, the answer, and the lists before and after.
+abbrev pub WholeMarked : Reading RuleFile → FileMarked → List ℕ → List ℕ → List ℤ → List ℤ → Type 0
+WholeMarked reading (file.Marked rules decreasing) marks₀ marks margins₀ margins =
+    (f : RuleFile) × (end : ℕ) × (reading ≡ got f end) × MarkedAs f rules decreasing marks₀ marks margins₀ margins
+WholeMarked reading (file.Fault code offset) marks₀ marks margins₀ margins = reading ≡ fault code offset

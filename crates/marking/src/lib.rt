@@ -1,5 +1,6 @@
 // Marking the rules of a rule file, and the text that `marker` prints.
-pub mod lines;
+mod lines;
 pub mod mark;
 pub mod report;
-pub mod rule;
+mod rule;
+mod walk;

@@ -1,11 +1,12 @@
 // The lines that `marker` prints.
 ghost use mathlib.Core.Path.{_≡_};
 ghost use mathlib.Core.List.{[], _∷_};
-ghost use Prim.Native.Nat.{_+_, _^_, _≤_, _<_};
-ghost use lib.IntN.{subℕ};
+ghost use Prim.Native.Nat.{_+_, _*_, _^_, _≤_, _<_};
 ghost use lib.ListN.{length};
 ghost use lib.Seq.{sets};
 ghost use Rattle.operations.specs.Text.{ascii, decimal, signedDecimal, line};
+ghost use Rattle.operations.specs.Report.{ruleLines};
+ghost use Rattle.text.specs.Put.{Put};
 
 // The line of a refusal.
 pub fn put_refusal(out: &mut [u8], code: u64, offset: u64) -> usize
@@ -35,20 +36,40 @@ pub fn put_count(out: &mut [u8], at: usize, word: &[u8], n: u64) -> usize
     text::put_number(out, next, n, b'\n')
 }
 
-// The line of a rule: its number, its mark, and the weight of its left side less that of its right side.
-pub fn put_rule(out: &mut [u8], at: usize, number: u64, mark: u64, left: u64, right: u64) -> usize
-    requires { ⌜ (at < 2 ^ 30) × (number < 10 ^ 9) × (mark < 10 ^ 9) × (left < 10 ^ 19) × (right < 10 ^ 19) ⌝ }
+// The line of a rule: its number, its mark and its margin.
+fn put_rule(out: &mut [u8], at: usize, number: u64, mark: u64, margin: i64) -> usize
+    requires { ⌜ (at < 2 ^ 30) × (number < 10 ^ 9) × (mark < 10 ^ 9) ⌝ }
     ensures { λ r. ⌜
-        r ≡ at + length (line (decimal number ∷ decimal mark ∷ signedDecimal (subℕ left right) ∷ []))
-        ⌝ }
-    ensures { λ _. ⌜
-        now (out .exit)
-        ≡ sets (now (out .entry)) at (line (decimal number ∷ decimal mark ∷ signedDecimal (subℕ left right) ∷ []))
+        Put (now (out .entry)) at (line (decimal number ∷ decimal mark ∷ signedDecimal margin ∷ [])) r (now (out .exit))
         ⌝ }
     ensures { λ r. ⌜ r ≤ at + 41 ⌝ }
 {
     let second = text::put_number(out, at, number, b' ');
     let third = text::put_number(out, second, mark, b' ');
-    let end = text::put_difference(out, third, left, right);
+    let end = text::put_signed(out, third, margin);
     text::put_byte(out, end, b'\n')
+}
+
+// The byte as a number.
+pub fn long(byte: u8) -> u64
+    ensures { λ r. ⌜ (r ≡ byte) × (r < 256) ⌝ }
+{
+    byte as u64
+}
+
+// The lines of all rules, by their marks and margins.
+pub fn put_rules(out: &mut [u8], at: usize, marks: &[u8], margins: &[i64]) -> usize
+    requires { ⌜ (at < 2 ^ 20) × (length (now marks) < 1024) × (length (now margins) ≡ length (now marks)) ⌝ }
+    ensures { λ r. ⌜
+        Put (now (out .entry)) at (ruleLines 0 (now (marks .entry)) (now (margins .entry))) r (now (out .exit))
+        ⌝ }
+    ensures { λ r. ⌜ r ≤ at + 41 * length (now (marks .entry)) ⌝ }
+{
+    let mut end = at;
+    let mut i = 0;
+    while i < marks.len() {
+        end = put_rule(out, end, i as u64, long(marks[i]), margins[i]);
+        i += 1;
+    }
+    end
 }

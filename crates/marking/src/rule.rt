@@ -1,7 +1,7 @@
-// Orienting one rule.
+// Marking one rule.
 ghost use mathlib.Core.Path.{_≡_};
 ghost use mathlib.Core.List.{List};
-ghost use Prim.Native.Nat.{ℕ, _*_, _≤_, _<_, _^_};
+ghost use Prim.Native.Nat.{ℕ, _*_, _≤_};
 ghost use lib.ListN.{length};
 ghost use Rattle.format.specs.Layout.{maxBytes, maxNodes};
 ghost use Rattle.format.specs.Reading.{bitSource};
@@ -11,56 +11,55 @@ ghost use Rattle.symbols.specs.Table.{signatureOf};
 ghost use Rattle.symbols.specs.Arities.{Arities};
 ghost use Rattle.format.specs.Format.{ruleReader};
 ghost use Rattle.order.specs.Sums.{NodeSums};
-ghost use Rattle.marking.specs.Rule.{IsTable, Orients, OrientsRead, OrientedWithin};
+ghost use Rattle.marking.specs.Rule.{IsTable, Marks, MarksRead, MarkedWithin};
 use bits::BitCursor;
 use order::mark::mark;
+use order::relation::margin;
 use order::sums::total;
 use reader::term::Side;
 use reader::term::read_side;
 
-// A rule's mark, the weights of its sides, and the cursor past it.
-pub struct Oriented {
+// A rule's mark and margin, and the cursor past it.
+pub struct MarkedRule {
     pub mark: u8,
-    pub left: u64,
-    pub right: u64,
+    pub margin: i64,
     pub next: BitCursor,
 }
 
-// An oriented rule, or an error's code and offset.
+// A rule that was marked, or an error's code and offset.
 pub enum RuleReading {
-    Got(Oriented),
-    Fault(u8, usize),
+    Got(MarkedRule),
+    Fault { code: u8, offset: usize },
 }
 
-// Orients a rule with these sides.
-fn orient_sides(
+// Marks a rule with these sides.
+fn mark_sides(
     table: &[u16],
     adds: &[u64; 816],
     left: &[u16],
     right: &[u16],
     next: BitCursor,
-) -> Oriented
+) -> MarkedRule
     requires { ⌜
         IsTable (now table) × IsTerm (signatureOf (now table)) (now left) × IsTerm (signatureOf (now table)) (now right)
         × NodeSums (signatureOf (now table)) (now adds)
         ⌝ }
-    ensures { λ o. ⌜
-        Orients (signatureOf (now (table .entry))) (record { left = now (left .entry); right = now (right .entry) }) o
+    ensures { λ r. ⌜
+        Marks (signatureOf (now (table .entry))) (record { left = now (left .entry); right = now (right .entry) }) r
         ⌝ }
-    ensures { λ o. ⌜ (o .left < 10 ^ 19) × (o .right < 10 ^ 19) × (o .next .at ≡ next .at) ⌝ }
+    ensures { λ r. ⌜ r .next .at ≡ next .at ⌝ }
 {
     let s = total(adds, left);
     let t = total(adds, right);
-    Oriented {
+    MarkedRule {
         mark: mark(table, adds, left, s, right, t),
-        left: s.weight,
-        right: t.weight,
+        margin: margin(s, t),
         next,
     }
 }
 
-// Reads the right side of a rule with this left side, and orients the rule.
-fn orient_right(
+// Reads the right side of a rule with this left side, and marks the rule.
+fn mark_right(
     book: &[u8],
     table: &[u16],
     arities: &[u32; 272],
@@ -74,16 +73,16 @@ fn orient_right(
         × IsTerm (signatureOf (now table)) (now left) × NodeSums (signatureOf (now table)) (now adds)
         ⌝ }
     ensures { λ r. ⌜
-        OrientsRead (signatureOf (now (table .entry)))
+        MarksRead (signatureOf (now (table .entry)))
         (λ (right : List ℕ). record { left = now (left .entry); right = right })
         (forestReader (bitSource (now (book .entry))) (signatureOf (now (table .entry))) maxNodes 1 (cursor .at)) r
         ⌝ }
-    ensures { λ r. ⌜ OrientedWithin (8 * length (now (book .entry))) r ⌝ }
+    ensures { λ r. ⌜ MarkedWithin (8 * length (now (book .entry))) r ⌝ }
 {
     let mut right = [0u16; 128];
     match read_side(book, arities, &mut right, cursor) {
-        Side::Fault(code, offset) => RuleReading::Fault(code, offset),
-        Side::Read(count, next) => RuleReading::Got(orient_sides(
+        Side::Fault(code, offset) => RuleReading::Fault { code, offset },
+        Side::Read(count, next) => RuleReading::Got(mark_sides(
             table,
             adds,
             left,
@@ -93,8 +92,8 @@ fn orient_right(
     }
 }
 
-// Reads a rule and orients it.
-pub fn orient(
+// Reads a rule and marks it.
+pub fn mark_rule(
     book: &[u8],
     table: &[u16],
     arities: &[u32; 272],
@@ -107,21 +106,14 @@ pub fn orient(
         × NodeSums (signatureOf (now table)) (now adds)
         ⌝ }
     ensures { λ r. ⌜
-        OrientsRead (signatureOf (now (table .entry))) (λ (sides : Sides). sides)
+        MarksRead (signatureOf (now (table .entry))) (λ (sides : Sides). sides)
         (ruleReader (bitSource (now (book .entry))) (signatureOf (now (table .entry))) (cursor .at)) r
         ⌝ }
-    ensures { λ r. ⌜ OrientedWithin (8 * length (now (book .entry))) r ⌝ }
+    ensures { λ r. ⌜ MarkedWithin (8 * length (now (book .entry))) r ⌝ }
 {
     let mut left = [0u16; 128];
     match read_side(book, arities, &mut left, cursor) {
-        Side::Fault(code, offset) => RuleReading::Fault(code, offset),
-        Side::Read(count, middle) => orient_right(
-            book,
-            table,
-            arities,
-            adds,
-            &left[..count],
-            middle,
-        ),
+        Side::Fault(code, offset) => RuleReading::Fault { code, offset },
+        Side::Read(count, middle) => mark_right(book, table, arities, adds, &left[..count], middle),
     }
 }

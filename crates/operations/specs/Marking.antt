@@ -4,10 +4,11 @@
 use mathlib.Core.List.{List, map}
 use mathlib.Core.Bool.{Bool, cond, _&&_}
 use Prim.Native.Nat.{ℕ, _*_, _/_}
+use lib.IntN.{ℤ}
 use lib.ListN.{length}
 use lib.Dec.{eqb, leb}
 use Rattle.multisets.specs.Multiset.{choose}
-use Rattle.terms.specs.Order.{mark}
+use Rattle.terms.specs.Order.{mark, margin}
 use Rattle.terms.specs.Rewriting.{System, Rule}
 use Rattle.format.specs.Errors.{marksTooShort}
 use Rattle.format.specs.Format.{systemOf}
@@ -18,6 +19,9 @@ use Rattle.operations.specs.Replies.Reply.{accepted}
 
 abbrev pub marksOf : System → List ℕ
 marksOf R = map (λ (r : Rule). mark (R .signature) (r .left) (r .right)) (R .rules)
+
+abbrev pub marginsOf : System → List ℤ
+marginsOf R = map (λ (r : Rule). margin (R .signature) (r .left) (r .right)) (R .rules)
 
 -- A mark of the order: 1 to 6.
 abbrev pub isDecreasing : ℕ → Bool

@@ -7,26 +7,25 @@ use mathlib.Core.Bool.{cond}
 use Prim.Native.Nat.{ℕ, suc}
 use Prim.Native.String.{String}
 use lib.Dec.{eqb}
-use Rattle.terms.specs.Signature.{Signature}
-use Rattle.terms.specs.Order.{mark, margin}
-use Rattle.terms.specs.Rewriting.{System, Rule}
+use lib.IntN.{ℤ}
+use Rattle.terms.specs.Rewriting.{System}
 use Rattle.operations.specs.Text.{ascii, decimal, signedDecimal, line}
 use Rattle.format.specs.Reading.{Reading}
 use Rattle.format.specs.Reading.Reading.{got, fault}
 use Rattle.format.specs.Format.{RuleFile, systemOf}
 use Rattle.format.specs.Files.{readBytes}
 use Rattle.operations.specs.declared.Summary.{Summary}
-use Rattle.operations.specs.Marking.{marksOf, summaryOf}
+use Rattle.operations.specs.Marking.{marksOf, marginsOf, summaryOf}
 
 abbrev pub verdict : Summary → String
 verdict s = cond (eqb (s .decreasing) (s .rules)) "accepted" "returned"
 
--- The lines of rules, the first of them with that number.
-abbrev pub ruleLines : Signature → ℕ → List Rule → List ℕ
-ruleLines σ n [] = []
-ruleLines σ n (r ∷ rs) =
-    line (decimal n ∷ decimal (mark σ (r .left) (r .right)) ∷ signedDecimal (margin σ (r .left) (r .right)) ∷ []) ++
-    ruleLines σ (suc n) rs
+-- The lines of rules by their marks and margins, the first of them with that number.
+abbrev pub ruleLines : ℕ → List ℕ → List ℤ → List ℕ
+ruleLines n [] margins = []
+ruleLines n (m ∷ marks) [] = []
+ruleLines n (m ∷ marks) (d ∷ margins) =
+    line (decimal n ∷ decimal m ∷ signedDecimal d ∷ []) ++ ruleLines (suc n) marks margins
 
 -- The last two lines.
 abbrev pub summaryLines : Summary → List ℕ
@@ -36,7 +35,7 @@ abbrev pub marksText : System → List ℕ
 marksText R =
     let summary = summaryOf (marksOf R) in
     line (ascii "rules" ∷ decimal (summary .rules) ∷ []) ++
-    (ruleLines (R .signature) 0 (R .rules) ++ summaryLines summary)
+    (ruleLines 0 (marksOf R) (marginsOf R) ++ summaryLines summary)
 
 abbrev pub textOf : Reading RuleFile → List ℕ
 textOf (got file at) = marksText (systemOf file)

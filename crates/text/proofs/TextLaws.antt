@@ -3,17 +3,16 @@
 --     length-decimal, decimal-few      how many digits there are at most
 use mathlib.Core.List.{List, [], _∷_, _++_, append-assoc}
 use mathlib.Core.Path.{_≡_, sym, ap, _∙_}
-use Prim.Native.Nat.{ℕ, suc, zero, _+_, _-_, _/_, _%_, _^_, _≤_, _<_}
+use Prim.Native.Nat.{ℕ, suc, zero, _+_, _/_, _%_, _^_, _≤_, _<_}
 use native.Mathlib.Nat.{zero-add, pow-succ'}
 use native.Mathlib.Omega.{arith}
-use lib.IntN.{subℕ}
 use lib.ListN.{length, getD, take, length-append}
 use lib.Seq.{sets, length-sets, length-take-le, take-suc, take-all}
 use borrow.Author.Tests.{lt-ltb, le-ltb}
 use Rattle.multisets.proofs.ListLaws.{sets-append}
 use Rattle.multisets.proofs.Relations.{byOrder}
 use Rattle.text.specs.Put.{Put}
-use Rattle.operations.specs.Text.{digits, decimal, signedDecimal, line}
+use Rattle.operations.specs.Text.{digits, decimal, line}
 
 -- More digits than enough change nothing.
 digits-enough : (k m n : ℕ) → n < k → n < m → digits k n ≡ digits m n
@@ -98,18 +97,6 @@ put-whole l at i r bytes out h k e d = (omega arith, e ∙ rw (take-all i bytes 
 
 pub put-length : (l : List ℕ) (at : ℕ) (text out : List ℕ) → out ≡ sets l at text → length out ≡ length l
 put-length l at text out e = rw e (length-sets l at text)
-
--- ---- a difference with its sign
-
-pub put-negative : (l : List ℕ) (at a b next : ℕ) (mid : List ℕ) (r : ℕ) (out : List ℕ) → a < b →
-    Put l at (45 ∷ []) next mid → Put mid next (decimal (b - a)) r out → Put l at (signedDecimal (subℕ a b)) r out
-put-negative l at a b next mid r out h p q =
-    let n : b - a ≡ suc (b - suc a) = omega arith in
-    rw (lt-ltb a b h, ← n) (put-append l at (45 ∷ []) (decimal (b - a)) next mid r out p q)
-
-pub put-positive : (l : List ℕ) (at a b r : ℕ) (out : List ℕ) → b ≤ a → Put l at (decimal (a - b)) r out →
-    Put l at (signedDecimal (subℕ a b)) r out
-put-positive l at a b r out h p = rw (le-ltb a b h) p
 
 -- ---- lines, word by word
 

@@ -5,7 +5,7 @@ ghost use Prim.Native.Nat.{_+_, _^_, _≤_, _<_};
 ghost use lib.ListN.{length};
 ghost use lib.Seq.{sets};
 ghost use Rattle.operations.specs.Text.{decimal, signedDecimal};
-ghost use lib.IntN.{subℕ};
+ghost use lib.IntN.{natAbs};
 
 // A byte past the end is left out.
 pub fn put_byte(out: &mut [u8], at: usize, byte: u8) -> usize
@@ -58,16 +58,26 @@ pub fn put_bytes(out: &mut [u8], at: usize, bytes: &[u8]) -> usize
     at + i
 }
 
-// The difference of two numbers, with a sign before a negative one.
-pub fn put_difference(out: &mut [u8], at: usize, a: u64, b: u64) -> usize
-    requires { ⌜ (at < 2 ^ 31) × (a < 10 ^ 19) × (b < 10 ^ 19) ⌝ }
-    ensures { λ r. ⌜ r ≡ at + length (signedDecimal (subℕ a b)) ⌝ }
-    ensures { λ _. ⌜ now (out .exit) ≡ sets (now (out .entry)) at (signedDecimal (subℕ a b)) ⌝ }
+// The number without its sign; !n is -n - 1.
+fn magnitude(n: i64) -> u64
+    ensures { λ r. ⌜ r ≡ natAbs n ⌝ }
+{
+    if n < 0 {
+        return !n as u64 + 1;
+    }
+    n as u64
+}
+
+// The decimal digits of a number, with a sign before a negative one.
+pub fn put_signed(out: &mut [u8], at: usize, n: i64) -> usize
+    requires { ⌜ at < 2 ^ 31 ⌝ }
+    ensures { λ r. ⌜ r ≡ at + length (signedDecimal n) ⌝ }
+    ensures { λ _. ⌜ now (out .exit) ≡ sets (now (out .entry)) at (signedDecimal n) ⌝ }
     ensures { λ r. ⌜ r ≤ at + 20 ⌝ }
 {
-    if a < b {
+    if n < 0 {
         let next = put_byte(out, at, b'-');
-        return put_decimal(out, next, b - a);
+        return put_decimal(out, next, magnitude(n));
     }
-    put_decimal(out, at, a - b)
+    put_decimal(out, at, magnitude(n))
 }

@@ -1,13 +1,23 @@
-use mathlib.Core.Path.{sym}
-use lib.Seq.{length-take-le}
+-- The text is within the buffer that it is put into.
+use mathlib.Core.Path.{sym, ap}
+use native.Mathlib.Omega.{arith}
+use lib.ListN.{length}
+use lib.Seq.{length-sets, length-take-le}
 use borrow.Author.Needs.{needs}
 use Rattle.cases.proofs.print.print_report.Statement.{statement}
 use Rattle.cases.proofs.print.print_report.Tie as tie
 
+array-share-prefix-text : tie.Need-array-share-prefix-text
+array-share-prefix-text c =
+    let n = simp length-sets at (ap length (c .report .ensures .1)) in
+    omega (arith, n, c .report .ensures .0 .1, c .before .before .large-buffer .ensures)
+
 slice-aggregate-print : tie.Need-slice-aggregate-print
-slice-aggregate-print c = sym (length-take-le _ (c .before .before .report .last .1 .0) (search needs))
+slice-aggregate-print c =
+    let n = simp length-sets at (ap length (c .before .report .ensures .1)) in
+    sym (length-take-le _ (c .before .report .last .1 .0) (omega (arith, n, c .before .report .ensures .0 .1, c .before .before .before .large-buffer .ensures)))
 
 pub print-report-spec : {M : Type 1} → statement M
 print-report-spec =
-    tie.close (tie.spec (λ c κs. search needs) (λ c. search needs) (λ c κs. search needs) (λ c. search needs)
-    slice-aggregate-print (λ c κs. search needs) (λ c. search needs))
+    tie.close (tie.spec (λ c κs. search needs) (λ c κs. search needs) array-share-prefix-text slice-aggregate-print
+    (λ c κs. search needs) (λ c. search needs))

@@ -1,12 +1,13 @@
+-- The left side is read first, and what follows is what the right side makes of the rule.
 use mathlib.Core.Path.{sym}
 use native.Mathlib.Omega.{arith}
 use lib.Seq.{length-take-le}
 use Rattle.format.specs.Reading.{bitSource}
 use Rattle.symbols.specs.Table.{signatureOf}
-use Rattle.marking.proofs.OrientLaws.{side-term, left-unread, rule-oriented}
+use Rattle.marking.proofs.SideLaws.{side-term, left-unread, rule-marked}
 use borrow.Author.Needs.{needs}
-use Rattle.marking.proofs.rule.orient.Statement.{statement}
-use Rattle.marking.proofs.rule.orient.Tie as tie
+use Rattle.marking.proofs.rule.mark_rule.Statement.{statement}
+use Rattle.marking.proofs.rule.mark_rule.Tie as tie
 
 array-share-prefix-left : tie.Need-array-share-prefix-left
 array-share-prefix-left c =
@@ -14,14 +15,14 @@ array-share-prefix-left c =
     let within = rw (c .before .count .given .1) at (c3 .read-side .ensures .1 .0) in
     omega (arith, within, c3 .read-side .ensures .1 .1)
 
-slice-aggregate-orient-right : tie.Need-slice-aggregate-orient-right
-slice-aggregate-orient-right c =
+slice-aggregate-mark-right : tie.Need-slice-aggregate-mark-right
+slice-aggregate-mark-right c =
     let c4 = c .before .before .before .before in
     let within = rw (c .before .before .count .given .1) at (c4 .read-side .ensures .1 .0) in
     sym (length-take-le _ (c4 .read-side .last .1 .1 .0) (omega (arith, within, c4 .read-side .ensures .1 .1)))
 
-orient-right-requires : tie.Need-orient-right-requires
-orient-right-requires c κs =
+mark-right-requires : tie.Need-mark-right-requires
+mark-right-requires c κs =
     let c4 = c .before .before .before .before in
     let c8 = c4 .before .before .before .before in
     let a = c8 .args in
@@ -56,12 +57,12 @@ returns-2 c =
     let a = c9 .args in
     let σ = signatureOf (a .table .now) in
     let e = rw (c3 .count .given .1) at (c5 .read-side .ensures .0 σ (c9 .pre .1 .1)) in (
-      rule-oriented σ (bitSource (a .book .now)) (a .cursor .at) _ _ e (c .orient-right .result) (c .orient-right
+      rule-marked σ (bitSource (a .book .now)) (a .cursor .at) _ _ e (c .mark-right .result) (c .mark-right
           .ensures .0),
-      c .orient-right .ensures .1,
+      c .mark-right .ensures .1,
     )
 
-pub orient-spec : {M : Type 1} → statement M
-orient-spec =
+pub mark-rule-spec : {M : Type 1} → statement M
+mark-rule-spec =
     tie.close (tie.spec (λ c κs. search needs) (λ c. search needs) (λ c. search needs) array-share-prefix-left
-    slice-aggregate-orient-right orient-right-requires returns returns-2)
+    slice-aggregate-mark-right mark-right-requires returns returns-2)

@@ -1,8 +1,9 @@
+-- The marks 1 to 6 count, those below and above do not.
 use mathlib.Core.Path.{sym}
 use native.Mathlib.Omega.{arith}
-use Rattle.marking.proofs.RuleLaws.{decreasing-below, decreasing-above, decreasing-within}
-use Rattle.marking.proofs.mark.decreases.Statement.{statement}
-use Rattle.marking.proofs.mark.decreases.Tie as tie
+use Rattle.marking.proofs.WalkLaws.{decreasing-below, decreasing-above, decreasing-within}
+use Rattle.marking.proofs.walk.decreases.Statement.{statement}
+use Rattle.marking.proofs.walk.decreases.Tie as tie
 
 returns : tie.Need-returns
 returns c = (sym (decreasing-below (c .before .args .mark) (c .if1 .taken)), omega arith)

@@ -1,7 +1,7 @@
--- The sides of a rule that is read are terms, and what orienting it has to show.
+-- The sides of a rule that is read are terms, and what marking it has to show.
 --     side-term        a side that is read from bits is the words of a well-formed term
 --     whole-terms      two terms as the order asks them
---     right-oriented, left-unread, rule-oriented     a rule by its sides
+--     right-marked, left-unread, rule-marked     a rule by its sides
 use mathlib.Core.List.{List}
 use mathlib.Core.Path.{_≡_, sym}
 use Prim.Native.Nat.{ℕ}
@@ -23,11 +23,11 @@ use Rattle.format.proofs.SideLaws.{side-formed, forest-le}
 use Rattle.symbols.specs.Table.{signatureOf}
 use Rattle.order.specs.Compared.{Whole}
 use Rattle.format.specs.Format.{ruleReader}
-use Rattle.marking.specs.declared.rule.Oriented.{Oriented}
+use Rattle.marking.specs.declared.rule.MarkedRule.{MarkedRule}
 use Rattle.marking.specs.declared.rule.RuleReading.{RuleReading}
 use Rattle.marking.specs.declared.rule.RuleReading.the-variants.{Got, Fault}
-use Rattle.marking.specs.Rule.{IsTable, Orients, OrientsRead}
-use Rattle.marking.proofs.RuleLaws.{sidesThemselves}
+use Rattle.marking.specs.Rule.{IsTable, Marks, MarksRead}
+use Rattle.marking.proofs.WalkLaws.{sidesThemselves}
 
 spells-fit : (bytes : List ℕ) {is : List Item} {at end : ℕ} → Spells (bitSource bytes) is at end → AllFit is
 spells-fit bytes none = tt
@@ -56,10 +56,10 @@ whole-terms {table} {s} {t} T p q = record {
 
 module _ (σ : Signature) where
   -- A right side that was read, after its left side.
-  pub right-oriented : (reading : Reading (List ℕ)) (left right : List ℕ) (n : ℕ) (o : Oriented) →
-      got right n ≡ reading → o .next .at ≡ n → Orients σ (record { left = left; right = right }) o →
-      OrientsRead σ (λ (l : List ℕ). record { left = left; right = l }) reading (Got o)
-  right-oriented reading left right n o e same x = (right, sym (rw same e), x)
+  pub right-marked : (reading : Reading (List ℕ)) (left right : List ℕ) (n : ℕ) (m : MarkedRule) →
+      got right n ≡ reading → m .next .at ≡ n → Marks σ (record { left = left; right = right }) m →
+      MarksRead σ (λ (l : List ℕ). record { left = left; right = l }) reading (Got m)
+  right-marked reading left right n m e same x = (right, sym (rw same e), x)
 
   module _ (source : Source) (at : ℕ) where
     pub left-unread : (code offset : ℕ) → fault code offset ≡ forestReader source σ maxNodes 1 at →
@@ -68,11 +68,11 @@ module _ (σ : Signature) where
     left-unread code offset e = rw (sym e)
 
     -- A rule whose left side was read is what its right side makes it.
-    pub rule-oriented : (left : List ℕ) (middle : ℕ) → got left middle ≡ forestReader source σ maxNodes 1 at →
+    pub rule-marked : (left : List ℕ) (middle : ℕ) → got left middle ≡ forestReader source σ maxNodes 1 at →
         (r : RuleReading) →
-        OrientsRead σ (λ (right : List ℕ). record { left = left; right = right })
+        MarksRead σ (λ (right : List ℕ). record { left = left; right = right })
         (forestReader source σ maxNodes 1 middle) r →
-        OrientsRead σ sidesThemselves (ruleReader source σ at) r
+        MarksRead σ sidesThemselves (ruleReader source σ at) r
     unfolding ruleReader
-    rule-oriented left middle e (Got o) (right, f, x) = (record { left = left; right = right }, rw (sym e, f), x)
-    rule-oriented left middle e (Fault code offset) f = rw (sym e, f)
+    rule-marked left middle e (Got m) (right, f, x) = (record { left = left; right = right }, rw (sym e, f), x)
+    rule-marked left middle e (Fault code offset) f = rw (sym e, f)

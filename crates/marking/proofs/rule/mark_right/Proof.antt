@@ -1,11 +1,12 @@
+-- The right side is read as the definition reads it, and the rule is marked with it.
 use mathlib.Core.Path.{sym}
 use native.Mathlib.Omega.{arith}
 use lib.Seq.{length-take-le}
 use Rattle.symbols.specs.Table.{signatureOf}
-use Rattle.marking.proofs.OrientLaws.{side-term, right-oriented}
+use Rattle.marking.proofs.SideLaws.{side-term, right-marked}
 use borrow.Author.Needs.{needs}
-use Rattle.marking.proofs.rule.orient_right.Statement.{statement}
-use Rattle.marking.proofs.rule.orient_right.Tie as tie
+use Rattle.marking.proofs.rule.mark_right.Statement.{statement}
+use Rattle.marking.proofs.rule.mark_right.Tie as tie
 
 array-share-prefix-right : tie.Need-array-share-prefix-right
 array-share-prefix-right c =
@@ -13,14 +14,14 @@ array-share-prefix-right c =
     let within = rw (c .before .count .given .1) at (c3 .read-side .ensures .1 .0) in
     omega (arith, within, c3 .read-side .ensures .1 .1)
 
-slice-aggregate-orient-sides : tie.Need-slice-aggregate-orient-sides
-slice-aggregate-orient-sides c =
+slice-aggregate-mark-sides : tie.Need-slice-aggregate-mark-sides
+slice-aggregate-mark-sides c =
     let c4 = c .before .before .before .before in
     let within = rw (c .before .before .count .given .1) at (c4 .read-side .ensures .1 .0) in
     sym (length-take-le _ (c4 .read-side .last .1 .1 .0) (omega (arith, within, c4 .read-side .ensures .1 .1)))
 
-orient-sides-requires : tie.Need-orient-sides-requires
-orient-sides-requires c κs =
+mark-sides-requires : tie.Need-mark-sides-requires
+mark-sides-requires c κs =
     let c4 = c .before .before .before .before in
     let c9 = c4 .before .before .before .before .before in
     let a = c9 .args in
@@ -45,17 +46,10 @@ returns-2 c =
     let σ = signatureOf (a .table .now) in
     let e = rw (c3 .count .given .1) at (c5 .read-side .ensures .0 σ (c10 .pre .1 .1)) in
     let within = rw (c3 .count .given .1) at (c5 .read-side .ensures .1 .0) in
-    let (x, small) = c .orient-sides .ensures in (
-      right-oriented σ _ (a .left .now) _ _ (c .orient-sides .result) e (small .2) x,
-      (
-        small .0,
-        small .1,
-        rw (small .2)
-            (within .1),
-      ),
-    )
+    let (x, same) = c .mark-sides .ensures in
+    (right-marked σ _ (a .left .now) _ _ (c .mark-sides .result) e same x, rw same (within .1))
 
-pub orient-right-spec : {M : Type 1} → statement M
-orient-right-spec =
+pub mark-right-spec : {M : Type 1} → statement M
+mark-right-spec =
     tie.close (tie.spec (λ c κs. search needs) (λ c. search needs) (λ c. search needs) array-share-prefix-right
-    slice-aggregate-orient-sides orient-sides-requires returns returns-2)
+    slice-aggregate-mark-sides mark-sides-requires returns returns-2)

@@ -1,0 +1,47 @@
+-- The rules are listed by the walk over them; where the file may end after them, they are those of the whole file.
+use mathlib.Core.Path.{sym, _∙_}
+use native.Mathlib.Omega.{arith}
+use Rattle.format.specs.Reading.{bitSource}
+use Rattle.symbols.specs.Table.{signatureOf}
+use Rattle.reader.proofs.FileLaws.{rules-length, rest-unread, rest-unpadded, rest-padded}
+use Rattle.marking.proofs.WalkLaws.{marked-as}
+use borrow.Author.Needs.{needs}
+use Rattle.marking.proofs.walk.mark_under.Statement.{statement}
+use Rattle.marking.proofs.walk.mark_under.Tie as tie
+
+mark-rules-requires : tie.Need-mark-rules-requires
+mark-rules-requires c κs =
+    (c .before .before .before .before .before .before .before .before .before .pre .0, ((c .before .before .before .before .before .before .before .before .before .pre .1 .0, c .before .before .before .before .before .arities .ensures, c .before .before .before .before .node-sums .ensures), (omega (arith, c .before .before .before .before .before .before .before .before .before .pre .1), c .before .before .before .before .before .before .before .before .before .pre .1 .1)))
+
+returns : tie.Need-returns
+returns c =
+    let a = c .before .before .before .before .before .before .before .before .before .before .before .before .before .before .before .before .before .before .args in
+    let σ = signatureOf (a .table .now) in
+    let read = rw (c .before .before .before .decreasing .given .1) at (c .before .before .before .before .before .before .before .before .mark-rules .ensures .0) in
+    let within = rw (c .before .before .before .decreasing .given .1) at (c .before .before .before .before .before .before .before .before .mark-rules .ensures .1) in
+    let long = rules-length (bitSource (a .book .now)) σ (a .count) (a .cursor .at) (read .0) _ (read .1) in (
+      _,
+      _,
+      rest-padded (a .book .now) σ (a .count) (a .cursor .at) (read .0) _ (read .1)
+          (sym (c .before .is-padding .ensures) ∙ c .if1 .taken),
+      marked-as σ (read .0) (a .count) _ _ _ _ _ long (c .before .before .before .before .before .before .before .before .before .before .before .before .before .before .before .before .before .before .pre .1 .1) (within .0) (read .2),
+    )
+
+returns-2 : tie.Need-returns-2
+returns-2 c =
+    let a = c .before .before .before .before .before .before .before .before .before .before .before .before .before .before .before .before .args in
+    rest-unread (a .book .now) (signatureOf (a .table .now)) (a .count) (a .cursor .at) _ _
+    (rw (c .before .code .given .1) at (c .before .before .before .before .before .before .mark-rules .ensures .0))
+
+returns-3 : tie.Need-returns-3
+returns-3 c =
+    let a = c .before .before .before .before .before .before .before .before .before .before .before .before .before .before .before .before .before .before .args in
+    let read = rw (c .before .before .before .decreasing .given .1) at (c .before .before .before .before .before .before .before .before .mark-rules .ensures .0) in
+    rest-unpadded (a .book .now) (signatureOf (a .table .now)) (a .count) (a .cursor .at) (read .0) _ (read .1)
+    (sym (c .before .is-padding .ensures) ∙ c .if1 .left)
+
+pub mark-under-spec : {M : Type 1} → statement M
+mark-under-spec =
+    tie.close (tie.spec (λ c κs. search needs) (λ c κs. search needs) mark-rules-requires (λ c. search needs)
+    (λ c. search needs) (λ c κs. search needs) (λ c. search needs) (λ c. search needs) returns (λ c. search needs)
+    (λ c. search needs) returns-2 (λ c. search needs) (λ c. search needs) returns-3)

@@ -1,0 +1,157 @@
+// The walk over the rules of a packed file: each is read and marked, and its mark and margin are stored.
+ghost use mathlib.Core.Path.{_≡_};
+ghost use mathlib.Core.List.{[], _∷_};
+ghost use Prim.Native.Nat.{_*_, _≤_, _<_};
+ghost use lib.ListN.{length, set};
+ghost use Rattle.format.specs.Layout.{maxBytes};
+ghost use Rattle.format.specs.Reading.{bitSource};
+ghost use Rattle.format.specs.Format.{rulesReader};
+ghost use Rattle.format.specs.Files.{readBytes};
+ghost use Rattle.operations.specs.Marking.{decreasingCount};
+ghost use Rattle.symbols.specs.Table.{signatureOf};
+ghost use Rattle.symbols.specs.Arities.{Arities};
+ghost use Rattle.order.specs.Sums.{NodeSums};
+ghost use Rattle.reader.specs.File.{restReader};
+ghost use Rattle.marking.specs.Rule.{IsTable, AllMarked, AllWithin, WholeMarked};
+use crate::rule::RuleReading;
+use crate::rule::mark_rule;
+use bits::BitCursor;
+use format::BAD_PADDING;
+use format::NODE_WORDS;
+use order::sums::node_sums;
+use reader::file::Head;
+use reader::file::TABLE_WORDS;
+use reader::file::read_head;
+
+// How many rules decrease and the cursor past them, or an error's code and offset.
+pub enum RulesMarked {
+    Marked { decreasing: usize, next: BitCursor },
+    Fault { code: u8, offset: usize },
+}
+
+// How many rules a file has and how many of them decrease, or an error's code and offset.
+pub enum FileMarked {
+    Marked { rules: usize, decreasing: usize },
+    Fault { code: u8, offset: usize },
+}
+
+// 1 for a mark of the order, 0 for another.
+fn decreases(mark: u8) -> usize
+    ensures { λ r. ⌜ r ≡ decreasingCount (mark ∷ []) ⌝ }
+    ensures { λ r. ⌜ r ≤ 1 ⌝ }
+{
+    if mark < 1 {
+        return 0;
+    }
+    if 6 < mark {
+        return 0;
+    }
+    1
+}
+
+// Stores a margin, where there is room for it.
+fn put_margin(margins: &mut [i64], index: usize, margin: i64)
+    ensures { λ _. ⌜ now (margins .exit) ≡ set (now (margins .entry)) index margin ⌝ }
+{
+    if index < margins.len() {
+        margins[index] = margin;
+    }
+}
+
+// Reads that many rules, marks them and counts those that decrease.
+fn mark_rules(
+    book: &[u8],
+    table: &[u16],
+    arities: &[u32; NODE_WORDS],
+    adds: &[u64; 816],
+    marks: &mut [u8],
+    margins: &mut [i64],
+    count: usize,
+    cursor: BitCursor,
+) -> RulesMarked
+    requires { ⌜ (length (now book) ≤ maxBytes) × (cursor .at ≤ 8 * length (now book)) ⌝ }
+    requires { ⌜
+        IsTable (now table) × Arities (signatureOf (now table)) (now arities)
+        × NodeSums (signatureOf (now table)) (now adds)
+        ⌝ }
+    requires { ⌜ (count ≤ length (now marks)) × (count < 1024) ⌝ }
+    ensures { λ r. ⌜
+        AllMarked (signatureOf (now (table .entry)))
+        (rulesReader (bitSource (now (book .entry))) (signatureOf (now (table .entry))) count (cursor .at)) r
+        (now (marks .entry)) (now (marks .exit)) (now (margins .entry)) (now (margins .exit))
+        ⌝ }
+    ensures { λ r. ⌜ AllWithin count (8 * length (now (book .entry))) r ⌝ }
+{
+    let mut here = cursor;
+    let mut decreasing = 0;
+    let mut i = 0;
+    while i < count {
+        match mark_rule(book, table, arities, adds, here) {
+            RuleReading::Fault { code, offset } => return RulesMarked::Fault { code, offset },
+            RuleReading::Got(rule) => {
+                marks[i] = rule.mark;
+                put_margin(margins, i, rule.margin);
+                decreasing += decreases(rule.mark);
+                here = rule.next;
+            }
+        }
+        i += 1;
+    }
+    RulesMarked::Marked {
+        decreasing,
+        next: here,
+    }
+}
+
+// Marks the rules under a symbol table, and reads on to the end of the file.
+fn mark_under(
+    book: &[u8],
+    table: &[u16],
+    marks: &mut [u8],
+    margins: &mut [i64],
+    count: usize,
+    cursor: BitCursor,
+) -> FileMarked
+    requires { ⌜ (length (now book) ≤ maxBytes) × (cursor .at ≤ 8 * length (now book)) ⌝ }
+    requires { ⌜ IsTable (now table) × (count < 1024) × (1023 ≤ length (now marks)) ⌝ }
+    ensures { λ r. ⌜
+        WholeMarked (restReader (now (book .entry)) (signatureOf (now (table .entry))) count (cursor .at)) r
+        (now (marks .entry)) (now (marks .exit)) (now (margins .entry)) (now (margins .exit))
+        ⌝ }
+{
+    let arities = symbols::arities(table);
+    let adds = node_sums(table);
+    match mark_rules(book, table, &arities, &adds, marks, margins, count, cursor) {
+        RulesMarked::Fault { code, offset } => FileMarked::Fault { code, offset },
+        RulesMarked::Marked { decreasing, next } => {
+            if next.is_padding(book) {
+                return FileMarked::Marked {
+                    rules: count,
+                    decreasing,
+                };
+            }
+            FileMarked::Fault {
+                code: BAD_PADDING,
+                offset: next.at,
+            }
+        }
+    }
+}
+
+// Reads a packed file and marks its rules: the marks are stored, and the margins as far as there is room.
+pub fn mark_file(book: &[u8], marks: &mut [u8], margins: &mut [i64]) -> FileMarked
+    requires { ⌜ 1023 ≤ length (now marks) ⌝ }
+    ensures { λ r. ⌜
+        WholeMarked (readBytes (now (book .entry))) r (now (marks .entry)) (now (marks .exit))
+        (now (margins .entry)) (now (margins .exit))
+        ⌝ }
+{
+    let mut table = [0u16; TABLE_WORDS];
+    match read_head(book, &mut table) {
+        Head::Fault(code, offset) => FileMarked::Fault { code, offset },
+        Head::Read(symbols, rules, cursor) => {
+            let front = 1 + 4 * symbols;
+            mark_under(book, &table[..front], marks, margins, rules, cursor)
+        }
+    }
+}

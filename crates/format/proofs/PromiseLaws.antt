@@ -1,7 +1,6 @@
 -- What the layers above rely on: of a readable file, and of a term that is read from words.
---     readable-signature         its signature is admissible and within the widths
---     readable-sides             its sides are the words of well-formed terms
---     readable-system            and so its rules are well formed
+--     readable-formed            it is well formed
+--     readable-system            and so are the rules that it means
 --     first-term, whole-term     a term that is read from words
 use mathlib.Core.Path.{_≡_, sym, ap, _∙_}
 use mathlib.Core.List.{List, [], _∷_, map, flatMap, List·Memᴰ, List·Memᴰ·head, List·Memᴰ·tail}
@@ -13,7 +12,7 @@ use lib.ListN.{length, getD, take}
 use lib.Seq.{ext-getD, getD-take, length-take-le, take-all}
 use lib.Dec.{eqb}
 use borrow.Author.Tests.{ltb-true, eqb-true}
-use Rattle.terms.specs.Signature.{Signature, Admissible}
+use Rattle.terms.specs.Signature.{Signature}
 use Rattle.terms.specs.Rewriting.{WellFormedRules}
 use Rattle.format.specs.Layout.{maxNodes}
 use Rattle.format.specs.Reading.{wordSource}
@@ -22,7 +21,7 @@ use Rattle.format.specs.Format.{Sides, RuleFile, systemOf, forestReader}
 use Rattle.format.specs.Files.{readFirstTerm, readTerm}
 use Rattle.format.specs.Packing.{items, symbolItems, ruleItems}
 use Rattle.format.specs.Packing.Item.{node}
-use Rattle.format.specs.Statements.{WithinWidths, IsTerm}
+use Rattle.format.specs.Statements.{IsTerm, WellFormedFile}
 use Rattle.format.proofs.ReadingLaws.{Holds, holds-got, holds-then, holds-require}
 use Rattle.format.proofs.SpellingLaws.{AllFit, all-fit-split, Agrees, agrees-at, spells→coded}
 use Rattle.format.proofs.FormatLaws.{Forest, RulesOk, forest-read}
@@ -50,37 +49,31 @@ rules-at σ (q ∷ rs) ok fits r (List·Memᴰ·tail m) =
     rules-at σ rs (ok .2) (all-fit-split (ruleItems q) (flatMap ruleItems rs) fits .1) r m
 
 module _ (f : RuleFile) (r : Readable f) where
-  pub readable-signature : Admissible (f .signature) × (0 < length (f .signature .symbols)) × WithinWidths f
+  pub readable-formed : WellFormedFile f
   unfolding items
-  readable-signature =
+  readable-formed =
       let σ = f .signature in
       let (count, (w0, (rules, rest))) = r .fits .1 in
-      let symbols = all-fit-split (flatMap symbolItems (σ .symbols)) (flatMap ruleItems (f .rules)) rest .0 in
-      let each = fits-at (σ .symbols) symbols in (
-        admissible-of-symbols σ (r .ok .symbolsOk) (ltb-true 0 (σ .w0) (r .ok .variableWeighs)),
-        ltb-true 0 (length (σ .symbols)) (r .ok .someSymbol),
-        record {
+      let (symbols, nodes) = all-fit-split (flatMap symbolItems (σ .symbols)) (flatMap ruleItems (f .rules)) rest in
+      let each = fits-at (σ .symbols) symbols in
+      record {
+        admissible = admissible-of-symbols σ (r .ok .symbolsOk) (ltb-true 0 (σ .w0) (r .ok .variableWeighs));
+        someSymbol = ltb-true 0 (length (σ .symbols)) (r .ok .someSymbol);
+        within = record {
           symbolCount = count;
           w0 = w0;
           ruleCount = rules;
           arity = λ g. each g .0;
           weight = λ g. each g .1 .1 .0;
           precedence = λ g. each g .1 .1 .1 .0;
-        },
-      )
-
-  pub readable-sides : (s : Sides) → List·Memᴰ s (f .rules) →
-      IsTerm (f .signature) (s .left) × IsTerm (f .signature) (s .right)
-  unfolding items
-  readable-sides s m =
-      let symbols = flatMap symbolItems (f .signature .symbols) in
-      let fits = all-fit-split symbols (flatMap ruleItems (f .rules)) (r .fits .1 .1 .1 .1) .1 in
-      rules-at (f .signature) (f .rules) (r .ok .rulesOk) fits s m
+        };
+        sides = rules-at σ (f .rules) (r .ok .rulesOk) nodes;
+      }
 
   pub readable-system : WellFormedRules (systemOf f)
   readable-system rule m =
       let (s, n, e) = Memᴰ·of-map _ (f .rules) m in
-      let (a, b) = readable-sides s n in
+      let (a, b) = readable-formed .sides s n in
       rw (← e) (a .wellFormed, b .wellFormed)
 
 -- ---- a term

@@ -29,6 +29,10 @@ abbrev pub AllFit : List Item → Type 0
 AllFit [] = Unit {0}
 AllFit (i ∷ is) = Fits i × AllFit is
 
+pub all-fit-append : (is js : List Item) → AllFit is → AllFit js → AllFit (is ++ js)
+all-fit-append [] js h k = k
+all-fit-append (i ∷ is) js h k = (h .0, all-fit-append is js (h .1) k)
+
 pub all-fit-split : (is js : List Item) → AllFit (is ++ js) → AllFit is × AllFit js
 all-fit-split [] js h = (tt, h)
 all-fit-split (i ∷ is) js h = let (a, b) = all-fit-split is js (h .1) in ((h .0, a), b)

@@ -2,20 +2,22 @@
 --     symbols-at               each symbol passes the tests after those before it
 --     admissible-of-symbols    a signature whose symbols pass is admissible
 --     fits-at                  a symbol's values are within their widths
-use mathlib.Core.Path.{_≡_, sym, ap, _∙_}
+--     symbols-of-admissible    the symbols of an admissible signature pass
+--     fits-of                  symbols whose values are within their widths
+use mathlib.Core.Path.{_≡_, refl, sym, ap, _∙_}
 use mathlib.Core.List.{List, [], _∷_, _++_, flatMap, append-nil, append-assoc}
-use mathlib.Core.Bool.{true, false, false≢true}
+use mathlib.Core.Bool.{Bool, true, false, false≢true, cond, _||_, not}
 use Prim.Native.Nat.{ℕ, suc, zero, _<_}
 use native.Mathlib.Omega.{arith}
 use lib.ListN.{length, getD, take, List·getD-eq-default}
 use lib.Seq.{getD-take, length-take-le}
 use lib.Dec.{eqb, lit<}
-use borrow.Author.Tests.{eqb-true, leb-true, not-true}
+use borrow.Author.Tests.{eqb-true, leb-true, le-leb, not-true}
 use Rattle.multisets.proofs.Relations.{byOrder, byTest, eqb-self}
 use Rattle.terms.specs.Signature.{Symbol, Signature, symbolOf, Admissible}
 use Rattle.format.specs.Format.{heldBy}
 use Rattle.format.specs.Packing.{symbolItems}
-use Rattle.format.proofs.SpellingLaws.{AllFit, all-fit-split}
+use Rattle.format.proofs.SpellingLaws.{AllFit, all-fit-append, all-fit-split}
 use Rattle.format.proofs.FormatLaws.{SymbolOk, SymbolsOk}
 use Rattle.format.proofs.FormatLaws.SymbolsOk.{noSymbol, symbol}
 
@@ -23,12 +25,20 @@ use Rattle.format.proofs.FormatLaws.SymbolsOk.{noSymbol, symbol}
 abbrev absent : Symbol
 absent = record { arity = 0; ac = false; weight = 0; precedence = 0 }
 
-pub symbols-at : {w0 : ℕ} {earlier ss : List Symbol} → SymbolsOk w0 earlier ss → (f : ℕ) → f < length ss →
+symbols-at : {w0 : ℕ} {earlier ss : List Symbol} → SymbolsOk w0 earlier ss → (f : ℕ) → f < length ss →
     SymbolOk w0 (earlier ++ take f ss) (getD ss f absent)
 symbols-at noSymbol f h = absurd (omega arith)
 symbols-at (symbol {earlier} ok oks) zero h = rw (append-nil earlier) ok
 symbols-at (symbol {earlier} {s} {ss} ok oks) (suc f) h =
     rw (append-assoc earlier (s ∷ []) (take f ss)) at (symbols-at oks f (omega arith))
+
+symbols-of : (w0 : ℕ) (earlier ss : List Symbol) →
+    ((f : ℕ) → f < length ss → SymbolOk w0 (earlier ++ take f ss) (getD ss f absent)) → SymbolsOk w0 earlier ss
+symbols-of w0 earlier [] h = noSymbol
+symbols-of w0 earlier (s ∷ ss) h =
+    symbol (rw (append-nil earlier) at (h 0 (omega arith)))
+    (symbols-of w0 (earlier ++ (s ∷ [])) ss λ f l.
+    rw (append-assoc earlier (s ∷ []) (take f ss)) (h (suc f) (omega arith)))
 
 held-at : (ss : List Symbol) (g : ℕ) → g < length ss → heldBy ss (getD ss g absent .precedence) ≡ true
 held-at [] g h = absurd (omega arith)
@@ -36,6 +46,13 @@ held-at (s ∷ ss) zero h = rw eqb-self
 held-at (s ∷ ss) (suc g) h =
     byTest (eqb (getD ss g absent .precedence) (s .precedence)) (λ e. rw e)
     λ e. rw e (held-at ss g (omega arith))
+
+held-by : (ss : List Symbol) (rank : ℕ) → heldBy ss rank ≡ true →
+    (g : ℕ) × (g < length ss) × (rank ≡ getD ss g absent .precedence)
+held-by [] rank e = absurd (false≢true e)
+held-by (s ∷ ss) rank e =
+    byTest (eqb rank (s .precedence)) (λ t. (0, omega arith, eqb-true rank (s .precedence) t))
+    λ t. let (g, l, h) = held-by ss rank (rw t at e) in (suc g, omega arith, h)
 
 module _ (σ : Signature) (oks : SymbolsOk (σ .w0) [] (σ .symbols)) where
   later-differs : (f g : ℕ) → g < f → f < length (σ .symbols) →
@@ -65,8 +82,40 @@ module _ (σ : Signature) (oks : SymbolsOk (σ .w0) [] (σ .symbols)) where
             λ h. byOrder g f (λ k. absurd (later-differs f g k hf e)) λ k. omega arith;
       }
 
+binary-test : (ac : Bool) (arity : ℕ) → (ac ≡ true → arity ≡ 2) → (eqb (cond ac 1 0) 0 || eqb arity 2) ≡ true
+binary-test false arity h = refl
+binary-test true arity h = rw (h refl)
+
+module _ (σ : Signature) (A : Admissible σ) where
+  fresh-at : (f : ℕ) → f < length (σ .symbols) →
+      not (heldBy (take f (σ .symbols)) (symbolOf σ f .precedence)) ≡ true
+  fresh-at f l =
+      let earlier = take f (σ .symbols) in
+      byTest (heldBy earlier (symbolOf σ f .precedence))
+      (λ e.
+      let (g, k, h) = held-by earlier (symbolOf σ f .precedence) e in
+      let n : g < f = omega (arith, length-take-le f (σ .symbols) (omega arith)) in
+      let same = ap (λ (s : Symbol). s .precedence) (getD-take f (σ .symbols) g absent n) in
+      absurd (omega (arith, A .precedencesDiffer f g l (omega arith) (h ∙ same))))
+      λ e. rw e
+
+  pub symbols-of-admissible : SymbolsOk (σ .w0) [] (σ .symbols)
+  symbols-of-admissible =
+      symbols-of (σ .w0) [] (σ .symbols) λ f l. record {
+        acBinary = binary-test _ _ (A .acBinary f);
+        weighs = le-leb _ _ (A .weighsEnough f l);
+        fresh = fresh-at f l;
+      }
+
+-- ---- the widths
+
 pub fits-at : (ss : List Symbol) → AllFit (flatMap symbolItems ss) → (f : ℕ) → AllFit (symbolItems (getD ss f absent))
 unfolding flatMap
 fits-at [] h f = (lit< tt, (lit< tt, (lit< tt, (lit< tt, tt))))
 fits-at (s ∷ ss) h zero = all-fit-split (symbolItems s) (flatMap symbolItems ss) h .0
 fits-at (s ∷ ss) h (suc f) = fits-at ss (all-fit-split (symbolItems s) (flatMap symbolItems ss) h .1) f
+
+pub fits-of : (ss : List Symbol) → ((f : ℕ) → AllFit (symbolItems (getD ss f absent))) → AllFit (flatMap symbolItems ss)
+unfolding flatMap
+fits-of [] h = tt
+fits-of (s ∷ ss) h = all-fit-append (symbolItems s) (flatMap symbolItems ss) (h 0) (fits-of ss λ f. h (suc f))

@@ -1,10 +1,11 @@
 -- The words of a well-formed term, read as a term.
---     forest-words       they have the form that reading tests
+--     nodes-form         they have the form that reading tests
+--     words-fit          and are within the widths
 --     forest-cut         a forest of more nodes than are allowed stops after those
 --     term-reads         they read as they are
 --     term-refused       unless they are more than are allowed
 use mathlib.Core.Path.{_≡_, refl, ap, _∙_}
-use mathlib.Core.List.{List, [], _∷_, _++_, map, append-nil, append-assoc}
+use mathlib.Core.List.{List, [], _∷_, _++_, map, map-append, append-nil, append-assoc}
 use mathlib.Core.Bool.{true}
 use Prim.Native.Nat.{ℕ, suc, zero, _+_, _-_, _≤_, _<_}
 use native.Mathlib.Nat.{zero-add}
@@ -27,16 +28,12 @@ use Rattle.format.specs.Format.{forestReader}
 use Rattle.format.specs.Files.{readTerm}
 use Rattle.format.specs.Packing.Item.{node}
 use Rattle.format.proofs.ForestLaws.{known, argumentCount}
-use Rattle.format.proofs.SpellingLaws.{AllFit, Spells, agrees-of, coded→spells}
+use Rattle.format.proofs.SpellingLaws.{AllFit, all-fit-append, Spells, agrees-of, coded→spells}
 use Rattle.format.proofs.SpellingLaws.Spells.{none, more}
 use Rattle.format.proofs.FormatLaws.{Forest, forest-reads}
 use Rattle.format.proofs.FormatLaws.Forest.{noTerm, termNode}
 use Rattle.format.proofs.CodingLaws.{wordAt, word-coding}
 use Rattle.format.proofs.FileLaws.{nodes-each}
-
-fit-append : (ws vs : List ℕ) → AllFit (map node ws) → AllFit (map node vs) → AllFit (map node (ws ++ vs))
-fit-append [] vs h k = k
-fit-append (w ∷ ws) vs h k = (h .0, fit-append ws vs (h .1) k)
 
 fit-take : (a : ℕ) (ws : List ℕ) → AllFit (map node ws) → AllFit (map node (take a ws))
 fit-take zero ws h = tt
@@ -45,7 +42,7 @@ fit-take (suc a) (w ∷ ws) h = (h .0, fit-take a ws (h .1))
 
 module _ (σ : Signature) (few : length (σ .symbols) ≤ firstVariable) where
   mutual
-    pub forest-words : (t : Term) → WellFormed σ t → (a n : ℕ) (ws : List ℕ) → Forest σ a n ws →
+    forest-words : (t : Term) → WellFormed σ t → (a n : ℕ) (ws : List ℕ) → Forest σ a n ws →
         Forest σ (size t + a) (suc n) (words t ++ ws)
     forest-words (var x) h a n ws f =
         let e : 1 + a ≡ suc a = omega arith in
@@ -73,13 +70,15 @@ module _ (σ : Signature) (few : length (σ .symbols) ≤ firstVariable) where
         (forest-wordsOf ts (h .1) a n ws f))
 
   mutual
-    words-fit : (t : Term) → WellFormed σ t → AllFit (map node (words t))
+    pub words-fit : (t : Term) → WellFormed σ t → AllFit (map node (words t))
     words-fit (var x) h = (omega arith, tt)
     words-fit (app g ts) h = (omega (arith, h .0), wordsOf-fit ts (h .2))
 
     wordsOf-fit : (ts : Terms) → WellFormeds σ ts → AllFit (map node (wordsOf ts))
     wordsOf-fit nil h = tt
-    wordsOf-fit (cons t ts) h = fit-append (words t) (wordsOf ts) (words-fit t (h .0)) (wordsOf-fit ts (h .1))
+    wordsOf-fit (cons t ts) h =
+        rw (map-append node (words t) (wordsOf ts))
+        (all-fit-append (map node (words t)) (map node (wordsOf ts)) (words-fit t (h .0)) (wordsOf-fit ts (h .1)))
 
 -- ---- too many nodes
 
@@ -111,7 +110,7 @@ front-spells ws vs fits =
     (coded→spells (word-coding input) (map node ws) 0 fits (rw same (omega (arith, length-append ws vs))) (rw same a))
 
 module _ (σ : Signature) (few : length (σ .symbols) ≤ firstVariable) (t : Term) (h : WellFormed σ t) where
-  nodes-form : (a : ℕ) → Forest σ (size t + a) 1 (words t)
+  pub nodes-form : (a : ℕ) → Forest σ (size t + a) 1 (words t)
   nodes-form a = rw (append-nil (words t)) at (forest-words σ few t h a 0 [] noTerm)
 
   pub term-reads : size t ≤ maxNodes → readTerm σ (words t) ≡ got (words t) (size t)

@@ -1,23 +1,27 @@
 -- The theorems of specs/Statements.antt.
+use lib.ListN.{length}
 use Rattle.format.specs.Format.{RuleFile}
-use Rattle.format.specs.Statements.{IsRead, ReadableAdmissible, ReadableWellFormed, ReadTermWellFormed}
+use Rattle.format.specs.Statements.{IsRead, ReadableWellFormed, WellFormedFilesRead, ReadTermWellFormed}
 use Rattle.format.specs.Statements.{WellFormedReads, FaultsWithin}
 use Rattle.format.specs.Statements.IsRead.{fromBytes, fromWords}
-use Rattle.format.proofs.FileLaws.{Readable, bytes-readable, words-readable}
-use Rattle.format.proofs.PromiseLaws.{readable-signature, readable-sides, readable-system}
+use Rattle.format.proofs.FileLaws.{Readable, bytes-readable, words-readable, fileBits, packed-reads, unpacked-reads}
+use Rattle.format.proofs.PromiseLaws.{readable-formed, readable-system}
 use Rattle.format.proofs.PromiseLaws.{first-term, whole-term}
 use Rattle.format.proofs.TermReading.{term-reads, term-refused}
+use Rattle.format.proofs.WellFormedLaws.{well-formed-readable}
 use Rattle.format.proofs.FaultLaws.{bytes-fault, words-fault, term-fault}
 
 readable : (file : RuleFile) → IsRead file → Readable file
 readable file (fromBytes bytes end e) = bytes-readable bytes file end e
 readable file (fromWords input end e) = words-readable input file end e
 
-pub readable-admissible : ReadableAdmissible
-readable-admissible file h = readable-signature file (readable file h)
-
 pub readable-well-formed : ReadableWellFormed
-readable-well-formed file h = (readable-sides file (readable file h), readable-system file (readable file h))
+readable-well-formed file h = let r = readable file h in (readable-formed file r, readable-system file r)
+
+pub well-formed-files-read : WellFormedFilesRead
+well-formed-files-read file w =
+    let r = well-formed-readable file w in
+    (λ short. (length (fileBits file), packed-reads file r short), unpacked-reads file r)
 
 pub read-term-well-formed : ReadTermWellFormed
 read-term-well-formed σ input nodes end = (first-term σ input nodes end, whole-term σ input nodes end)

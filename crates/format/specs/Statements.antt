@@ -1,6 +1,6 @@
 -- The theorems of this crate, as types. Their proofs stand in proofs/Theorems.antt.
 -- Renders: 01, "The order": "it stands above the reader and relies on its promise only"; "Book layout": the widths,
--- "All ranks differ", "Admissible", "A side has at most 128 nodes".
+-- "All ranks differ", "Admissible", "A side has at most 128 nodes, a book at most 32,768 bytes".
 -- Reading is total and has one outcome: `readBytes`, `readWords` and `readTerm` are functions into `Reading`.
 use mathlib.Core.List.{List, List·Memᴰ}
 use mathlib.Core.Path.{_≡_}
@@ -12,8 +12,10 @@ use Rattle.terms.specs.Words.{firstVariable, words, termOf}
 use Rattle.terms.specs.Rewriting.{WellFormedRules}
 use Rattle.format.specs.Errors.{tooManyNodes}
 use Rattle.format.specs.Layout.{symbolCountWidth, weightWidth, ruleCountWidth, arityWidth, rankWidth, maxNodes}
+use Rattle.format.specs.Layout.{maxBytes}
 use Rattle.format.specs.Reading.Reading.{got, fault}
 use Rattle.format.specs.Format.{Sides, RuleFile, systemOf}
+use Rattle.format.specs.Packing.{packed, unpacked}
 use Rattle.format.specs.Files.{readBytes, readWords, readFirstTerm, readTerm}
 
 -- ---- the promise
@@ -32,22 +34,30 @@ pub record WithinWidths (file : RuleFile) : Type 0 where
   pub weight : (f : ℕ) → symbolOf (file .signature) f .weight < 2 ^ weightWidth
   pub precedence : (f : ℕ) → symbolOf (file .signature) f .precedence < 2 ^ rankWidth
 
--- The signature of a file that is read is admissible, and has from 1 to 255 symbols.
-abbrev pub ReadableAdmissible : Type 0
-ReadableAdmissible = (file : RuleFile) → IsRead file →
-    Admissible (file .signature) × (0 < length (file .signature .symbols)) × WithinWidths file
-
 -- The words of a well-formed term of at most 128 nodes.
 pub record IsTerm (σ : Signature) (ws : List ℕ) : Type 0 where
   pub spelled : ws ≡ words (termOf σ ws)
   pub wellFormed : WellFormed σ (termOf σ ws)
   pub short : length ws ≤ maxNodes
 
--- Each side of a file that is read is the words of a well-formed term; so its rules are well formed.
+-- An admissible signature of from 1 to 255 symbols, and rules whose sides are the words of terms.
+pub record WellFormedFile (file : RuleFile) : Type 0 where
+  pub admissible : Admissible (file .signature)
+  pub someSymbol : 0 < length (file .signature .symbols)
+  pub within : WithinWidths file
+  pub sides : (r : Sides) → List·Memᴰ r (file .rules) →
+      IsTerm (file .signature) (r .left) × IsTerm (file .signature) (r .right)
+
+-- A file that is read is well formed, and so are the rules that it means.
 abbrev pub ReadableWellFormed : Type 0
-ReadableWellFormed = (file : RuleFile) → IsRead file →
-    ((r : Sides) → List·Memᴰ r (file .rules) → IsTerm (file .signature) (r .left) × IsTerm (file .signature) (r .right))
-    × WellFormedRules (systemOf file)
+ReadableWellFormed = (file : RuleFile) → IsRead file → WellFormedFile file × WellFormedRules (systemOf file)
+
+-- Demand 1: everything else is accepted. A well-formed file is read from its words, and from its packed form where that
+-- is no longer than a file may be.
+abbrev pub WellFormedFilesRead : Type 0
+WellFormedFilesRead = (file : RuleFile) → WellFormedFile file →
+    (length (packed file) ≤ maxBytes → (end : ℕ) × (readBytes (packed file) ≡ got file end))
+    × (readWords (unpacked file) ≡ got file (length (unpacked file)))
 
 -- A term that is read from the front of words is the words up to where it ends; with nothing after it, all of them.
 abbrev pub ReadTermWellFormed : Type 0

@@ -27,7 +27,7 @@ use Rattle.operations.specs.Replies.{Reply, Written, _>>=_, _>>_, fromInput, de
 use Rattle.operations.specs.Replies.Reply.{accepted, refused}
 use Rattle.format.specs.Statements.IsRead.{fromBytes}
 use Rattle.operations.specs.Coding.{write, decoded, encoded}
-use Rattle.format.proofs.Theorems.{readable-admissible, faults-within}
+use Rattle.format.proofs.Theorems.{readable-well-formed, faults-within}
 use Rattle.operations.specs.Comparing.{comparison, comparedRight, comparedTerms, compared}
 use Rattle.operations.specs.Marking.{summaryOf, marksOf, isDecreasing, decreasingCount, marked}
 use Rattle.marking.proofs.MarkLaws.{fault-small}
@@ -129,7 +129,7 @@ marked-small bytes marks m h =
     outcome-small m (_>>=_ (fromInput 0 (readBytes bytes)) k) marks
     (read-small value 0 (readBytes bytes) k (book-small bytes)
     λ file end e. demand-small value (leb (length (file .rules)) (length marks)) marksTooShort 1 (last file)
-    λ t. h file (readable-admissible file (fromBytes bytes end e) .2 .ruleCount))
+    λ t. h file (readable-well-formed file (fromBytes bytes end e) .0 .within .ruleCount))
 
 rule-marks : (file : RuleFile) → length (marksOf (systemOf file)) ≡ length (file .rules)
 rule-marks file = length-map (systemOf file .rules) _ ∙ length-map (file .rules) _

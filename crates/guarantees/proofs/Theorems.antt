@@ -20,7 +20,7 @@ use Rattle.format.specs.Files.{readBytes, readTerm}
 use Rattle.operations.specs.Replies.{_>>=_, fromInput}
 use Rattle.format.specs.Statements.{IsRead}
 use Rattle.format.specs.Statements.IsRead.{fromBytes}
-use Rattle.format.proofs.Theorems.{readable-admissible, readable-well-formed}
+use Rattle.format.proofs.Theorems.{readable-well-formed}
 use Rattle.operations.specs.Marking.{marksOf, isDecreasing, summaryOf}
 use Rattle.operations.specs.Comparing.{comparedRight, comparedTerms, compared}
 use Rattle.guarantees.specs.Guarantees.{Holds, ReadableOrder, FilesDescend, FilesBounded, CountedAll, CountTells}
@@ -39,10 +39,10 @@ module _ (bytes : List ℕ) (file : RuleFile) (h : Holds bytes file) where
   read = fromBytes bytes (h .0) (h .1)
 
   admissible : Admissible (file .signature)
-  admissible = readable-admissible file read .0
+  admissible = readable-well-formed file read .0 .admissible
 
   few : length (file .signature .symbols) ≤ firstVariable
-  few = omega (arith, readable-admissible file read .2 .symbolCount)
+  few = omega (arith, readable-well-formed file read .0 .within .symbolCount)
 
   rules-formed : WellFormedRules (systemOf file)
   rules-formed = readable-well-formed file read .1

@@ -1,5 +1,5 @@
 -- What decoding and encoding give back for the listing; each error that they can give, with its input and offset, and
--- the output unchanged.
+-- the output unchanged (a file that is too long to encode: LongFileChecks).
 use mathlib.Core.Path.{_≡_, refl}
 use mathlib.Core.List.{List, [], _∷_, _++_, map, flatMap}
 use Prim.Native.Nat.{ℕ}

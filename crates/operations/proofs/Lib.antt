@@ -1,4 +1,5 @@
 -- Checks of the definitions of specs/, by computation.
 mod CodingChecks
+mod LongFileChecks
 mod ComparingChecks
 mod MarkingChecks

@@ -1,0 +1,74 @@
+-- Encoding refuses a file that reads and whose packed form would be too long. It has 114 rules between terms of 128
+-- nodes, of nine bits each: too much to compute the reading, so that it comes from the theorem on well-formed files.
+use mathlib.Core.Path.{_≡_, refl}
+use mathlib.Core.List.{List, [], _∷_, _++_, flatMap, List·Memᴰ, List·Memᴰ·head, List·Memᴰ·tail, List·Memᴰ·not-nil}
+use mathlib.Core.Bool.{false}
+use Prim.Native.Nat.{ℕ, suc, zero}
+use lib.ListN.{length, replicate}
+use lib.Dec.{leb, lit<}
+use Rattle.format.specs.Errors.{fileTooLong}
+use Rattle.format.specs.Layout.{maxBytes}
+use Rattle.format.specs.Reading.{wordBelow}
+use Rattle.format.specs.Reading.Reading.{got}
+use Rattle.format.specs.Format.{RuleFile, symbolReader, symbolsReader, forestReader, ruleReader, rulesReader}
+use Rattle.format.specs.Format.{bodyReader, fileReader}
+use Rattle.format.specs.Files.{wholeReader, readWords}
+use Rattle.format.specs.Packing.{items, packed, unpacked}
+use Rattle.format.specs.Statements.{WellFormedFile}
+use Rattle.format.specs.Statements.IsRead.{fromWords}
+use Rattle.format.proofs.Theorems.{readable-well-formed, well-formed-files-read}
+use Rattle.operations.specs.Replies.Reply.{refused}
+use Rattle.operations.specs.Coding.{encoded}
+
+abbrev side : List ℕ
+side = replicate 127 0 ++ (1 ∷ [])
+
+-- As many rules over a symbol of arity 1 and a constant.
+abbrev file : ℕ → RuleFile
+file n = record {
+  signature = record {
+    w0 = 1;
+    symbols = record { arity = 1; ac = false; weight = 1; precedence = 1 } ∷
+        record { arity = 0; ac = false; weight = 1; precedence = 0 } ∷ [];
+  };
+  rules = replicate n (record { left = side; right = side });
+}
+
+one-reads : readWords (unpacked (file 1)) ≡ got (file 1) 268
+unfolding readWords wholeReader fileReader bodyReader symbolsReader symbolReader rulesReader ruleReader forestReader
+    wordBelow unpacked items flatMap
+one-reads = refl
+
+one-formed : WellFormedFile (file 1)
+one-formed = readable-well-formed (file 1) (fromWords (unpacked (file 1)) 268 one-reads) .0
+
+all-same : {A : Type 0} {a b : A} (n : ℕ) → List·Memᴰ b (replicate n a) → b ≡ a
+all-same zero m = absurd (List·Memᴰ·not-nil m)
+all-same (suc n) (List·Memᴰ·head e) = e
+all-same (suc n) (List·Memᴰ·tail m) = all-same n m
+
+long-formed : WellFormedFile (file 114)
+long-formed =
+    let within = one-formed .within in
+    record {
+      admissible = one-formed .admissible;
+      someSymbol = one-formed .someSymbol;
+      within = record {
+        symbolCount = within .symbolCount;
+        w0 = within .w0;
+        ruleCount = lit< tt;
+        arity = within .arity;
+        weight = within .weight;
+        precedence = within .precedence;
+      };
+      sides = λ r m. one-formed .sides r (List·Memᴰ·head (all-same 114 m));
+    }
+
+too-long : leb (length (packed (file 114))) maxBytes ≡ false
+unfolding packed items flatMap
+too-long = refl
+
+long-refused : (output : List ℕ) → encoded (unpacked (file 114)) output ≡
+    record { reply = refused (record { code = fileTooLong; input = 0; offset = 0 }); output = output }
+unfolding encoded
+long-refused output = rw (well-formed-files-read (file 114) long-formed .1, too-long)

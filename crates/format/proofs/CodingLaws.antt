@@ -21,7 +21,7 @@ use Rattle.format.specs.Reading.{spelt, bitAt, bitField, bitSource, word
 use Rattle.format.specs.Reading.Reading.{got}
 use Rattle.format.specs.Packing.{Item, itemWord, bitsOf, itemBits}
 use Rattle.format.specs.Packing.Item.{field, node}
-use Rattle.format.proofs.ReadingLaws.{Holds, holds-got, holds-then}
+use Rattle.format.proofs.ReadingLaws.{HoldsOf, holds-got, holds-then}
 use Rattle.format.proofs.SpellingLaws.{Fits, ItemRead, Agrees, agrees-split, CodedAt, Coding}
 
 -- ---- words
@@ -33,8 +33,8 @@ module _ (ws : List ℕ) where
   abbrev WordRead : ℕ → ℕ → ℕ → ℕ → Type 0
   WordRead bound at v next = (v < bound) × (next ≡ at + 1) × (next ≤ length ws) × Agrees wordAt at (v ∷ [])
 
-  word-read : (bound at : ℕ) → Holds (WordRead bound at) (wordBelow ws bound at)
-  unfolding wordBelow Holds
+  word-read : (bound at : ℕ) → HoldsOf (WordRead bound at) (wordBelow ws bound at)
+  unfolding wordBelow HoldsOf
   word-read bound at =
       byTest (ltb at (length ws))
       (λ e.
@@ -51,8 +51,8 @@ module _ (ws : List ℕ) where
       rw (lt-ltb at (length ws) (omega arith), a .0, lt-ltb v bound h)
 
   word-node : (at : ℕ) →
-      Holds (λ v next. WordRead (firstVariable + variableCount) at (v .word) next) (wordSource ws .node at)
-  unfolding Holds
+      HoldsOf (λ v next. WordRead (firstVariable + variableCount) at (v .word) next) (wordSource ws .node at)
+  unfolding HoldsOf
   word-node at =
       let bound = firstVariable + variableCount in
       holds-then _ (wordBelow ws bound at) _ λ w next e. holds-got _ _ w next (word-read bound at) e
@@ -118,8 +118,8 @@ module _ (bytes : List ℕ) where
   abbrev BitCoded : Item → ℕ → ℕ → Type 0
   BitCoded = CodedAt (bitAt bytes) (8 * length bytes) itemBits
 
-  bit-read : (width at : ℕ) → Holds (λ v next. BitCoded (field width v) at next) (bitField bytes width at)
-  unfolding bitField Holds
+  bit-read : (width at : ℕ) → HoldsOf (λ v next. BitCoded (field width v) at next) (bitField bytes width at)
+  unfolding bitField HoldsOf
   bit-read width at =
       let v = spelt (bitAt bytes) at width in
       let lt = spelt-lt (bitAt bytes) bit-lt at width in
@@ -149,8 +149,8 @@ module _ (bytes : List ℕ) where
       (omega arith, omega arith, m, (a .0, rw after at b))
   tagged (suc (suc n)) at at₁ number next (t, e, l, a) c = absurd (omega arith)
 
-  bit-node : (at : ℕ) → Holds (λ v next. BitCoded (node (v .word)) at next) (bitSource bytes .node at)
-  unfolding Holds
+  bit-node : (at : ℕ) → HoldsOf (λ v next. BitCoded (node (v .word)) at next) (bitSource bytes .node at)
+  unfolding HoldsOf
   bit-node at =
       holds-then _ (bitField bytes tagWidth at) _ λ tag at₁ e₁.
       let width = cond (eqb tag 0) symbolWidth variableWidth in

@@ -1,7 +1,7 @@
 -- A fault lies within the input, or at its end.
 --     Within, within-fault, within-got     the next offset, or the fault's, is no further than the limit
 --     node-within-got, node-within-fault   the same of a node
---     Bounded, whole-within        what is asked of a source, and what then holds of reading a file
+--     BoundedSource, whole-within        what is asked of a source, and what then holds of reading a file
 --     words-bounded, bits-bounded, bits-within, bits-node   the two sources
 --     bytes-fault, words-fault, term-fault
 use mathlib.Core.Path.{_≡_}
@@ -84,12 +84,12 @@ module _ (limit : ℕ) where
   node-after (got a at) k h f = f a at h
   node-after (fault code offset) k h f = h
 
-  pub record Bounded (source : Source) : Type 0 where
+  pub record BoundedSource (source : Source) : Type 0 where
     pub field : (width at : ℕ) → at ≤ limit → Within (source .field width at)
     pub node : (at : ℕ) → at ≤ limit → NodeWithin (source .node at)
     pub end : (at : ℕ) → at ≤ limit → Within (source .end at)
 
-  module _ (source : Source) (b : Bounded source) where
+  module _ (source : Source) (b : BoundedSource source) where
     forest-within : (σ : Signature) (a n at : ℕ) → at ≤ limit → Within (forestReader source σ a n at)
     unfolding forestReader Within
     forest-within σ zero zero at h = h
@@ -176,7 +176,7 @@ module _ (words : List ℕ) where
       let bound = firstVariable + variableCount in
       node-after (length words) (wordBelow words bound at) _ (below-within bound at h) λ w next l. (h, l)
 
-  words-bounded : Bounded (length words) (wordSource words)
+  words-bounded : BoundedSource (length words) (wordSource words)
   words-bounded = record {
     field = λ width. below-within (2 ^ width);
     node = words-node;
@@ -215,7 +215,7 @@ module _ (bytes : List ℕ) where
       let width = cond (eqb tag 0) symbolWidth variableWidth in
       node-after bitCount (bitField bytes width at₁) _ (bits-within width at₁ h₁) λ number next l. (h₁, l)
 
-  pub bits-bounded : Bounded bitCount (bitSource bytes)
+  pub bits-bounded : BoundedSource bitCount (bitSource bytes)
   bits-bounded = record {
     field = bits-within;
     node = bits-node;

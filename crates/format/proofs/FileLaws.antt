@@ -22,7 +22,7 @@ use Rattle.format.specs.Format.{RuleFile, fileReader}
 use Rattle.format.specs.Files.{wholeReader, readBytes, readWords}
 use Rattle.format.specs.Packing.{Item, items, itemWord, itemBits, bytesOf, packed, unpacked}
 use Rattle.format.specs.Packing.Item.{field, node}
-use Rattle.format.proofs.ReadingLaws.{Holds, holds-got, holds-then, holds-require}
+use Rattle.format.proofs.ReadingLaws.{HoldsOf, holds-got, holds-then, holds-require}
 use Rattle.format.proofs.SpellingLaws.{AllFit, Agrees, agrees-at, agrees-of, Coding, spells→coded}
 use Rattle.format.proofs.SpellingLaws.{coded→spells}
 use Rattle.format.proofs.FormatLaws.{FileOk, file-read, file-reads}
@@ -67,8 +67,8 @@ nodes-each [] = refl
 nodes-each (w ∷ ws) = ap (_∷_ w) (nodes-each ws)
 
 words-read : (words : List ℕ) →
-    Holds (λ f end. (fileReader formNumber (wordSource words) 0 ≡ got f end) × (end ≡ length words)) (readWords words)
-unfolding readWords wholeReader Holds
+    HoldsOf (λ f end. (fileReader formNumber (wordSource words) 0 ≡ got f end) × (end ≡ length words)) (readWords words)
+unfolding readWords wholeReader HoldsOf
 words-read words =
     holds-then _ (fileReader formNumber (wordSource words) 0) _ λ f end e.
     holds-require _ (eqb end (length words)) _ end end _ λ t.
@@ -103,9 +103,9 @@ unpacked-reads f r =
 abbrev pub fileBits : RuleFile → List ℕ
 fileBits f = flatMap itemBits (items f)
 
-bytes-read : (bytes : List ℕ) → Holds (λ (f : RuleFile) (end : ℕ).
+bytes-read : (bytes : List ℕ) → HoldsOf (λ (f : RuleFile) (end : ℕ).
     (fileReader formNumber (bitSource bytes) 0 ≡ got f end) × (length bytes ≤ maxBytes) × Padded bytes end) (readBytes bytes)
-unfolding readBytes wholeReader Holds
+unfolding readBytes wholeReader HoldsOf
 bytes-read bytes =
     byTest (leb (length bytes) maxBytes)
     (λ short.

@@ -22,7 +22,7 @@ use Rattle.format.specs.Format.{symbolReader, symbolsReader, forestReade
 use Rattle.format.specs.Format.{fileReader}
 use Rattle.format.specs.Packing.{symbolItems, ruleItems, items}
 use Rattle.format.specs.Packing.Item.{field, node}
-use Rattle.format.proofs.ReadingLaws.{Holds, holds-got, holds-map, holds-then, holds-require}
+use Rattle.format.proofs.ReadingLaws.{HoldsOf, holds-got, holds-map, holds-then, holds-require}
 use Rattle.format.proofs.ForestLaws.{known, argumentCount, nothing-owed}
 use Rattle.format.proofs.SpellingLaws.{Spells, spells-append, spells-split}
 use Rattle.format.proofs.SpellingLaws.Spells.{none, more}
@@ -71,8 +71,8 @@ module _ (source : Source) where
   abbrev pub ForestRead : Signature → ℕ → ℕ → ℕ → List ℕ → ℕ → Type 0
   ForestRead σ a n at ws end = Forest σ a n ws × Spells source (map node ws) at end
 
-  pub forest-read : (σ : Signature) (a n at : ℕ) → Holds (ForestRead σ a n at) (forestReader source σ a n at)
-  unfolding forestReader Holds
+  pub forest-read : (σ : Signature) (a n at : ℕ) → HoldsOf (ForestRead σ a n at) (forestReader source σ a n at)
+  unfolding forestReader HoldsOf
   forest-read σ zero zero at = (noTerm, none)
   forest-read σ zero (suc n) at = tt
   forest-read σ (suc a) zero at = (noTerm, none)
@@ -95,8 +95,8 @@ module _ (source : Source) where
   RuleRead σ at r end =
       Forest σ maxNodes 1 (r .left) × Forest σ maxNodes 1 (r .right) × Spells source (ruleItems r) at end
 
-  rule-read : (σ : Signature) (at : ℕ) → Holds (RuleRead σ at) (ruleReader source σ at)
-  unfolding ruleReader Holds
+  rule-read : (σ : Signature) (at : ℕ) → HoldsOf (RuleRead σ at) (ruleReader source σ at)
+  unfolding ruleReader HoldsOf
   rule-read σ at =
       holds-then _ (forestReader source σ maxNodes 1 at) _ λ ls mid e₁.
       holds-then _ (forestReader source σ maxNodes 1 mid) _ λ rs end e₂.
@@ -114,8 +114,8 @@ module _ (source : Source) where
   abbrev RulesRead : Signature → ℕ → ℕ → List Sides → ℕ → Type 0
   RulesRead σ n at rs end = (length rs ≡ n) × RulesOk σ rs × Spells source (flatMap ruleItems rs) at end
 
-  rules-read : (σ : Signature) (n at : ℕ) → Holds (RulesRead σ n at) (rulesReader source σ n at)
-  unfolding rulesReader Holds flatMap
+  rules-read : (σ : Signature) (n at : ℕ) → HoldsOf (RulesRead σ n at) (rulesReader source σ n at)
+  unfolding rulesReader HoldsOf flatMap
   rules-read σ zero at = (refl, tt, none)
   rules-read σ (suc n) at =
       holds-then _ (ruleReader source σ at) _ λ r mid e₁.
@@ -158,13 +158,10 @@ module _ (source : Source) where
       (ss : List Symbol) × (all ≡ earlier ++ ss) × (length ss ≡ n) × SymbolsOk w0 earlier ss ×
       Spells source (flatMap symbolItems ss) at end
 
-  abbrev pub FileRead : ℕ → RuleFile → ℕ → Type 0
-  FileRead at f end = FileOk f × Spells source (items f) at end
-
   module _ (fits : (width at v next : ℕ) → source .field width at ≡ got v next → v < 2 ^ width) where
     symbol-read : (w0 : ℕ) (earlier : List Symbol) (at : ℕ) →
-        Holds (SymbolRead w0 earlier at) (symbolReader source w0 earlier at)
-    unfolding symbolReader Holds
+        HoldsOf (SymbolRead w0 earlier at) (symbolReader source w0 earlier at)
+    unfolding symbolReader HoldsOf
     symbol-read w0 earlier at =
         holds-then _ (source .field arityWidth at) _ λ arity at₁ e₁.
         holds-then _ (source .field acWidth at₁) _ λ ac at₂ e₂.
@@ -179,8 +176,8 @@ module _ (source : Source) where
         (ok, rw same (more e₁ (more e₂ (more e₃ (more e₄ none)))))
 
     pub symbols-read : (w0 n : ℕ) (earlier : List Symbol) (at : ℕ) →
-        Holds (SymbolsRead w0 n earlier at) (symbolsReader source w0 n earlier at)
-    unfolding symbolsReader Holds flatMap
+        HoldsOf (SymbolsRead w0 n earlier at) (symbolsReader source w0 n earlier at)
+    unfolding symbolsReader HoldsOf flatMap
     symbols-read w0 zero earlier at = ([], sym (append-nil earlier), refl, noSymbol, none)
     symbols-read w0 (suc n) earlier at =
         holds-then _ (symbolReader source w0 earlier at) _ λ s mid e.
@@ -189,8 +186,8 @@ module _ (source : Source) where
         holds-map _ _ (symbolsReader source w0 n upTo mid) (symbols-read w0 n upTo mid) λ all end (ss, a, k, oks, q).
         (s ∷ ss, a ∙ append-assoc earlier (s ∷ []) ss, ap suc k, symbol ok oks, spells-append source p q)
 
-    pub file-read : (at : ℕ) → Holds (FileRead at) (fileReader formNumber source at)
-    unfolding fileReader bodyReader items Holds
+    pub file-read : (at : ℕ) → HoldsOf (λ f end. FileOk f × Spells source (items f) at end) (fileReader formNumber source at)
+    unfolding fileReader bodyReader items HoldsOf
     file-read at =
         holds-then _ (source .field formWidth at) _ λ form at₁ e₁.
         holds-require _ (eqb form formNumber) _ at at₁ _ λ isForm.

@@ -22,7 +22,7 @@ use Rattle.format.specs.Files.{readFirstTerm, readTerm}
 use Rattle.format.specs.Packing.{items, symbolItems, ruleItems}
 use Rattle.format.specs.Packing.Item.{node}
 use Rattle.format.specs.Statements.{IsTerm, WellFormedFile}
-use Rattle.format.proofs.ReadingLaws.{Holds, holds-got, holds-then, holds-require}
+use Rattle.format.proofs.ReadingLaws.{HoldsOf, holds-got, holds-then, holds-require}
 use Rattle.format.proofs.SpellingLaws.{AllFit, all-fit-split, Agrees, agrees-at, spells→coded}
 use Rattle.format.proofs.FormatLaws.{Forest, RulesOk, forest-read}
 use Rattle.format.proofs.CodingLaws.{wordAt, word-coding}
@@ -94,8 +94,8 @@ module _ (σ : Signature) (input nodes : List ℕ) (end : ℕ) where
       ∙ sym (getD-take end input i 0 (omega arith)) in
       (ext-getD 0 nodes (take end input) (omega arith) each, count, forest-term σ nodes f fits)
 
-  term-read : Holds (λ ws at. (readFirstTerm σ input ≡ got ws at) × (at ≡ length input)) (readTerm σ input)
-  unfolding readFirstTerm readTerm Holds
+  term-read : HoldsOf (λ ws at. (readFirstTerm σ input ≡ got ws at) × (at ≡ length input)) (readTerm σ input)
+  unfolding readFirstTerm readTerm HoldsOf
   term-read =
       holds-then _ (forestReader (wordSource input) σ maxNodes 1 0) _ λ ws at e.
       holds-require _ (eqb at (length input)) _ at at _ λ t.

@@ -2,7 +2,7 @@
 --     andThen-give      nothing after a reading
 --     andThen-assoc     three readings one after another
 --     andThen-same      what follows may be exchanged for what reads alike
---     Holds             a property of what a reading gives: holds-got, holds-map, holds-then, holds-require
+--     HoldsOf             a property of what a reading gives: holds-got, holds-map, holds-then, holds-require
 use mathlib.Core.Path.{_≡_, refl}
 use mathlib.Core.Bool.{Bool, true, false}
 use Prim.Native.Nat.{ℕ}
@@ -28,29 +28,29 @@ module _ {A B : Type 0} where
 
 module _ {A : Type 0} (P : A → ℕ → Type 0) where
   -- The property of the value and the next offset; nothing is said of a fault.
-  unfoldable pub Holds : Reading A → Type 0
-  Holds (got a at) = P a at
-  Holds (fault code offset) = Unit {0}
+  unfoldable pub HoldsOf : Reading A → Type 0
+  HoldsOf (got a at) = P a at
+  HoldsOf (fault code offset) = Unit {0}
 
-  pub holds-got : (r : Reading A) (a : A) (at : ℕ) → Holds r → r ≡ got a at → P a at
-  unfolding Holds
+  pub holds-got : (r : Reading A) (a : A) (at : ℕ) → HoldsOf r → r ≡ got a at → P a at
+  unfolding HoldsOf
   holds-got r a at h e = rw e at h
 
-pub holds-map : {A : Type 0} (P Q : A → ℕ → Type 0) (r : Reading A) → Holds P r →
-    ((a : A) (at : ℕ) → P a at → Q a at) → Holds Q r
-unfolding Holds
+pub holds-map : {A : Type 0} (P Q : A → ℕ → Type 0) (r : Reading A) → HoldsOf P r →
+    ((a : A) (at : ℕ) → P a at → Q a at) → HoldsOf Q r
+unfolding HoldsOf
 holds-map P Q (got a at) h f = f a at h
 holds-map P Q (fault code offset) h f = tt
 
 module _ {B : Type 0} (P : B → ℕ → Type 0) where
   pub holds-then : {A : Type 0} (r : Reading A) (k : A → Reader B) →
-      ((a : A) (next : ℕ) → r ≡ got a next → Holds P (k a next)) → Holds P (andThen r k)
-  unfolding Holds
+      ((a : A) (next : ℕ) → r ≡ got a next → HoldsOf P (k a next)) → HoldsOf P (andThen r k)
+  unfolding HoldsOf
   holds-then (got a at) k h = h a at refl
   holds-then (fault code offset) k h = tt
 
   pub holds-require : (ok : Bool) (code offset at : ℕ) (k : Unit {0} → Reader B) →
-      (ok ≡ true → Holds P (k tt at)) → Holds P (andThen (require ok code offset at) k)
-  unfolding Holds
+      (ok ≡ true → HoldsOf P (k tt at)) → HoldsOf P (andThen (require ok code offset at) k)
+  unfolding HoldsOf
   holds-require true code offset at k h = h refl
   holds-require false code offset at k h = tt

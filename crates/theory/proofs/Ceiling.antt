@@ -70,25 +70,26 @@ module _ (σ : Signature) where
         (ap₂ cons p r, z)
 
 module _ (σ : Signature) (A : Admissible σ) (W : ℕ) where
-  abbrev Bounded : Term → Type 0
-  Bounded u = Expression σ u × (weight σ u ≤ W)
+  -- An expression of weight at most W.
+  abbrev Light : Term → Type 0
+  Light u = Expression σ u × (weight σ u ≤ W)
 
   -- An expression's words, filled up, as a number.
   abbrev number : Term → ℕ
   number u = numberTo (length (σ .symbols)) (2 * W - 1) (words u)
 
-  words-fit : (u : Term) → Bounded u → length (words u) ≤ 2 * W - 1
-  words-fit u (e, l) = omega (arith, length-words u, nodes-le-weight σ A u (e .0))
+  words-short : (u : Term) → Light u → length (words u) ≤ 2 * W - 1
+  words-short u (e, l) = omega (arith, length-words u, nodes-le-weight σ A u (e .0))
 
-  numbers-differ : (s t : Term) → Bounded s → Bounded t → isGreater σ s t ≡ true → number s ≡ number t → ⊥
+  numbers-differ : (s t : Term) → Light s → Light t → isGreater σ s t ≡ true → number s ≡ number t → ⊥
   numbers-differ s t b c g e =
       let w =
-      numberTo-injective (length (σ .symbols)) (2 * W - 1) (words s) (words t) (words-fit s b) (words-fit t c)
+      numberTo-injective (length (σ .symbols)) (2 * W - 1) (words s) (words t) (words-short s b) (words-short t c)
       (words-below σ s (b .0)) (words-below σ t (c .0)) e in
       let (p, _) = words-prefix σ s t [] [] (b .0) (c .0) (ap (λ (l : List ℕ). l ++ []) w) in
       isGreater-order σ A .irreflexive (b .0 .0) (c .0 .0) g (rw p (isEquivalent-equivalence σ .reflexive t))
 
-  pub descending-ceiling : (l : List Term) → ((u : Term) → List·Memᴰ u l → Bounded u) →
+  pub descending-ceiling : (l : List Term) → ((u : Term) → List·Memᴰ u l → Light u) →
       StronglySorted (λ (s t : Term). isGreater σ s t ≡ true) l →
       length l ≤ suc (length (σ .symbols)) ^ (2 * W - 1)
   descending-ceiling l b d =

@@ -20,7 +20,7 @@ use Rattle.format.specs.Reading.Reading.{got, fault}
 use Rattle.format.specs.Format.{Sides, RuleFile, forestReader, rulesReader, symbolReader, symbolsReader}
 use Rattle.format.specs.Packing.{Item, items, ruleItems, symbolItems}
 use Rattle.format.specs.Packing.Item.{field, node}
-use Rattle.format.proofs.ForestLaws.{forest-short}
+use Rattle.format.proofs.SideLaws.{forest-short}
 use Rattle.files.specs.Items.{itemAt, itemsFrom}
 use Rattle.files.specs.File.{HeaderAt}
 use Rattle.words.proofs.WordLaws.{on-read}

@@ -25,7 +25,8 @@ use Rattle.format.specs.Reading.Reading.{got, fault}
 use Rattle.format.specs.Format.{forestReader}
 use Rattle.format.specs.Files.{readTerm}
 use Rattle.format.proofs.ForestLaws.{nothing-owed, none-allowed, node-fault, unknown-symbol, variable-read, symbol-read}
-use Rattle.format.proofs.ForestLaws.{before, forest-short}
+use Rattle.format.proofs.ForestLaws.{before}
+use Rattle.format.proofs.SideLaws.{forest-short}
 use Rattle.symbols.specs.Arities.{Arities}
 use Rattle.symbols.proofs.ArityLaws.{variable-cell, symbol-cell, no-cell}
 use Rattle.words.specs.declared.cursor.WordCursor.{WordCursor}

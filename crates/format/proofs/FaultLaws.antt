@@ -1,8 +1,8 @@
 -- A fault lies within the input, or at its end.
 --     Within, within-fault, within-got     the next offset, or the fault's, is no further than the limit
 --     node-within-got, node-within-fault   the same of a node
---     BoundedSource, whole-within        what is asked of a source, and what then holds of reading a file
---     words-bounded, bits-bounded, bits-within, bits-node   the two sources
+--     BoundedSource, whole-within          what is asked of a source, and what then holds of reading a file
+--     words-bounded, bits-bounded, bits-within, bits-node     the two sources
 --     bytes-fault, words-fault, term-fault
 use mathlib.Core.Path.{_≡_}
 use mathlib.Core.List.{List, [], _∷_, _++_}

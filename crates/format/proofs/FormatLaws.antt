@@ -3,6 +3,7 @@
 --     SymbolOk, SymbolsOk        what reading tests of the symbols
 --     Forest                     what reading tests of the nodes of some terms
 --     FileOk                     what reading tests of a file
+--     rules-length               as many rules as are called for
 --     file-read, file-reads      the two directions
 use mathlib.Core.Path.{_≡_, refl, sym, ap, _∙_}
 use mathlib.Core.List.{List, [], _∷_, _++_, map, flatMap, append-nil, append-assoc}
@@ -123,6 +124,10 @@ module _ (source : Source) where
       let (f, g, p) = holds-got _ _ r mid (rule-read σ at) e₁ in
       let (k, ok, q) = holds-got _ _ rs end (rules-read σ n mid) e₂ in
       (ap suc k, (f, g, ok), spells-append source p q)
+
+  pub rules-length : (σ : Signature) (n at : ℕ) (rs : List Sides) (end : ℕ) → rulesReader source σ n at ≡ got rs end →
+      length rs ≡ n
+  rules-length σ n at rs end e = holds-got _ _ rs end (rules-read σ n at) e .0
 
   rules-reads : (σ : Signature) (rs : List Sides) (at end : ℕ) → RulesOk σ rs →
       Spells source (flatMap ruleItems rs) at end → rulesReader source σ (length rs) at ≡ got rs end

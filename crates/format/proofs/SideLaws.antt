@@ -1,8 +1,8 @@
 -- The words of terms that are read are those of well-formed terms.
---     Formed            so many well-formed terms and their words
+--     TermsOf           so many well-formed terms and their words
 --     forest-formed     what is read as a forest is spelled by the terms of `forestOf`
 --     side-formed       what is read as one term is the words of `termOf`
---     forest-le, forest-short     it has no more nodes than are allowed
+--     forest-le, forest-short    it has no more nodes than are allowed
 use mathlib.Core.Path.{_≡_, refl, sym, ap, _∙_}
 use mathlib.Core.List.{List, [], _∷_, _++_, map, append-nil, append-assoc}
 use Prim.Native.Nat.{ℕ, suc, _+_, _-_, _≤_, _<_}
@@ -31,7 +31,7 @@ abbrev pub listWords : List Term → List ℕ
 listWords ts = wordsOf (arguments ts)
 
 module _ (σ : Signature) where
-  pub record Formed (n : ℕ) (ts : List Term) (ws : List ℕ) : Type 0 where
+  pub record TermsOf (n : ℕ) (ts : List Term) (ws : List ℕ) : Type 0 where
     pub count : length ts ≡ n
     pub spelled : listWords ts ≡ ws
     pub formed : WellFormeds σ (arguments ts)
@@ -47,7 +47,7 @@ module _ (σ : Signature) where
   formeds-split (t ∷ ts) us h = let (a, b) = formeds-split ts us (h .1) in ((h .0, a), b)
 
   grow-symbol : (w n : ℕ) (ts : List Term) (ws : List ℕ) → w < firstVariable → IsSymbol σ w →
-      Formed (symbolOf σ w .arity + n) ts ws → Formed (suc n) (grow σ w ts) (w ∷ ws)
+      TermsOf (symbolOf σ w .arity + n) ts ws → TermsOf (suc n) (grow σ w ts) (w ∷ ws)
   grow-symbol w n ts ws h s f =
       let m = symbolOf σ w .arity in
       let k = f .count in
@@ -63,7 +63,7 @@ module _ (σ : Signature) where
       })
 
   grow-variable : (w n : ℕ) (ts : List Term) (ws : List ℕ) → firstVariable ≤ w → w < firstVariable + variableCount →
-      Formed n ts ws → Formed (suc n) (grow σ w ts) (w ∷ ws)
+      TermsOf n ts ws → TermsOf (suc n) (grow σ w ts) (w ∷ ws)
   grow-variable w n ts ws h l f =
       let back : firstVariable + (w - firstVariable) ≡ w = omega arith in
       rw (le-ltb w firstVariable h) (record {
@@ -72,7 +72,7 @@ module _ (σ : Signature) where
         formed = (omega arith, f .formed);
       })
 
-  pub forest-formed : {a n : ℕ} {ws : List ℕ} → Forest σ a n ws → AllFit (map node ws) → Formed n (forestOf σ ws) ws
+  pub forest-formed : {a n : ℕ} {ws : List ℕ} → Forest σ a n ws → AllFit (map node ws) → TermsOf n (forestOf σ ws) ws
   unfolding forestOf
   forest-formed noTerm fits = record { count = refl; spelled = refl; formed = tt }
   forest-formed (termNode {a} {n} {w} {ws} k f) fits =
@@ -90,7 +90,7 @@ module _ (σ : Signature) where
   forest-le noTerm = omega arith
   forest-le (termNode k f) = omega (arith, forest-le f)
 
-  one-formed : (ts : List Term) (ws : List ℕ) → Formed 1 ts ws →
+  one-formed : (ts : List Term) (ws : List ℕ) → TermsOf 1 ts ws →
       (words (getD ts 0 (var 0)) ≡ ws) × WellFormed σ (getD ts 0 (var 0))
   one-formed [] ws f = absurd (omega (arith, f .count))
   one-formed (t ∷ []) ws f = (sym (append-nil (words t)) ∙ f .spelled, f .formed .0)

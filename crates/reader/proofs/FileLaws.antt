@@ -1,6 +1,5 @@
 -- What the code that reads a whole file has to show at each of its ends.
 --     signature-front                              the signature of a table's front part
---     rules-length                                 as many rules as were asked for
 --     unpacked-parts, unpacked-length              the words of a file
 --     symbols-fault, head-read, table-of           what follows a header
 --     rest-unread, rest-unpadded, rest-padded, rest-read     what follows the symbols
@@ -8,16 +7,16 @@
 use mathlib.Core.Path.{_≡_, refl, sym, ap, _∙_}
 use mathlib.Core.List.{List, [], _∷_, _++_, map, flatMap}
 use mathlib.Core.Bool.{true, false}
-use Prim.Native.Nat.{ℕ, suc, zero, _+_, _-_, _*_, _/_, _≤_, _<_}
+use Prim.Native.Nat.{ℕ, _+_, _*_, _/_, _≤_, _<_}
 use native.Mathlib.Omega.{arith}
 use lib.ListN.{length, length-append, getD, take}
 use lib.Seq.{getD-take, length-take-le}
 use Rattle.terms.specs.Signature.{Symbol, Signature, Admissible}
 use Rattle.format.specs.Errors.{badPadding}
 use Rattle.format.specs.Layout.{formNumber, maxBytes}
-use Rattle.format.specs.Reading.{Reading, andThen, give, Source, isPadding, bitSource}
+use Rattle.format.specs.Reading.{Reading, andThen, isPadding, bitSource}
 use Rattle.format.specs.Reading.Reading.{got, fault}
-use Rattle.format.specs.Format.{Sides, RuleFile, symbolsReader, ruleReader, rulesReader, bodyReader}
+use Rattle.format.specs.Format.{Sides, RuleFile, symbolsReader, rulesReader, bodyReader}
 use Rattle.format.specs.Packing.{itemWord, symbolItems, ruleItems, items, unpacked}
 use Rattle.format.specs.Packing.Item.{node}
 use Rattle.symbols.specs.Table.{symbolsAt, signatureOf}
@@ -29,12 +28,11 @@ use Rattle.reader.specs.Rule.{WordsRead, rulesWords}
 use Rattle.reader.specs.File.{restOfFile, restReader, HeadParts, HeadRead, RestRead, FileRead, symbolsWords}
 use Rattle.symbols.proofs.TableLaws.{length-symbols}
 use Rattle.format.proofs.ReadingLaws.{andThen-assoc, andThen-same, holds-got}
-use Rattle.format.proofs.FormatLaws.{symbols-read}
+use Rattle.format.proofs.FormatLaws.{symbols-read, rules-length}
 use Rattle.format.proofs.SymbolLaws.{admissible-of-symbols}
 use Rattle.bits.proofs.NodeLaws.{field-lt}
 use Rattle.format.proofs.FaultLaws.{within-got, symbols-within, bits-bounded}
 use Rattle.reader.proofs.SymbolLaws.{symbols-same}
-use Rattle.reader.proofs.RuleLaws.{rules-step}
 
 pub signature-front : (table : List ℕ) (n : ℕ) → 1 + 4 * n ≤ length table →
     signatureOf (take (1 + 4 * n) table) ≡ record { w0 = getD table 0 0; symbols = symbolsAt table 0 n }
@@ -45,32 +43,6 @@ signature-front table n h =
     let same : (j : ℕ) → j < 4 * (0 + n) + 1 → getD front j 0 ≡ getD table j 0 =
     λ j b. getD-take (1 + 4 * n) table j 0 (omega arith) in
     rw (count, same 0 (omega arith), symbols-same front table n 0 same)
-
--- ---- the rules
-
-abbrev Long : ℕ → Reading (List Sides) → Type 0
-Long n (got rs at) = length rs ≡ n
-Long n (fault code offset) = Unit {0}
-
-long-more : (n : ℕ) (r : Sides) (x : Reading (List Sides)) → Long n x → Long (suc n) (andThen x (λ rs. give (r ∷ rs)))
-long-more n r (got rs at) h = ap suc h
-long-more n r (fault code offset) h = tt
-
-long-rule : (n : ℕ) (rest : ℕ → Reading (List Sides)) → ((at : ℕ) → Long n (rest at)) → (x : Reading Sides) →
-    Long (suc n) (andThen x (λ r next. andThen (rest next) (λ rs. give (r ∷ rs))))
-long-rule n rest h (got r at) = long-more n r (rest at) (h at)
-long-rule n rest h (fault code offset) = tt
-
-long-rules : (source : Source) (σ : Signature) (n at : ℕ) → Long n (rulesReader source σ n at)
-unfolding rulesReader
-long-rules source σ zero at = refl
-long-rules source σ (suc n) at =
-    rw (rules-step source σ n at) (long-rule n (rulesReader source σ n) (long-rules source σ n) (ruleReader source σ
-    at))
-
-pub rules-length : (source : Source) (σ : Signature) (n at : ℕ) (rs : List Sides) (end : ℕ) →
-    rulesReader source σ n at ≡ got rs end → length rs ≡ n
-rules-length source σ n at rs end e = rw e at (long-rules source σ n at)
 
 -- ---- the words
 

@@ -3,7 +3,8 @@ use mathlib.Core.Path.{sym, _∙_}
 use native.Mathlib.Omega.{arith}
 use Rattle.format.specs.Reading.{bitSource}
 use Rattle.symbols.specs.Table.{signatureOf}
-use Rattle.reader.proofs.FileLaws.{rules-length, rest-unread, rest-unpadded, rest-padded}
+use Rattle.format.proofs.FormatLaws.{rules-length}
+use Rattle.reader.proofs.FileLaws.{rest-unread, rest-unpadded, rest-padded}
 use Rattle.marking.proofs.WalkLaws.{marked-as}
 use borrow.Author.Needs.{needs}
 use Rattle.marking.proofs.walk.mark_under.Statement.{statement}

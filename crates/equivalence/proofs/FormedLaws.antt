@@ -1,6 +1,6 @@
 -- Complete words and well-formed terms: the words of one are complete, and the terms in the others are well formed.
 use mathlib.Core.List.{List, [], _∷_, _++_, append-nil, append-assoc}
-use mathlib.Core.Path.{_≡_, ap}
+use mathlib.Core.Path.{_≡_, sym, ap, _∙_}
 use mathlib.Core.Logic.{inl, inr}
 use Prim.Native.Nat.{ℕ, suc, zero, _+_, _-_, _≤_, _<_}
 use native.Mathlib.Omega.{arith}
@@ -8,13 +8,14 @@ use lib.ListN.{length, getD, take, drop, length-append, List·getD-eq-default}
 use lib.Seq.{length-take-le}
 use borrow.Author.Tests.{lt-ltb, le-ltb}
 use Rattle.terms.specs.Signature.{Symbol, Signature, symbolOf}
-use Rattle.terms.specs.Term.{Term, Terms, row, arguments, WellFormed, WellFormeds}
+use Rattle.terms.specs.Term.{Term, Terms, size, row, arguments, WellFormed, WellFormeds}
 use Rattle.terms.specs.Term.Term.{var, app}
 use Rattle.terms.specs.Term.Terms.{nil, cons}
-use Rattle.terms.specs.Words.{firstVariable, words, wordsOf, grow, forestOf}
+use Rattle.terms.specs.Words.{firstVariable, words, wordsOf, grow, forestOf, termOf}
 use Rattle.terms.proofs.TermLaws.{size-pos, row-arguments}
 use Rattle.terms.proofs.WordsLaws.{forestOf-wordsOf, length-words}
-use Rattle.equivalence.specs.Parts.{IsTerm, IsNode, Complete, partAt}
+use Rattle.format.specs.Statements.{IsTerm}
+use Rattle.equivalence.specs.Parts.{IsNode, Complete, partAt}
 use Rattle.equivalence.proofs.PartLaws.{complete-drop}
 
 module _ (σ : Signature) (few : length (σ .symbols) ≤ firstVariable) where
@@ -35,12 +36,17 @@ module _ (σ : Signature) (few : length (σ .symbols) ≤ firstVariable) where
     complete-wordsOf (cons t ts) w ws c =
         rw append-assoc (complete-words t (w .0) (wordsOf ts ++ ws) (complete-wordsOf ts (w .1) ws c))
 
-  pub term-complete : (ws : List ℕ) → IsTerm σ ws → Complete σ ws
-  term-complete ws (t, w, e) = rw e (rw append-nil at (complete-words t w [] tt))
+  pub term-complete : {ws : List ℕ} → IsTerm σ ws → Complete σ ws
+  term-complete {ws} p =
+      let c = rw append-nil at (complete-words (termOf σ ws) (p .wellFormed) [] tt) in rw (← p .spelled) at c
 
-  pub term-some : (ws : List ℕ) → IsTerm σ ws → 0 < length ws
-  term-some ws (t, w, e) = rw (e, length-words) (size-pos t)
+pub term-size : {σ : Signature} {ws : List ℕ} → IsTerm σ ws → size (termOf σ ws) ≡ length ws
+term-size {σ} {ws} p = sym (ap length (p .spelled) ∙ length-words (termOf σ ws))
 
+pub term-some : {σ : Signature} {ws : List ℕ} → IsTerm σ ws → 0 < length ws
+term-some {σ} {ws} p = omega (arith, term-size p, size-pos (termOf σ ws))
+
+module _ (σ : Signature) (few : length (σ .symbols) ≤ firstVariable) where
   take-formed : (n : ℕ) (l : List Term) → WellFormeds σ (arguments l) → WellFormeds σ (arguments (take n l))
   take-formed zero l w = tt
   take-formed (suc n) [] w = tt

@@ -1,18 +1,13 @@
 -- Terms as parts of their words: the term that starts at an offset, the n terms that stand there, their elements.
 use mathlib.Core.List.{List, [], _∷_}
-use mathlib.Core.Path.{_≡_}
 use mathlib.Core.Logic.{_⊎_}
 use Prim.Native.Nat.{ℕ, _+_, _≤_, _<_}
 use lib.ListN.{length, take, drop}
 use Rattle.terms.specs.Signature.{Signature, symbolOf, IsSymbol}
-use Rattle.terms.specs.Term.{Term, arguments, flattenings, variableCount, WellFormed}
-use Rattle.terms.specs.Words.{firstVariable, words, forestOf, termOf}
+use Rattle.terms.specs.Term.{Term, arguments, flattenings, variableCount}
+use Rattle.terms.specs.Words.{firstVariable, forestOf, termOf}
 
 module _ (σ : Signature) where
-  -- The words of one well-formed term.
-  abbrev pub IsTerm : List ℕ → Type 0
-  IsTerm ws = (t : Term) × WellFormed σ t × (ws ≡ words t)
-
   -- The term that starts at an offset, and the n terms that stand there.
   abbrev pub partAt : List ℕ → ℕ → Term
   partAt ws i = termOf σ (drop i ws)

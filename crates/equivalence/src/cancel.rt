@@ -1,7 +1,9 @@
 // The cancelling of AC-equivalent pairs.
+use crate::MAX_ELEMENTS;
 use crate::equivalence::partner;
 use crate::offsets::delete;
 use crate::offsets::wide_byte;
+use format::MAX_NODES;
 ghost use Rattle.symbols.specs.Table.{signatureOf};
 ghost use Rattle.equivalence.specs.Keys.{Sides};
 ghost use Rattle.equivalence.specs.Offsets.{Offsets, OffsetsIn, leftAt};
@@ -15,15 +17,15 @@ pub struct Counts {
 pub fn cancel(
     table: &&[u16],
     s: &&[u16],
-    sk: &[u64; 128],
-    ps: &mut [u8; 64],
+    left_keys: &[u64; MAX_NODES],
+    ps: &mut [u8; MAX_ELEMENTS],
     n: usize,
     t: &&[u16],
-    tk: &[u64; 128],
-    qs: &mut [u8; 64],
+    right_keys: &[u64; MAX_NODES],
+    qs: &mut [u8; MAX_ELEMENTS],
     m: usize,
 ) -> Counts
-    requires { ⌜ Sides (now (now table)) (now (now s)) (now sk) (now (now t)) (now tk) ⌝ }
+    requires { ⌜ Sides (now (now table)) (now (now s)) (now «left_keys») (now (now t)) (now «right_keys») ⌝ }
     requires { ⌜ OffsetsIn (now (now table)) (now (now s)) (now ps) n ⌝ }
     requires { ⌜ OffsetsIn (now (now table)) (now (now t)) (now qs) m ⌝ }
     ensures { λ r. ⌜
@@ -42,7 +44,7 @@ pub fn cancel(
     let mut right = m;
     while k < n {
         let p = ps[k];
-        let r = partner(table, s, sk, wide_byte(p), t, tk, qs, right);
+        let r = partner(table, s, left_keys, wide_byte(p), t, right_keys, qs, right);
         if r == right {
             ps[left] = p;
             left += 1;

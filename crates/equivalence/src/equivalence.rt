@@ -1,8 +1,10 @@
 // The AC-equivalence test: terms, rows of arguments and flattenings, which call one another.
+use crate::MAX_ELEMENTS;
 use crate::flatten::elements;
 use crate::keys::size_at;
 use crate::offsets::delete;
 use crate::offsets::wide_byte;
+use format::MAX_NODES;
 use symbols::arity;
 use symbols::is_ac;
 ghost use mathlib.Core.Path.{_≡_};
@@ -17,39 +19,39 @@ ghost use Rattle.equivalence.specs.Offsets.{OffsetsIn, First, alikeAt, r
 pub fn equivalent(
     table: &&[u16],
     s: &&[u16],
-    sk: &[u64; 128],
+    left_keys: &[u64; MAX_NODES],
     i: usize,
     t: &&[u16],
-    tk: &[u64; 128],
+    right_keys: &[u64; MAX_NODES],
     j: usize,
 ) -> bool
-    requires { ⌜ Sides (now (now table)) (now (now s)) (now sk) (now (now t)) (now tk) ⌝ }
+    requires { ⌜ Sides (now (now table)) (now (now s)) (now «left_keys») (now (now t)) (now «right_keys») ⌝ }
     requires { ⌜ (i < length (now (now s))) × (j < length (now (now t))) ⌝ }
     ensures { λ r. ⌜ r ≡ alikeAt (now (now (table .entry))) (now (now (s .entry))) i (now (now (t .entry))) j ⌝ }
 {
-    if sk[i] != tk[j] {
+    if left_keys[i] != right_keys[j] {
         return false;
     }
     let f = s[i];
     let n = arity(*table, f);
     if is_ac(*table, f) {
-        return flattenings_equivalent(table, s, sk, i + 1, t, tk, j + 1, f, n);
+        return flattenings_equivalent(table, s, left_keys, i + 1, t, right_keys, j + 1, f, n);
     }
-    rows_equivalent(table, s, sk, i + 1, t, tk, j + 1, n)
+    rows_equivalent(table, s, left_keys, i + 1, t, right_keys, j + 1, n)
 }
 
 // Are the n terms at i and j equivalent in their order?
 fn rows_equivalent(
     table: &&[u16],
     s: &&[u16],
-    sk: &[u64; 128],
+    left_keys: &[u64; MAX_NODES],
     i: usize,
     t: &&[u16],
-    tk: &[u64; 128],
+    right_keys: &[u64; MAX_NODES],
     j: usize,
     n: usize,
 ) -> bool
-    requires { ⌜ Sides (now (now table)) (now (now s)) (now sk) (now (now t)) (now tk) ⌝ }
+    requires { ⌜ Sides (now (now table)) (now (now s)) (now «left_keys») (now (now t)) (now «right_keys») ⌝ }
     requires { ⌜
         Stands (signatureOf (now (now table))) (now (now s)) i n
         × Stands (signatureOf (now (now table))) (now (now t)) j n
@@ -63,30 +65,30 @@ fn rows_equivalent(
     let mut to = j;
     let mut left = n;
     while left > 1 {
-        if equivalent(table, s, sk, at, t, tk, to) {
-            at += size_at(sk, at);
-            to += size_at(tk, to);
+        if equivalent(table, s, left_keys, at, t, right_keys, to) {
+            at += size_at(left_keys, at);
+            to += size_at(right_keys, to);
             left -= 1;
         } else {
             return false;
         }
     }
-    equivalent(table, s, sk, at, t, tk, to)
+    equivalent(table, s, left_keys, at, t, right_keys, to)
 }
 
 // Are the flattenings for f of the n terms at i and of those at j equivalent as multisets?
 fn flattenings_equivalent(
     table: &&[u16],
     s: &&[u16],
-    sk: &[u64; 128],
+    left_keys: &[u64; MAX_NODES],
     i: usize,
     t: &&[u16],
-    tk: &[u64; 128],
+    right_keys: &[u64; MAX_NODES],
     j: usize,
     f: u16,
     n: usize,
 ) -> bool
-    requires { ⌜ Sides (now (now table)) (now (now s)) (now sk) (now (now t)) (now tk) ⌝ }
+    requires { ⌜ Sides (now (now table)) (now (now s)) (now «left_keys») (now (now t)) (now «right_keys») ⌝ }
     requires { ⌜
         Stands (signatureOf (now (now table))) (now (now s)) i n
         × Stands (signatureOf (now (now table))) (now (now t)) j n
@@ -98,25 +100,25 @@ fn flattenings_equivalent(
         (elementsAt (signatureOf (now (now (table .entry)))) f (now (now (t .entry))) j n)
         ⌝ }
 {
-    let mut offsets = [0u8; 64];
-    let m = elements(table, f, t, tk, j, n, &mut offsets);
-    cancels(table, s, sk, i, t, tk, f, n, &mut offsets, m)
+    let mut offsets = [0u8; MAX_ELEMENTS];
+    let m = elements(table, f, t, right_keys, j, n, &mut offsets);
+    cancels(table, s, left_keys, i, t, right_keys, f, n, &mut offsets, m)
 }
 
 // Does the flattening for f of the n terms at i cancel against the terms at the first m offsets?
 fn cancels(
     table: &&[u16],
     s: &&[u16],
-    sk: &[u64; 128],
+    left_keys: &[u64; MAX_NODES],
     i: usize,
     t: &&[u16],
-    tk: &[u64; 128],
+    right_keys: &[u64; MAX_NODES],
     f: u16,
     n: usize,
-    offsets: &mut [u8; 64],
+    offsets: &mut [u8; MAX_ELEMENTS],
     m: usize,
 ) -> bool
-    requires { ⌜ Sides (now (now table)) (now (now s)) (now sk) (now (now t)) (now tk) ⌝ }
+    requires { ⌜ Sides (now (now table)) (now (now s)) (now «left_keys») (now (now t)) (now «right_keys») ⌝ }
     requires { ⌜ Stands (signatureOf (now (now table))) (now (now s)) i n ⌝ }
     requires { ⌜ f < 256 ⌝ }
     requires { ⌜ OffsetsIn (now (now table)) (now (now t)) (now offsets) m ⌝ }
@@ -134,12 +136,12 @@ fn cancels(
             owed = arity(*table, f) + (owed - 1);
             at += 1;
         } else {
-            let k = partner(table, s, sk, at, t, tk, offsets, left);
+            let k = partner(table, s, left_keys, at, t, right_keys, offsets, left);
             if k == left {
                 return false;
             }
             delete(offsets, k, left);
-            at += size_at(sk, at);
+            at += size_at(left_keys, at);
             owed -= 1;
             left -= 1;
         }
@@ -152,14 +154,14 @@ fn cancels(
 pub fn partner(
     table: &&[u16],
     s: &&[u16],
-    sk: &[u64; 128],
+    left_keys: &[u64; MAX_NODES],
     i: usize,
     t: &&[u16],
-    tk: &[u64; 128],
-    offsets: &[u8; 64],
+    right_keys: &[u64; MAX_NODES],
+    offsets: &[u8; MAX_ELEMENTS],
     m: usize,
 ) -> usize
-    requires { ⌜ Sides (now (now table)) (now (now s)) (now sk) (now (now t)) (now tk) ⌝ }
+    requires { ⌜ Sides (now (now table)) (now (now s)) (now «left_keys») (now (now t)) (now «right_keys») ⌝ }
     requires { ⌜ i < length (now (now s)) ⌝ }
     requires { ⌜ OffsetsIn (now (now table)) (now (now t)) (now offsets) m ⌝ }
     ensures { λ r. ⌜
@@ -167,16 +169,16 @@ pub fn partner(
         (getD (now (offsets .entry)) k 0)) m r
         ⌝ }
 {
-    let key = sk[i];
-    let leaf = size_at(sk, i) == 1;
+    let key = left_keys[i];
+    let leaf = size_at(left_keys, i) == 1;
     let mut k = 0;
     while k < m {
         let j = wide_byte(offsets[k]);
-        if tk[j] != key {
+        if right_keys[j] != key {
             k += 1;
         } else if leaf {
             return k;
-        } else if equivalent(table, s, sk, i, t, tk, j) {
+        } else if equivalent(table, s, left_keys, i, t, right_keys, j) {
             return k;
         } else {
             k += 1;
@@ -189,18 +191,18 @@ pub fn partner(
 pub fn equivalent_by_keys(
     table: &&[u16],
     s: &&[u16],
-    sk: &[u64; 128],
+    left_keys: &[u64; MAX_NODES],
     i: usize,
     t: &&[u16],
-    tk: &[u64; 128],
+    right_keys: &[u64; MAX_NODES],
     j: usize,
 ) -> bool
-    requires { ⌜ Sides (now (now table)) (now (now s)) (now sk) (now (now t)) (now tk) ⌝ }
+    requires { ⌜ Sides (now (now table)) (now (now s)) (now «left_keys») (now (now t)) (now «right_keys») ⌝ }
     requires { ⌜ (i < length (now (now s))) × (j < length (now (now t))) ⌝ }
     ensures { λ r. ⌜ r ≡ alikeAt (now (now (table .entry))) (now (now (s .entry))) i (now (now (t .entry))) j ⌝ }
 {
-    if sk[i] == tk[j] {
-        return equivalent(table, s, sk, i, t, tk, j);
+    if left_keys[i] == right_keys[j] {
+        return equivalent(table, s, left_keys, i, t, right_keys, j);
     }
     false
 }

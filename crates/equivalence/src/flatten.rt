@@ -1,5 +1,7 @@
 // The elements of flattenings, listed by their offsets.
+use crate::MAX_ELEMENTS;
 use crate::keys::size_at;
+use format::MAX_NODES;
 use symbols::arity;
 ghost use mathlib.Core.Path.{_≡_};
 ghost use Prim.Native.Nat.{_≤_, _<_};
@@ -14,10 +16,10 @@ pub fn elements(
     table: &&[u16],
     f: u16,
     words: &&[u16],
-    keys: &[u64; 128],
+    keys: &[u64; MAX_NODES],
     i: usize,
     n: usize,
-    offsets: &mut [u8; 64],
+    offsets: &mut [u8; MAX_ELEMENTS],
 ) -> usize
     requires { ⌜ (f < 256) × (length (now offsets) ≡ 64) ⌝ }
     requires { ⌜ Prepared (signatureOf (now (now table))) (now (now words)) (now keys) ⌝ }

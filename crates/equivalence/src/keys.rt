@@ -1,4 +1,5 @@
 // Keys by offset, prepared once from right to left.
+use format::MAX_NODES;
 use symbols::arity;
 use symbols::is_ac;
 use symbols::long;
@@ -40,7 +41,7 @@ fn added(ac: bool, f: u16, before: u64, word: u16, hash: u64) -> u64
 }
 
 // The key at an offset, and 0 past the end.
-fn key_at(keys: &[u64; 128], i: usize) -> u64
+fn key_at(keys: &[u64; MAX_NODES], i: usize) -> u64
     requires { ⌜ length (now keys) ≡ 128 ⌝ }
     ensures { λ r. ⌜ r ≡ getD (now (keys .entry)) i 0 ⌝ }
 {
@@ -48,7 +49,7 @@ fn key_at(keys: &[u64; 128], i: usize) -> u64
 }
 
 // The size of the term at an offset.
-pub fn size_at(keys: &[u64; 128], i: usize) -> usize
+pub fn size_at(keys: &[u64; MAX_NODES], i: usize) -> usize
     requires { ⌜ i < 128 ⌝ }
     ensures { λ r. ⌜ (r ≡ sizeIn (now (keys .entry)) i) × (r < 256) ⌝ }
 {
@@ -61,7 +62,7 @@ struct Gathered {
 }
 
 // The offset after the n arguments of f at i, and their hash.
-fn gather(ac: bool, f: u16, words: &[u16], keys: &[u64; 128], i: usize, n: usize) -> Gathered
+fn gather(ac: bool, f: u16, words: &[u16], keys: &[u64; MAX_NODES], i: usize, n: usize) -> Gathered
     requires { ⌜ (i + 256 * n < 2 ^ 64) × (length (now keys) ≡ 128) ⌝ }
     ensures { λ r. ⌜ r .end ≡ offsetAfter (now (keys .entry)) i n ⌝ }
     ensures { λ r. ⌜
@@ -81,7 +82,7 @@ fn gather(ac: bool, f: u16, words: &[u16], keys: &[u64; 128], i: usize, n: usize
 }
 
 // Writes the key of the term that starts at each offset.
-pub fn prepare(table: &[u16], words: &[u16], keys: &mut [u64; 128])
+pub fn prepare(table: &[u16], words: &[u16], keys: &mut [u64; MAX_NODES])
     requires { ⌜ Complete (signatureOf (now table)) (now words) ⌝ }
     requires { ⌜ (length (now table) ≤ 1025) × (length (now words) ≤ 128) × (length (now keys) ≡ 128) ⌝ }
     ensures { λ r. ⌜ Prepared (signatureOf (now (table .entry))) (now (words .entry)) (now (keys .exit)) ⌝ }

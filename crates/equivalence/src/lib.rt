@@ -5,3 +5,6 @@ pub mod equivalence;
 pub mod flatten;
 pub mod keys;
 pub mod offsets;
+
+// How many elements a flattening may have: those of a term with an AC symbol at each inner node.
+pub const MAX_ELEMENTS: usize = 64;

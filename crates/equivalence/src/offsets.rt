@@ -1,4 +1,5 @@
 // Lists of offsets: the first of 64 bytes.
+use crate::MAX_ELEMENTS;
 ghost use mathlib.Core.Path.{_≡_};
 ghost use Prim.Native.Nat.{_-_, _≤_, _<_};
 ghost use lib.ListN.{length, take};
@@ -12,7 +13,7 @@ pub fn wide_byte(byte: u8) -> usize
 }
 
 // Takes the offset at index k out of the first m.
-pub fn delete(offsets: &mut [u8; 64], k: usize, m: usize)
+pub fn delete(offsets: &mut [u8; MAX_ELEMENTS], k: usize, m: usize)
     requires { ⌜ (k < m) × (m ≤ 64) × (length (now offsets) ≡ 64) ⌝ }
     ensures { λ r. ⌜ take (m - 1) (now (offsets .exit)) ≡ deleted k (take m (now (offsets .entry))) ⌝ }
     ensures { λ r. ⌜ length (now (offsets .exit)) ≡ length (now (offsets .entry)) ⌝ }

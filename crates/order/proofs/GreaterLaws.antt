@@ -17,7 +17,8 @@ use Rattle.terms.specs.Order.{noneOftener, rootMark, decreasingMark, isGreater}
 use Rattle.terms.proofs.OrderLaws.{isGreater-unfolds}
 use Rattle.symbols.specs.Table.{signatureOf}
 use Rattle.equivalence.specs.Parts.{partAt}
-use Rattle.order.specs.Compared.{Scales, weightAt, noneOftenerAt, isHigher, greaterAt, rootAt, rowsGreater}
+use Rattle.measures.specs.Sums.{Scales}
+use Rattle.order.specs.Compared.{weightAt, noneOftenerAt, isHigher, greaterAt, rootAt, rowsGreater}
 use Rattle.order.specs.Compared.{flattenedAt}
 use Rattle.order.proofs.RootLaws.{positive, root-variable, root-differing, root-elements, root-rows}
 

@@ -1,10 +1,4 @@
 -- The laws that the functions' proofs cite, in reading order.
-pub mod SumLaws
-mod TripleLaws
-mod AddsLaws
-pub mod TotalLaws
-pub mod OccurrenceLaws
-pub mod DigitLaws
 pub mod MeasureLaws
 pub mod CoverLaws
 pub mod SplitLaws
@@ -14,4 +8,3 @@ pub mod GreaterLaws
 pub mod EquivalentLaws
 pub mod MarkLaws
 pub mod WholeLaws
-pub mod MarginLaws

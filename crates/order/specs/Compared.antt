@@ -2,7 +2,7 @@
 use mathlib.Core.List.{List}
 use mathlib.Core.Bool.{Bool, true, cond, _&&_}
 use mathlib.Core.Path.{_≡_}
-use Prim.Native.Nat.{ℕ, _≤_, _<_}
+use Prim.Native.Nat.{ℕ, _≤_}
 use lib.Dec.{ltb}
 use lib.ListN.{length, getD}
 use Rattle.multisets.specs.Multiset.{every, some, multisetEqual, multisetGreater, rowGreater}
@@ -12,17 +12,10 @@ use Rattle.terms.specs.Equivalence.{isEquivalent}
 use Rattle.terms.specs.Words.{firstVariable}
 use Rattle.terms.specs.Order.{noneOftener, variables as variablesOf, highPart, lowPart, joinedHigh, flattenedMark}
 use Rattle.terms.specs.Order.{rootMark, isGreater}
+use Rattle.format.specs.Statements.{IsTerm}
 use Rattle.symbols.specs.Table.{signatureOf}
-use Rattle.equivalence.specs.Parts.{IsTerm, partAt, partsAt, elementsAt}
-use Rattle.equivalence.specs.Keys.{Sides}
+use Rattle.equivalence.specs.Parts.{partAt, partsAt, elementsAt}
 use Rattle.equivalence.specs.Offsets.{Offsets}
-use Rattle.order.specs.Sums.{Summed}
-
--- What both sides of a comparison by the order are.
-pub record Scales (table s sk sw t tk tw : List ℕ) : Type 0 where
-  pub sides : Sides table s sk t tk
-  pub left : (kind : ℕ) → kind < 3 → Summed (signatureOf table) kind s sw
-  pub right : (kind : ℕ) → kind < 3 → Summed (signatureOf table) kind t tw
 
 -- Two whole terms.
 pub record Whole (table s t : List ℕ) : Type 0 where
@@ -30,8 +23,6 @@ pub record Whole (table s t : List ℕ) : Type 0 where
   pub binary : AcBinary (signatureOf table)
   pub left : IsTerm (signatureOf table) s
   pub right : IsTerm (signatureOf table) t
-  pub leftShort : length s ≤ 128
-  pub rightShort : length t ≤ 128
 
 -- The offsets of the elements above f, of those below f and of the variables, and how many elements there are.
 pub record Parted (σ : Signature) (f : ℕ) (ws : List ℕ) (ts : List Term) (above below variables : List ℕ)

@@ -1,3 +1,2 @@
 -- What the contracts of the comparison by the order say.
-pub mod Sums
 pub mod Compared

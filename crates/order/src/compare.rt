@@ -1,12 +1,15 @@
 // The comparison by the order: terms, rows of arguments and flattenings, which call one another.
 use crate::parts::join_surplus;
 use crate::parts::parts;
-use crate::sums::digits_within;
-use crate::sums::sum_at;
+use equivalence::MAX_ELEMENTS;
 use equivalence::cancel::cancel;
 use equivalence::equivalence::equivalent_by_keys;
 use equivalence::keys::size_at;
 use equivalence::offsets::wide_byte;
+use format::MAX_NODES;
+use measures::SUMS;
+use measures::sums::none_oftener_at;
+use measures::sums::weight_at;
 use symbols::arity;
 use symbols::is_ac;
 use symbols::precedence;
@@ -18,33 +21,9 @@ ghost use lib.ListN.{length};
 ghost use Rattle.symbols.specs.Table.{signatureOf};
 ghost use Rattle.equivalence.specs.Parts.{elementsAt, Stands};
 ghost use Rattle.equivalence.specs.Offsets.{OffsetsIn, termsAt};
-ghost use Rattle.order.specs.Compared.{Scales, noneOftenerAt, isHigher, greaterAt, rowsGreater};
+ghost use Rattle.measures.specs.Sums.{Scales};
+ghost use Rattle.order.specs.Compared.{noneOftenerAt, isHigher, greaterAt, rowsGreater};
 ghost use Rattle.order.specs.Compared.{flattenedAt, covered, verdict};
-
-// Does no variable occur oftener in the term at j than in the term at i?
-fn none_oftener(
-    table: &&[u16],
-    s: &&[u16],
-    sk: &[u64; 128],
-    sw: &[u64; 387],
-    i: usize,
-    t: &&[u16],
-    tk: &[u64; 128],
-    tw: &[u64; 387],
-    j: usize,
-) -> bool
-    requires { ⌜ Scales (now (now table)) (now (now s)) (now sk) (now sw) (now (now t)) (now tk) (now tw) ⌝ }
-    requires { ⌜ (i < length (now (now s))) × (j < length (now (now t))) ⌝ }
-    ensures { λ r. ⌜ r ≡ noneOftenerAt (now (now (table .entry))) (now (now (s .entry))) i (now (now (t .entry))) j ⌝ }
-{
-    let a = sum_at(*table, 1, *s, sk, sw, i);
-    let b = sum_at(*table, 1, *t, tk, tw, j);
-    let c = sum_at(*table, 2, *s, sk, sw, i);
-    let d = sum_at(*table, 2, *t, tk, tw, j);
-    let low = digits_within(a, b);
-    let high = digits_within(c, d);
-    if low { high } else { false }
-}
 
 // Are both words symbols, and the first higher in the precedence?
 pub fn higher(table: &[u16], f: u16, g: u16) -> bool
@@ -63,20 +42,40 @@ pub fn higher(table: &[u16], f: u16, g: u16) -> bool
 fn greater(
     table: &&[u16],
     s: &&[u16],
-    sk: &[u64; 128],
-    sw: &[u64; 387],
+    left_keys: &[u64; MAX_NODES],
+    left_sums: &[u64; SUMS],
     i: usize,
     t: &&[u16],
-    tk: &[u64; 128],
-    tw: &[u64; 387],
+    right_keys: &[u64; MAX_NODES],
+    right_sums: &[u64; SUMS],
     j: usize,
 ) -> bool
-    requires { ⌜ Scales (now (now table)) (now (now s)) (now sk) (now sw) (now (now t)) (now tk) (now tw) ⌝ }
+    requires { ⌜ Scales (now (now table)) (now (now s)) (now «left_keys») (now «left_sums») (now (now t)) (now «right_keys») (now «right_sums») ⌝ }
     requires { ⌜ (i < length (now (now s))) × (j < length (now (now t))) ⌝ }
     ensures { λ r. ⌜ r ≡ greaterAt (now (now (table .entry))) (now (now (s .entry))) i (now (now (t .entry))) j ⌝ }
 {
-    if none_oftener(table, s, sk, sw, i, t, tk, tw, j) {
-        return exceeds(table, s, sk, sw, i, t, tk, tw, j);
+    if none_oftener_at(
+        *table,
+        *s,
+        left_keys,
+        left_sums,
+        i,
+        *t,
+        right_keys,
+        right_sums,
+        j,
+    ) {
+        return exceeds(
+            table,
+            s,
+            left_keys,
+            left_sums,
+            i,
+            t,
+            right_keys,
+            right_sums,
+            j,
+        );
     }
     false
 }
@@ -85,23 +84,23 @@ fn greater(
 fn exceeds(
     table: &&[u16],
     s: &&[u16],
-    sk: &[u64; 128],
-    sw: &[u64; 387],
+    left_keys: &[u64; MAX_NODES],
+    left_sums: &[u64; SUMS],
     i: usize,
     t: &&[u16],
-    tk: &[u64; 128],
-    tw: &[u64; 387],
+    right_keys: &[u64; MAX_NODES],
+    right_sums: &[u64; SUMS],
     j: usize,
 ) -> bool
-    requires { ⌜ Scales (now (now table)) (now (now s)) (now sk) (now sw) (now (now t)) (now tk) (now tw) ⌝ }
+    requires { ⌜ Scales (now (now table)) (now (now s)) (now «left_keys») (now «left_sums») (now (now t)) (now «right_keys») (now «right_sums») ⌝ }
     requires { ⌜
         (i < length (now (now s))) × (j < length (now (now t)))
         × (true ≡ noneOftenerAt (now (now table)) (now (now s)) i (now (now t)) j)
         ⌝ }
     ensures { λ r. ⌜ r ≡ greaterAt (now (now (table .entry))) (now (now (s .entry))) i (now (now (t .entry))) j ⌝ }
 {
-    let x = sum_at(*table, 0, *s, sk, sw, i);
-    let y = sum_at(*table, 0, *t, tk, tw, j);
+    let x = weight_at(*table, *s, left_keys, left_sums, i);
+    let y = weight_at(*table, *t, right_keys, right_sums, j);
     if x != y {
         return y < x;
     }
@@ -115,25 +114,49 @@ fn exceeds(
     }
     let n = arity(*table, f);
     if is_ac(*table, f) {
-        return flattened(table, s, sk, sw, i + 1, t, tk, tw, j + 1, f, n) > 0;
+        return flattened(
+            table,
+            s,
+            left_keys,
+            left_sums,
+            i + 1,
+            t,
+            right_keys,
+            right_sums,
+            j + 1,
+            f,
+            n,
+        )
+            > 0;
     }
-    rows_greater(table, s, sk, sw, i + 1, t, tk, tw, j + 1, n)
+    rows_greater(
+        table,
+        s,
+        left_keys,
+        left_sums,
+        i + 1,
+        t,
+        right_keys,
+        right_sums,
+        j + 1,
+        n,
+    )
 }
 
 // Are the n terms at i greater than those at j, at the first where they are not equivalent?
 pub fn rows_greater(
     table: &&[u16],
     s: &&[u16],
-    sk: &[u64; 128],
-    sw: &[u64; 387],
+    left_keys: &[u64; MAX_NODES],
+    left_sums: &[u64; SUMS],
     i: usize,
     t: &&[u16],
-    tk: &[u64; 128],
-    tw: &[u64; 387],
+    right_keys: &[u64; MAX_NODES],
+    right_sums: &[u64; SUMS],
     j: usize,
     n: usize,
 ) -> bool
-    requires { ⌜ Scales (now (now table)) (now (now s)) (now sk) (now sw) (now (now t)) (now tk) (now tw) ⌝ }
+    requires { ⌜ Scales (now (now table)) (now (now s)) (now «left_keys») (now «left_sums») (now (now t)) (now «right_keys») (now «right_sums») ⌝ }
     requires { ⌜
         Stands (signatureOf (now (now table))) (now (now s)) i n
         × Stands (signatureOf (now (now table))) (now (now t)) j n
@@ -144,12 +167,22 @@ pub fn rows_greater(
     let mut to = j;
     let mut left = n;
     while left > 0 {
-        if equivalent_by_keys(table, s, sk, at, t, tk, to) {
-            at += size_at(sk, at);
-            to += size_at(tk, to);
+        if equivalent_by_keys(table, s, left_keys, at, t, right_keys, to) {
+            at += size_at(left_keys, at);
+            to += size_at(right_keys, to);
             left -= 1;
         } else {
-            return greater(table, s, sk, sw, at, t, tk, tw, to);
+            return greater(
+                table,
+                s,
+                left_keys,
+                left_sums,
+                at,
+                t,
+                right_keys,
+                right_sums,
+                to,
+            );
         }
     }
     false
@@ -159,17 +192,17 @@ pub fn rows_greater(
 pub fn flattened(
     table: &&[u16],
     s: &&[u16],
-    sk: &[u64; 128],
-    sw: &[u64; 387],
+    left_keys: &[u64; MAX_NODES],
+    left_sums: &[u64; SUMS],
     i: usize,
     t: &&[u16],
-    tk: &[u64; 128],
-    tw: &[u64; 387],
+    right_keys: &[u64; MAX_NODES],
+    right_sums: &[u64; SUMS],
     j: usize,
     f: u16,
     n: usize,
 ) -> u8
-    requires { ⌜ Scales (now (now table)) (now (now s)) (now sk) (now sw) (now (now t)) (now tk) (now tw) ⌝ }
+    requires { ⌜ Scales (now (now table)) (now (now s)) (now «left_keys») (now «left_sums») (now (now t)) (now «right_keys») (now «right_sums») ⌝ }
     requires { ⌜
         Stands (signatureOf (now (now table))) (now (now s)) i n
         × Stands (signatureOf (now (now table))) (now (now t)) j n
@@ -182,28 +215,60 @@ pub fn flattened(
         r ≡ flattenedAt (now (now (table .entry))) f (now (now (s .entry))) i (now (now (t .entry))) j n
         ⌝ }
 {
-    let mut sh = [0u8; 64];
-    let mut sl = [0u8; 64];
-    let mut sv = [0u8; 64];
-    let mut th = [0u8; 64];
-    let mut tl = [0u8; 64];
-    let mut tv = [0u8; 64];
-    let left = parts(table, f, s, sk, i, n, &mut sh, &mut sl, &mut sv);
-    let right = parts(table, f, t, tk, j, n, &mut th, &mut tl, &mut tv);
+    let mut left_high = [0u8; MAX_ELEMENTS];
+    let mut left_low = [0u8; MAX_ELEMENTS];
+    let mut left_variables = [0u8; MAX_ELEMENTS];
+    let mut right_high = [0u8; MAX_ELEMENTS];
+    let mut right_low = [0u8; MAX_ELEMENTS];
+    let mut right_variables = [0u8; MAX_ELEMENTS];
+    let left = parts(
+        table,
+        f,
+        s,
+        left_keys,
+        i,
+        n,
+        &mut left_high,
+        &mut left_low,
+        &mut left_variables,
+    );
+    let right = parts(
+        table,
+        f,
+        t,
+        right_keys,
+        j,
+        n,
+        &mut right_high,
+        &mut right_low,
+        &mut right_variables,
+    );
     let m = join_surplus(
         table,
         s,
-        sk,
-        &mut sv,
+        left_keys,
+        &mut left_variables,
         left.variables,
         t,
-        tk,
-        &mut tv,
+        right_keys,
+        &mut right_variables,
         right.variables,
-        &mut th,
+        &mut right_high,
         right.above,
     );
-    let high = compare(table, s, sk, sw, &mut sh, left.above, t, tk, tw, &mut th, m);
+    let high = compare(
+        table,
+        s,
+        left_keys,
+        left_sums,
+        &mut left_high,
+        left.above,
+        t,
+        right_keys,
+        right_sums,
+        &mut right_high,
+        m,
+    );
     if high == 2 {
         return 4;
     }
@@ -221,14 +286,14 @@ pub fn flattened(
     let low = compare(
         table,
         s,
-        sk,
-        sw,
-        &mut sl,
+        left_keys,
+        left_sums,
+        &mut left_low,
         left.below,
         t,
-        tk,
-        tw,
-        &mut tl,
+        right_keys,
+        right_sums,
+        &mut right_low,
         right.below,
     );
     if low == 2 {
@@ -241,17 +306,17 @@ pub fn flattened(
 fn compare(
     table: &&[u16],
     s: &&[u16],
-    sk: &[u64; 128],
-    sw: &[u64; 387],
-    ps: &mut [u8; 64],
+    left_keys: &[u64; MAX_NODES],
+    left_sums: &[u64; SUMS],
+    ps: &mut [u8; MAX_ELEMENTS],
     n: usize,
     t: &&[u16],
-    tk: &[u64; 128],
-    tw: &[u64; 387],
-    qs: &mut [u8; 64],
+    right_keys: &[u64; MAX_NODES],
+    right_sums: &[u64; SUMS],
+    qs: &mut [u8; MAX_ELEMENTS],
     m: usize,
 ) -> u8
-    requires { ⌜ Scales (now (now table)) (now (now s)) (now sk) (now sw) (now (now t)) (now tk) (now tw) ⌝ }
+    requires { ⌜ Scales (now (now table)) (now (now s)) (now «left_keys») (now «left_sums») (now (now t)) (now «right_keys») (now «right_sums») ⌝ }
     requires { ⌜ OffsetsIn (now (now table)) (now (now s)) (now ps) n ⌝ }
     requires { ⌜ OffsetsIn (now (now table)) (now (now t)) (now qs) m ⌝ }
     ensures { λ r. ⌜
@@ -261,7 +326,7 @@ fn compare(
         (termsAt (now (now (table .entry))) (now (now (t .entry))) (now (qs .entry)) m)
         ⌝ }
 {
-    let rest = cancel(table, s, sk, ps, n, t, tk, qs, m);
+    let rest = cancel(table, s, left_keys, ps, n, t, right_keys, qs, m);
     let a = rest.left;
     let b = rest.right;
     if a == 0 {
@@ -270,7 +335,19 @@ fn compare(
         }
         return 0;
     }
-    if covers(table, s, sk, sw, ps, a, t, tk, tw, qs, b) {
+    if covers(
+        table,
+        s,
+        left_keys,
+        left_sums,
+        ps,
+        a,
+        t,
+        right_keys,
+        right_sums,
+        qs,
+        b,
+    ) {
         return 2;
     }
     0
@@ -289,17 +366,17 @@ fn past(next: usize, first: usize) -> usize
 fn covers(
     table: &&[u16],
     s: &&[u16],
-    sk: &[u64; 128],
-    sw: &[u64; 387],
-    ps: &[u8; 64],
+    left_keys: &[u64; MAX_NODES],
+    left_sums: &[u64; SUMS],
+    ps: &[u8; MAX_ELEMENTS],
     n: usize,
     t: &&[u16],
-    tk: &[u64; 128],
-    tw: &[u64; 387],
-    qs: &[u8; 64],
+    right_keys: &[u64; MAX_NODES],
+    right_sums: &[u64; SUMS],
+    qs: &[u8; MAX_ELEMENTS],
     m: usize,
 ) -> bool
-    requires { ⌜ Scales (now (now table)) (now (now s)) (now sk) (now sw) (now (now t)) (now tk) (now tw) ⌝ }
+    requires { ⌜ Scales (now (now table)) (now (now s)) (now «left_keys») (now «left_sums») (now (now t)) (now «right_keys») (now «right_sums») ⌝ }
     requires { ⌜ OffsetsIn (now (now table)) (now (now s)) (now ps) n × (0 < n) ⌝ }
     requires { ⌜ OffsetsIn (now (now table)) (now (now t)) (now qs) m ⌝ }
     ensures { λ r. ⌜
@@ -320,7 +397,17 @@ fn covers(
                 return false;
             }
             let i = wide_byte(ps[x]);
-            if greater(table, s, sk, sw, i, t, tk, tw, j) {
+            if greater(
+                table,
+                s,
+                left_keys,
+                left_sums,
+                i,
+                t,
+                right_keys,
+                right_sums,
+                j,
+            ) {
                 break 'left;
             }
             x = past(next, first);

@@ -4,4 +4,3 @@ pub mod compare;
 pub mod mark;
 pub mod parts;
 pub mod relation;
-pub mod sums;

@@ -2,11 +2,14 @@
 use crate::compare::flattened;
 use crate::compare::higher;
 use crate::compare::rows_greater;
-use crate::sums::Totals;
-use crate::sums::digits_within;
-use crate::sums::sum_up;
 use equivalence::equivalence::equivalent;
 use equivalence::keys::prepare;
+use format::MAX_NODES;
+use measures::NODE_SUMS;
+use measures::SUMS;
+use measures::sums::sum_up;
+use measures::totals::Totals;
+use measures::totals::none_oftener;
 use symbols::arity;
 use symbols::is_ac;
 ghost use mathlib.Core.Bool.{true, false};
@@ -18,40 +21,54 @@ ghost use Rattle.terms.specs.Order.{mark as markOf};
 ghost use Rattle.symbols.specs.Table.{signatureOf};
 ghost use Rattle.equivalence.specs.Keys.{Sides};
 ghost use Rattle.equivalence.specs.Offsets.{alikeAt};
-ghost use Rattle.order.specs.Sums.{Totalled, NodeSums, SmallTotals, totalsWithin};
-ghost use Rattle.order.specs.Compared.{Whole, Scales, SameRoot, noneOftenerAt, weightAt, rootAt};
-
-// Does no variable occur oftener in the term with the right totals?
-pub fn within(s: Totals, t: Totals) -> bool
-    requires { ⌜ SmallTotals s × SmallTotals t ⌝ }
-    ensures { λ r. ⌜ r ≡ totalsWithin s t ⌝ }
-{
-    if digits_within(s.low, t.low) {
-        return digits_within(s.high, t.high);
-    }
-    false
-}
+ghost use Rattle.measures.specs.Nodes.{NodeSums};
+ghost use Rattle.measures.specs.Totals.{Totalled};
+ghost use Rattle.measures.specs.Sums.{Scales};
+ghost use Rattle.order.specs.Compared.{Whole, SameRoot, noneOftenerAt, weightAt, rootAt};
 
 // The mark by the arguments of two whole terms with the same root: 3 to 6, or 0.
 pub fn arguments_mark(
     table: &[u16],
     s: &[u16],
-    sk: &[u64; 128],
-    sw: &[u64; 387],
+    left_keys: &[u64; MAX_NODES],
+    left_sums: &[u64; SUMS],
     t: &[u16],
-    tk: &[u64; 128],
-    tw: &[u64; 387],
+    right_keys: &[u64; MAX_NODES],
+    right_sums: &[u64; SUMS],
 ) -> u8
-    requires { ⌜ Scales (now table) (now s) (now sk) (now sw) (now t) (now tk) (now tw) ⌝ }
+    requires { ⌜ Scales (now table) (now s) (now «left_keys») (now «left_sums») (now t) (now «right_keys») (now «right_sums») ⌝ }
     requires { ⌜ (0 < length (now s)) × (0 < length (now t)) × (getD (now s) 0 0 ≡ getD (now t) 0 0) ⌝ }
     ensures { λ r. ⌜ r ≡ rootAt (now (table .entry)) (now (s .entry)) 0 (now (t .entry)) 0 ⌝ }
 {
     let f = s[0];
     let n = arity(table, f);
     if is_ac(table, f) {
-        return flattened(&table, &s, sk, sw, 1, &t, tk, tw, 1, f, n);
+        return flattened(
+            &table,
+            &s,
+            left_keys,
+            left_sums,
+            1,
+            &t,
+            right_keys,
+            right_sums,
+            1,
+            f,
+            n,
+        );
     }
-    if rows_greater(&table, &s, sk, sw, 1, &t, tk, tw, 1, n) {
+    if rows_greater(
+        &table,
+        &s,
+        left_keys,
+        left_sums,
+        1,
+        &t,
+        right_keys,
+        right_sums,
+        1,
+        n,
+    ) {
         return 3;
     }
     0
@@ -61,16 +78,19 @@ pub fn arguments_mark(
 // the right one.
 fn mark_unlike(
     table: &[u16],
-    adds: &[u64; 816],
+    adds: &[u64; NODE_SUMS],
     s: &[u16],
-    sk: &[u64; 128],
+    left_keys: &[u64; MAX_NODES],
     t: &[u16],
-    tk: &[u64; 128],
+    right_keys: &[u64; MAX_NODES],
 ) -> u8
-    requires { ⌜ Sides (now table) (now s) (now sk) (now t) (now tk) ⌝ }
     requires { ⌜
-        (0 < length (now s)) × (0 < length (now t)) × SameRoot (now table) (now s) (now t)
-        × NodeSums (signatureOf (now table)) (now adds) × (false ≡ alikeAt (now table) (now s) 0 (now t) 0)
+        Whole (now table) (now s) (now t) × SameRoot (now table) (now s) (now t)
+        × NodeSums (signatureOf (now table)) (now adds)
+        ⌝ }
+    requires { ⌜
+        Sides (now table) (now s) (now «left_keys») (now t) (now «right_keys»)
+        × (false ≡ alikeAt (now table) (now s) 0 (now t) 0)
         ⌝ }
     ensures { λ r. ⌜
         r
@@ -78,11 +98,11 @@ fn mark_unlike(
         (termOf (signatureOf (now (table .entry))) (now (t .entry)))
         ⌝ }
 {
-    let mut sw = [0u64; 387];
-    let mut tw = [0u64; 387];
-    sum_up(adds, s, &mut sw);
-    sum_up(adds, t, &mut tw);
-    let m = arguments_mark(table, s, sk, &sw, t, tk, &tw);
+    let mut left_sums = [0u64; SUMS];
+    let mut right_sums = [0u64; SUMS];
+    sum_up(table, adds, s, &mut left_sums);
+    sum_up(table, adds, t, &mut right_sums);
+    let m = arguments_mark(table, s, left_keys, &left_sums, t, right_keys, &right_sums);
     if m > 0 {
         return m;
     }
@@ -93,23 +113,23 @@ fn mark_unlike(
 pub fn prepare_both(
     table: &[u16],
     s: &[u16],
-    sk: &mut [u64; 128],
+    left_keys: &mut [u64; MAX_NODES],
     t: &[u16],
-    tk: &mut [u64; 128],
+    right_keys: &mut [u64; MAX_NODES],
 ) -> bool
-    requires { ⌜ Whole (now table) (now s) (now t) × (length (now sk) ≡ 128) × (length (now tk) ≡ 128) ⌝ }
+    requires { ⌜ Whole (now table) (now s) (now t) × (length (now «left_keys») ≡ 128) × (length (now «right_keys») ≡ 128) ⌝ }
     ensures { λ r. ⌜ r ≡ alikeAt (now (table .entry)) (now (s .entry)) 0 (now (t .entry)) 0 ⌝ }
     ensures { λ _. ⌜
-        Sides (now (table .entry)) (now (s .entry)) (now (sk .exit)) (now (t .entry)) (now (tk .exit))
+        Sides (now (table .entry)) (now (s .entry)) (now («left_keys» .exit)) (now (t .entry)) (now («right_keys» .exit))
         ⌝ }
 {
-    prepare(table, s, sk);
-    prepare(table, t, tk);
-    equivalent(&table, &s, sk, 0, &t, tk, 0)
+    prepare(table, s, left_keys);
+    prepare(table, t, right_keys);
+    equivalent(&table, &s, left_keys, 0, &t, right_keys, 0)
 }
 
 // The mark of two terms of equal weight with the same root, where no variable occurs oftener in the right one.
-fn mark_prepared(table: &[u16], adds: &[u64; 816], s: &[u16], t: &[u16]) -> u8
+fn mark_prepared(table: &[u16], adds: &[u64; NODE_SUMS], s: &[u16], t: &[u16]) -> u8
     requires { ⌜
         Whole (now table) (now s) (now t) × SameRoot (now table) (now s) (now t)
         × NodeSums (signatureOf (now table)) (now adds)
@@ -120,16 +140,16 @@ fn mark_prepared(table: &[u16], adds: &[u64; 816], s: &[u16], t: &[u16]) -> u8
         (termOf (signatureOf (now (table .entry))) (now (t .entry)))
         ⌝ }
 {
-    let mut sk = [0u64; 128];
-    let mut tk = [0u64; 128];
-    if prepare_both(table, s, &mut sk, t, &mut tk) {
+    let mut left_keys = [0u64; MAX_NODES];
+    let mut right_keys = [0u64; MAX_NODES];
+    if prepare_both(table, s, &mut left_keys, t, &mut right_keys) {
         return 9;
     }
-    mark_unlike(table, adds, s, &sk, t, &tk)
+    mark_unlike(table, adds, s, &left_keys, t, &right_keys)
 }
 
 // The mark of two terms of equal weight, where no variable occurs oftener in the right one.
-fn mark_level(table: &[u16], adds: &[u64; 816], s: &[u16], t: &[u16]) -> u8
+fn mark_level(table: &[u16], adds: &[u64; NODE_SUMS], s: &[u16], t: &[u16]) -> u8
     requires { ⌜ Whole (now table) (now s) (now t) ⌝ }
     requires { ⌜
         (true ≡ noneOftenerAt (now table) (now s) 0 (now t) 0)
@@ -154,10 +174,17 @@ fn mark_level(table: &[u16], adds: &[u64; 816], s: &[u16], t: &[u16]) -> u8
 }
 
 // The mark of two terms with these totals, 1 to 10.
-pub fn mark(table: &[u16], adds: &[u64; 816], s: &[u16], st: Totals, t: &[u16], tt: Totals) -> u8
+pub fn mark(
+    table: &[u16],
+    adds: &[u64; NODE_SUMS],
+    s: &[u16],
+    left_totals: Totals,
+    t: &[u16],
+    right_totals: Totals,
+) -> u8
     requires { ⌜ Whole (now table) (now s) (now t) ⌝ }
     requires { ⌜
-        Totalled (signatureOf (now table)) (now s) st × Totalled (signatureOf (now table)) (now t) tt
+        Totalled (signatureOf (now table)) (now s) «left_totals» × Totalled (signatureOf (now table)) (now t) «right_totals»
         × NodeSums (signatureOf (now table)) (now adds)
         ⌝ }
     ensures { λ r. ⌜
@@ -166,11 +193,11 @@ pub fn mark(table: &[u16], adds: &[u64; 816], s: &[u16], st: Totals, t: &[u16], 
         (termOf (signatureOf (now (table .entry))) (now (t .entry)))
         ⌝ }
 {
-    if within(st, tt) {
-        if tt.weight < st.weight {
+    if none_oftener(left_totals, right_totals) {
+        if right_totals.weight < left_totals.weight {
             return 1;
         }
-        if st.weight < tt.weight {
+        if left_totals.weight < right_totals.weight {
             return 8;
         }
         return mark_level(table, adds, s, t);

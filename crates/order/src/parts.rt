@@ -1,7 +1,9 @@
 // The elements of a flattening, split by their roots, and the high part that is compared.
+use equivalence::MAX_ELEMENTS;
 use equivalence::cancel::cancel;
 use equivalence::flatten::elements;
 use equivalence::offsets::wide_byte;
+use format::MAX_NODES;
 use symbols::precedence;
 ghost use mathlib.Core.Path.{_≡_};
 ghost use mathlib.Core.List.{List, _++_};
@@ -26,11 +28,11 @@ fn split(
     table: &[u16],
     f: u16,
     words: &[u16],
-    offsets: &[u8; 64],
+    offsets: &[u8; MAX_ELEMENTS],
     m: usize,
-    above: &mut [u8; 64],
-    below: &mut [u8; 64],
-    variables: &mut [u8; 64],
+    above: &mut [u8; MAX_ELEMENTS],
+    below: &mut [u8; MAX_ELEMENTS],
+    variables: &mut [u8; MAX_ELEMENTS],
 ) -> PartCounts
     requires { ⌜ OffsetsIn (now table) (now words) (now offsets) m ⌝ }
     requires { ⌜ (length (now above) ≡ 64) × (length (now below) ≡ 64) × (length (now variables) ≡ 64) ⌝ }
@@ -80,12 +82,12 @@ pub fn parts(
     table: &&[u16],
     f: u16,
     words: &&[u16],
-    keys: &[u64; 128],
+    keys: &[u64; MAX_NODES],
     i: usize,
     n: usize,
-    above: &mut [u8; 64],
-    below: &mut [u8; 64],
-    variables: &mut [u8; 64],
+    above: &mut [u8; MAX_ELEMENTS],
+    below: &mut [u8; MAX_ELEMENTS],
+    variables: &mut [u8; MAX_ELEMENTS],
 ) -> PartCounts
     requires { ⌜
         Prepared (signatureOf (now (now table))) (now (now words)) (now keys)
@@ -99,13 +101,20 @@ pub fn parts(
         (now (above .exit)) (now (below .exit)) (now (variables .exit)) (r .above) (r .below) (r .variables) (r .all)
         ⌝ }
 {
-    let mut offsets = [0u8; 64];
+    let mut offsets = [0u8; MAX_ELEMENTS];
     let m = elements(table, f, words, keys, i, n, &mut offsets);
     split(*table, f, *words, &offsets, m, above, below, variables)
 }
 
 // Puts the first m of qs after the first k of ps.
-fn join(table: &[u16], t: &[u16], ps: &mut [u8; 64], k: usize, qs: &[u8; 64], m: usize)
+fn join(
+    table: &[u16],
+    t: &[u16],
+    ps: &mut [u8; MAX_ELEMENTS],
+    k: usize,
+    qs: &[u8; MAX_ELEMENTS],
+    m: usize,
+)
     requires { ⌜ k + m ≤ 64 ⌝ }
     requires { ⌜ OffsetsIn (now table) (now t) (now qs) m ⌝ }
     ensures { λ r. ⌜ ((l : List Term) →
@@ -124,30 +133,40 @@ fn join(table: &[u16], t: &[u16], ps: &mut [u8; 64], k: usize, qs: &[u8; 64], m:
 pub fn join_surplus(
     table: &&[u16],
     s: &&[u16],
-    sk: &[u64; 128],
-    sv: &mut [u8; 64],
+    left_keys: &[u64; MAX_NODES],
+    left_variables: &mut [u8; MAX_ELEMENTS],
     a: usize,
     t: &&[u16],
-    tk: &[u64; 128],
-    tv: &mut [u8; 64],
+    right_keys: &[u64; MAX_NODES],
+    right_variables: &mut [u8; MAX_ELEMENTS],
     b: usize,
-    th: &mut [u8; 64],
+    right_high: &mut [u8; MAX_ELEMENTS],
     k: usize,
 ) -> usize
-    requires { ⌜ Sides (now (now table)) (now (now s)) (now sk) (now (now t)) (now tk) ⌝ }
-    requires { ⌜ OffsetsIn (now (now table)) (now (now s)) (now sv) a ⌝ }
-    requires { ⌜ OffsetsIn (now (now table)) (now (now t)) (now tv) b ⌝ }
-    requires { ⌜ OffsetsIn (now (now table)) (now (now t)) (now th) k ⌝ }
+    requires { ⌜ Sides (now (now table)) (now (now s)) (now «left_keys») (now (now t)) (now «right_keys») ⌝ }
+    requires { ⌜ OffsetsIn (now (now table)) (now (now s)) (now «left_variables») a ⌝ }
+    requires { ⌜ OffsetsIn (now (now table)) (now (now t)) (now «right_variables») b ⌝ }
+    requires { ⌜ OffsetsIn (now (now table)) (now (now t)) (now «right_high») k ⌝ }
     requires { ⌜ k + b ≤ 64 ⌝ }
     ensures { λ r. ⌜
-        Offsets (signatureOf (now (now (table .entry)))) (now (now (t .entry))) (now (th .exit)) r
-        (termsAt (now (now (table .entry))) (now (now (t .entry))) (now (th .entry)) k
-        ++ leftAt (now (now (table .entry))) (now (now (s .entry))) (now (sv .entry)) a (now (now (t .entry)))
-        (now (tv .entry)) b .right)
+        Offsets (signatureOf (now (now (table .entry)))) (now (now (t .entry))) (now («right_high» .exit)) r
+        (termsAt (now (now (table .entry))) (now (now (t .entry))) (now («right_high» .entry)) k
+        ++ leftAt (now (now (table .entry))) (now (now (s .entry))) (now («left_variables» .entry)) a (now (now (t .entry)))
+        (now («right_variables» .entry)) b .right)
         ⌝ }
 {
-    let rest = cancel(table, s, sk, sv, a, t, tk, tv, b);
+    let rest = cancel(
+        table,
+        s,
+        left_keys,
+        left_variables,
+        a,
+        t,
+        right_keys,
+        right_variables,
+        b,
+    );
     let m = rest.right;
-    join(*table, *t, th, k, tv, m);
+    join(*table, *t, right_high, k, right_variables, m);
     k + m
 }

@@ -1,43 +1,46 @@
-// The relation and the margin of two whole terms.
+// The relation of two whole terms.
 use crate::mark::arguments_mark;
 use crate::mark::mark;
 use crate::mark::prepare_both;
-use crate::mark::within;
-use crate::sums::Totals;
+use format::MAX_NODES;
+use measures::NODE_SUMS;
+use measures::SUMS;
+use measures::totals::Totals;
+use measures::totals::none_oftener;
 ghost use mathlib.Core.Bool.{false};
 ghost use mathlib.Core.Path.{_≡_};
-ghost use Prim.Native.Nat.{_≤_};
-ghost use lib.IntN.{subℕ};
 ghost use lib.ListN.{getD};
 ghost use Rattle.terms.specs.Words.{termOf};
 ghost use Rattle.symbols.specs.Table.{signatureOf};
 ghost use Rattle.equivalence.specs.Offsets.{alikeAt};
-ghost use Rattle.order.specs.Sums.{Totalled, SummedUp, NodeSums};
-ghost use Rattle.order.specs.Compared.{Whole, Scales, greaterAt};
+ghost use Rattle.measures.specs.Nodes.{NodeSums};
+ghost use Rattle.measures.specs.Totals.{Totalled};
+ghost use Rattle.measures.specs.Sums.{SummedUp, Scales};
+ghost use Rattle.order.specs.Compared.{Whole, greaterAt};
 ghost use Rattle.order.specs.Compared.{relation as relationOf};
 
 // Is the left one greater, of two whole terms of equal weight with the same root that are prepared?
 fn greater_level(
     table: &[u16],
     s: &[u16],
-    st: Totals,
-    sk: &[u64; 128],
-    sw: &[u64; 387],
+    left_totals: Totals,
+    left_keys: &[u64; MAX_NODES],
+    left_sums: &[u64; SUMS],
     t: &[u16],
-    tt: Totals,
-    tk: &[u64; 128],
-    tw: &[u64; 387],
+    right_totals: Totals,
+    right_keys: &[u64; MAX_NODES],
+    right_sums: &[u64; SUMS],
 ) -> bool
     requires { ⌜ Whole (now table) (now s) (now t) ⌝ }
-    requires { ⌜ Scales (now table) (now s) (now sk) (now sw) (now t) (now tk) (now tw) ⌝ }
+    requires { ⌜ Scales (now table) (now s) (now «left_keys») (now «left_sums») (now t) (now «right_keys») (now «right_sums») ⌝ }
     requires { ⌜
-        Totalled (signatureOf (now table)) (now s) st × Totalled (signatureOf (now table)) (now t) tt
-        × (st .weight ≡ tt .weight) × (getD (now s) 0 0 ≡ getD (now t) 0 0)
+        Totalled (signatureOf (now table)) (now s) «left_totals» × Totalled (signatureOf (now table)) (now t) «right_totals»
+        × («left_totals» .weight ≡ «right_totals» .weight) × (getD (now s) 0 0 ≡ getD (now t) 0 0)
         ⌝ }
     ensures { λ r. ⌜ r ≡ greaterAt (now (table .entry)) (now (s .entry)) 0 (now (t .entry)) 0 ⌝ }
 {
-    if within(st, tt) {
-        return arguments_mark(table, s, sk, sw, t, tk, tw) > 0;
+    if none_oftener(left_totals, right_totals) {
+        return arguments_mark(table, s, left_keys, left_sums, t, right_keys, right_sums) > 0;
     }
     false
 }
@@ -47,19 +50,19 @@ fn greater_level(
 fn relation_unlike(
     table: &[u16],
     s: &[u16],
-    st: Totals,
-    sk: &[u64; 128],
-    sw: &[u64; 387],
+    left_totals: Totals,
+    left_keys: &[u64; MAX_NODES],
+    left_sums: &[u64; SUMS],
     t: &[u16],
-    tt: Totals,
-    tk: &[u64; 128],
-    tw: &[u64; 387],
+    right_totals: Totals,
+    right_keys: &[u64; MAX_NODES],
+    right_sums: &[u64; SUMS],
 ) -> u8
     requires { ⌜ Whole (now table) (now s) (now t) ⌝ }
-    requires { ⌜ Scales (now table) (now s) (now sk) (now sw) (now t) (now tk) (now tw) ⌝ }
+    requires { ⌜ Scales (now table) (now s) (now «left_keys») (now «left_sums») (now t) (now «right_keys») (now «right_sums») ⌝ }
     requires { ⌜
-        Totalled (signatureOf (now table)) (now s) st × Totalled (signatureOf (now table)) (now t) tt
-        × (st .weight ≡ tt .weight) × (getD (now s) 0 0 ≡ getD (now t) 0 0)
+        Totalled (signatureOf (now table)) (now s) «left_totals» × Totalled (signatureOf (now table)) (now t) «right_totals»
+        × («left_totals» .weight ≡ «right_totals» .weight) × (getD (now s) 0 0 ≡ getD (now t) 0 0)
         × (false ≡ alikeAt (now table) (now s) 0 (now t) 0)
         ⌝ }
     ensures { λ r. ⌜
@@ -68,10 +71,30 @@ fn relation_unlike(
         (termOf (signatureOf (now (table .entry))) (now (t .entry)))
         ⌝ }
 {
-    if greater_level(table, s, st, sk, sw, t, tt, tk, tw) {
+    if greater_level(
+        table,
+        s,
+        left_totals,
+        left_keys,
+        left_sums,
+        t,
+        right_totals,
+        right_keys,
+        right_sums,
+    ) {
         return 1;
     }
-    if greater_level(table, t, tt, tk, tw, s, st, sk, sw) {
+    if greater_level(
+        table,
+        t,
+        right_totals,
+        right_keys,
+        right_sums,
+        s,
+        left_totals,
+        left_keys,
+        left_sums,
+    ) {
         return 2;
     }
     4
@@ -81,19 +104,19 @@ fn relation_unlike(
 fn relation_prepared(
     table: &[u16],
     s: &[u16],
-    st: Totals,
-    sw: &[u64; 387],
+    left_totals: Totals,
+    left_sums: &[u64; SUMS],
     t: &[u16],
-    tt: Totals,
-    tw: &[u64; 387],
+    right_totals: Totals,
+    right_sums: &[u64; SUMS],
 ) -> u8
     requires { ⌜ Whole (now table) (now s) (now t) ⌝ }
     requires { ⌜
-        SummedUp (signatureOf (now table)) (now s) (now sw) × SummedUp (signatureOf (now table)) (now t) (now tw)
+        SummedUp (signatureOf (now table)) (now s) (now «left_sums») × SummedUp (signatureOf (now table)) (now t) (now «right_sums»)
         ⌝ }
     requires { ⌜
-        Totalled (signatureOf (now table)) (now s) st × Totalled (signatureOf (now table)) (now t) tt
-        × (st .weight ≡ tt .weight) × (getD (now s) 0 0 ≡ getD (now t) 0 0)
+        Totalled (signatureOf (now table)) (now s) «left_totals» × Totalled (signatureOf (now table)) (now t) «right_totals»
+        × («left_totals» .weight ≡ «right_totals» .weight) × (getD (now s) 0 0 ≡ getD (now t) 0 0)
         ⌝ }
     ensures { λ r. ⌜
         r
@@ -101,26 +124,36 @@ fn relation_prepared(
         (termOf (signatureOf (now (table .entry))) (now (t .entry)))
         ⌝ }
 {
-    let mut sk = [0u64; 128];
-    let mut tk = [0u64; 128];
-    if prepare_both(table, s, &mut sk, t, &mut tk) {
+    let mut left_keys = [0u64; MAX_NODES];
+    let mut right_keys = [0u64; MAX_NODES];
+    if prepare_both(table, s, &mut left_keys, t, &mut right_keys) {
         return 3;
     }
-    relation_unlike(table, s, st, &sk, sw, t, tt, &tk, tw)
+    relation_unlike(
+        table,
+        s,
+        left_totals,
+        &left_keys,
+        left_sums,
+        t,
+        right_totals,
+        &right_keys,
+        right_sums,
+    )
 }
 
 // How two terms with these totals are related, by their marks both ways.
 fn relation_marked(
     table: &[u16],
-    adds: &[u64; 816],
+    adds: &[u64; NODE_SUMS],
     s: &[u16],
-    st: Totals,
+    left_totals: Totals,
     t: &[u16],
-    tt: Totals,
+    right_totals: Totals,
 ) -> u8
     requires { ⌜ Whole (now table) (now s) (now t) ⌝ }
     requires { ⌜
-        Totalled (signatureOf (now table)) (now s) st × Totalled (signatureOf (now table)) (now t) tt
+        Totalled (signatureOf (now table)) (now s) «left_totals» × Totalled (signatureOf (now table)) (now t) «right_totals»
         × NodeSums (signatureOf (now table)) (now adds)
         ⌝ }
     ensures { λ r. ⌜
@@ -129,14 +162,14 @@ fn relation_marked(
         (termOf (signatureOf (now (table .entry))) (now (t .entry)))
         ⌝ }
 {
-    let m = mark(table, adds, s, st, t, tt);
+    let m = mark(table, adds, s, left_totals, t, right_totals);
     if m <= 6 {
         return 1;
     }
     if m == 9 {
         return 3;
     }
-    let n = mark(table, adds, t, tt, s, st);
+    let n = mark(table, adds, t, right_totals, s, left_totals);
     if n <= 6 {
         return 2;
     }
@@ -146,21 +179,21 @@ fn relation_marked(
 // How two terms with these totals and sums are related: 1 greater, 2 less, 3 AC-equivalent, 4 unrelated.
 pub fn relation(
     table: &[u16],
-    adds: &[u64; 816],
+    adds: &[u64; NODE_SUMS],
     s: &[u16],
-    st: Totals,
-    sw: &[u64; 387],
+    left_totals: Totals,
+    left_sums: &[u64; SUMS],
     t: &[u16],
-    tt: Totals,
-    tw: &[u64; 387],
+    right_totals: Totals,
+    right_sums: &[u64; SUMS],
 ) -> u8
     requires { ⌜ Whole (now table) (now s) (now t) ⌝ }
     requires { ⌜
-        Totalled (signatureOf (now table)) (now s) st × Totalled (signatureOf (now table)) (now t) tt
+        Totalled (signatureOf (now table)) (now s) «left_totals» × Totalled (signatureOf (now table)) (now t) «right_totals»
         × NodeSums (signatureOf (now table)) (now adds)
         ⌝ }
     requires { ⌜
-        SummedUp (signatureOf (now table)) (now s) (now sw) × SummedUp (signatureOf (now table)) (now t) (now tw)
+        SummedUp (signatureOf (now table)) (now s) (now «left_sums») × SummedUp (signatureOf (now table)) (now t) (now «right_sums»)
         ⌝ }
     ensures { λ r. ⌜
         r
@@ -168,18 +201,18 @@ pub fn relation(
         (termOf (signatureOf (now (table .entry))) (now (t .entry)))
         ⌝ }
 {
-    if st.weight == tt.weight {
+    if left_totals.weight == right_totals.weight {
         if s[0] == t[0] {
-            return relation_prepared(table, s, st, sw, t, tt, tw);
+            return relation_prepared(
+                table,
+                s,
+                left_totals,
+                left_sums,
+                t,
+                right_totals,
+                right_sums,
+            );
         }
     }
-    relation_marked(table, adds, s, st, t, tt)
-}
-
-// The left weight minus the right one.
-pub fn margin(s: Totals, t: Totals) -> i64
-    requires { ⌜ (s .weight ≤ 8388608) × (t .weight ≤ 8388608) ⌝ }
-    ensures { λ r. ⌜ r ≡ subℕ (s .weight) (t .weight) ⌝ }
-{
-    s.weight as i64 - t.weight as i64
+    relation_marked(table, adds, s, left_totals, t, right_totals)
 }

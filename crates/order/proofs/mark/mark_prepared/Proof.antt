@@ -2,7 +2,6 @@ use mathlib.Core.Path.{refl, sym, _∙_}
 use Rattle.terms.specs.Words.{termOf}
 use Rattle.symbols.specs.Table.{signatureOf}
 use Rattle.order.proofs.EquivalentLaws.{mark-of-equivalent}
-use Rattle.order.proofs.WholeLaws.{left-some, right-some, left-formed, right-formed}
 use borrow.Author.Needs.{needs}
 use Rattle.order.proofs.mark.mark_prepared.Statement.{statement}
 use Rattle.order.proofs.mark.mark_prepared.Tie as tie
@@ -18,7 +17,7 @@ returns c =
     let a = c7 .args in
     let S = c7 .pre .0 in
     let σ = signatureOf (a .table .now) in
-    mark-of-equivalent σ (S .binary) (termOf σ (a .s .now)) (termOf σ (a .t .now)) (left-formed S) (right-formed S)
+    mark-of-equivalent σ (S .binary) (termOf σ (a .s .now)) (termOf σ (a .t .now)) (S .left .wellFormed) (S .right .wellFormed)
     (sym (c .before .prepare-both .ensures .0) ∙ c .if1 .taken)
 
 mark-unlike-requires : tie.Need-mark-unlike-requires
@@ -27,7 +26,7 @@ mark-unlike-requires c κs =
     let c9 = c3 .before .before .before .before .before .before in
     let (S, R, N) = c9 .pre in
     let unlike = sym (c .before .before .if1 .left) ∙ c3 .prepare-both .ensures .0 in
-    (c3 .prepare-both .ensures .1, (left-some S, right-some S, R, N, unlike))
+    ((S, R, N), (c3 .prepare-both .ensures .1, unlike))
 
 pub mark-prepared-spec : {M : Type 1} → statement M
 mark-prepared-spec =

@@ -1,3 +1,4 @@
+-- Both terms are whole, so both are prepared, and the test is the one of their parts at 0.
 use Rattle.order.proofs.WholeLaws.{left-complete, right-complete, left-some, right-some, whole-sides}
 use Rattle.order.proofs.mark.prepare_both.Statement.{statement}
 use Rattle.order.proofs.mark.prepare_both.Tie as tie
@@ -5,20 +6,19 @@ use Rattle.order.proofs.mark.prepare_both.Tie as tie
 prepare-requires : tie.Need-prepare-requires
 prepare-requires c κs =
     let c4 = c .before .before .before .before in
-    let (S, p, q) = c4 .pre in (left-complete S, (S .small, S .leftShort, p))
+    let (S, p, q) = c4 .pre in (left-complete S, (S .small, S .left .short, p))
 
 prepare-requires-2 : tie.Need-prepare-requires-2
 prepare-requires-2 c κs =
     let c6 = c .before .before .before .before .before .before in
-    let (S, p, q) = c6 .pre in (right-complete S, (S .small, S .rightShort, q))
+    let (S, p, q) = c6 .pre in (right-complete S, (S .small, S .right .short, q))
 
 equivalent-requires : tie.Need-equivalent-requires
 equivalent-requires c κs =
     let c5 = c .before .before .before .before .before in
     let c7 = c5 .before .before in
     let c12 = c7 .before .before .before .before .before in
-    let S = c12 .pre .0 in
-    (whole-sides S (c7 .prepare .ensures) (c5 .prepare2 .ensures), (left-some S, right-some S))
+    let S = c12 .pre .0 in (whole-sides S (c7 .prepare .ensures) (c5 .prepare2 .ensures), (left-some S, right-some S))
 
 returns : tie.Need-returns
 returns c =

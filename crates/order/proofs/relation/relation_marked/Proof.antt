@@ -2,7 +2,7 @@ use native.Mathlib.Omega.{arith}
 use Rattle.terms.specs.Words.{termOf}
 use Rattle.symbols.specs.Table.{signatureOf}
 use Rattle.order.proofs.MarkLaws.{relation-greater, relation-equivalent, relation-less, relation-none}
-use Rattle.order.proofs.WholeLaws.{left-formed, right-formed, turned}
+use Rattle.order.proofs.WholeLaws.{turned}
 use borrow.Author.Needs.{needs}
 use Rattle.order.proofs.relation.relation_marked.Statement.{statement}
 use Rattle.order.proofs.relation.relation_marked.Tie as tie
@@ -19,8 +19,8 @@ returns-2 c =
     let S = c .before .before .before .before .before .before .pre .0 in
     let σ = signatureOf (a .table .now) in
     relation-equivalent σ (termOf σ (a .s .now)) (termOf σ (a .t .now)) (c .before .before .mark .ensures) (S .binary)
-    (left-formed S)
-    (right-formed S) (c .if2 .taken)
+    (S .left .wellFormed)
+    (S .right .wellFormed) (c .if2 .taken)
 
 mark-requires-2 : tie.Need-mark-requires-2
 mark-requires-2 c κs =
@@ -42,7 +42,7 @@ returns-4 c =
     let σ = signatureOf (a .table .now) in
     relation-none σ (termOf σ (a .s .now)) (termOf σ (a .t .now)) (c .before .before .before .before .mark .ensures)
     (c .before .mark2 .ensures) (omega arith)
-    (S .binary) (left-formed S) (right-formed S) (c .before .before .if2 .left) (omega arith)
+    (S .binary) (S .left .wellFormed) (S .right .wellFormed) (c .before .before .if2 .left) (omega arith)
 
 pub relation-marked-spec : {M : Type 1} → statement M
 relation-marked-spec =

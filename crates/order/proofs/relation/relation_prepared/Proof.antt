@@ -3,7 +3,6 @@ use Rattle.terms.specs.Words.{termOf}
 use Rattle.symbols.specs.Table.{signatureOf}
 use Rattle.order.proofs.EquivalentLaws.{mark-of-equivalent}
 use Rattle.order.proofs.MarkLaws.{relation-equivalent}
-use Rattle.order.proofs.WholeLaws.{left-formed, right-formed}
 use borrow.Author.Needs.{needs}
 use Rattle.order.proofs.relation.relation_prepared.Statement.{statement}
 use Rattle.order.proofs.relation.relation_prepared.Tie as tie
@@ -22,8 +21,8 @@ returns c =
     let s = termOf σ (a .s .now) in
     let t = termOf σ (a .t .now) in
     let like = sym (c .before .prepare-both .ensures .0) ∙ c .if1 .taken in
-    let nine = mark-of-equivalent σ (S .binary) s t (left-formed S) (right-formed S) like in
-    relation-equivalent σ s t nine (S .binary) (left-formed S) (right-formed S) refl
+    let nine = mark-of-equivalent σ (S .binary) s t (S .left .wellFormed) (S .right .wellFormed) like in
+    relation-equivalent σ s t nine (S .binary) (S .left .wellFormed) (S .right .wellFormed) refl
 
 relation-unlike-requires : tie.Need-relation-unlike-requires
 relation-unlike-requires c κs =

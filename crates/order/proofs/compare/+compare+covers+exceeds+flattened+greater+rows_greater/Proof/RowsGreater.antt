@@ -27,11 +27,11 @@ rows-greater-claims t = (
 )
 
 abbrev rows-greater-Inv-loop : rows-greater-lts.InvT-loop
-rows-greater-Inv-loop table s sk sw i t tk tw j n at₀ to₀ left₀ at to left =
+rows-greater-Inv-loop table s leftKeys leftSums i t rightKeys rightSums j n at₀ to₀ left₀ at to left =
     RowsGoing (table .now) (s .now) (t .now) i j n at to left
 
 abbrev rows-greater-μ-loop : rows-greater-lts.MeasureT-loop
-rows-greater-μ-loop table s sk sw i t tk tw j n at₀ to₀ left₀ at to left = left
+rows-greater-μ-loop table s leftKeys leftSums i t rightKeys rightSums j n at₀ to₀ left₀ at to left = left
 
 rows-greater-loop-holds : (t : ℕ) → rows-greater-lts.Need-loop-holds (rows-greater-claims t) (rows-greater-at t)
     rows-greater.Post rows-greater-Inv-loop rows-greater-μ-loop

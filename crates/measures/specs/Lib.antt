@@ -1,0 +1,5 @@
+-- What the contracts of the weighing say. The crates above cite NodeSums, Totalled, SummedUp and Scales alone.
+pub mod Digits
+pub mod Nodes
+pub mod Totals
+pub mod Sums

@@ -1,0 +1,20 @@
+-- Sums by offset, and both sides of a comparison by the order.
+use mathlib.Core.List.{List}
+use mathlib.Core.Path.{_≡_}
+use Prim.Native.Nat.{ℕ, _+_, _*_, _≤_, _<_}
+use lib.ListN.{length, getD, drop}
+use Rattle.terms.specs.Signature.{Signature}
+use Rattle.symbols.specs.Table.{signatureOf}
+use Rattle.equivalence.specs.Keys.{Sides}
+use Rattle.measures.specs.Nodes.{wordSum}
+
+-- sums has for each offset, as three numbers, the sums over all words from there on.
+pub record SummedUp (σ : Signature) (ws sums : List ℕ) : Type 0 where
+  pub room : length sums ≡ 387
+  pub sum : (kind k : ℕ) → kind < 3 → k ≤ length ws → getD sums (3 * k + kind) 0 ≡ wordSum σ kind (drop k ws)
+
+-- What both sides of a comparison by the order are: prepared, with their sums.
+pub record Scales (table s leftKeys leftSums t rightKeys rightSums : List ℕ) : Type 0 where
+  pub sides : Sides table s leftKeys t rightKeys
+  pub left : SummedUp (signatureOf table) s leftSums
+  pub right : SummedUp (signatureOf table) t rightSums

@@ -1,0 +1,54 @@
+// What each node word adds to the sums: its weight, and its digits among the variables 0 to 7 and 8 to 15.
+use crate::NODE_SUMS;
+use crate::digits::occurrence;
+use symbols::variable_weight;
+use symbols::weight;
+ghost use mathlib.Core.Path.{_≡_};
+ghost use Prim.Native.Nat.{_≤_};
+ghost use lib.ListN.{length};
+ghost use Rattle.symbols.specs.Table.{signatureOf};
+ghost use Rattle.measures.specs.Nodes.{NodeSums, Weighed, Occurring};
+
+// Stores the weights of that many symbols.
+fn put_weights(table: &[u16], adds: &mut [u64; NODE_SUMS], count: usize)
+    requires { ⌜ (count ≤ 256) × (length (now adds) ≡ 816) ⌝ }
+    ensures { λ _. ⌜
+        Weighed (signatureOf (now (table .entry))) count (now (adds .entry)) (now (adds .exit))
+        × (length (now (adds .exit)) ≡ 816)
+        ⌝ }
+{
+    let mut i = 0;
+    while i < count {
+        adds[3 * i] = weight(table, i as u16);
+        i += 1;
+    }
+}
+
+// Stores what the variables add.
+fn put_variables(table: &[u16], adds: &mut [u64; NODE_SUMS])
+    requires { ⌜ length (now adds) ≡ 816 ⌝ }
+    ensures { λ _. ⌜
+        Occurring (signatureOf (now (table .entry))) 272 (now (adds .entry)) (now (adds .exit))
+        × (length (now (adds .exit)) ≡ 816)
+        ⌝ }
+{
+    let own = variable_weight(table);
+    let mut word = 256;
+    while word < 272 {
+        adds[3 * word] = own;
+        adds[3 * word + 1] = occurrence(32, word as u16);
+        adds[3 * word + 2] = occurrence(33, word as u16);
+        word += 1;
+    }
+}
+
+// What each node word adds to the sums.
+pub fn node_sums(table: &[u16]) -> [u64; NODE_SUMS]
+    requires { ⌜ length (now table) ≤ 1025 ⌝ }
+    ensures { λ r. ⌜ NodeSums (signatureOf (now (table .entry))) r ⌝ }
+{
+    let mut adds = [0u64; NODE_SUMS];
+    put_weights(table, &mut adds, (table.len() + 2) / 4);
+    put_variables(table, &mut adds);
+    adds
+}

@@ -1,19 +1,12 @@
 -- The ends of comparing, by what its inputs read as.
 --     read-whole                 a term that was read is all of its words
 --     left-fault, left-read, right-fault, right-read, book-fault, book-read     the replies
---     numbered-relation, terms-read     the relation of a number is that of the terms
 use mathlib.Core.List.{List}
 use mathlib.Core.Path.{_≡_, sym, ap, _∙_}
-use Prim.Native.Nat.{ℕ, _≤_}
-use native.Mathlib.Omega.{arith}
-use lib.IntN.{ℤ}
-use lib.ListN.{length}
-use Rattle.multisets.proofs.Relations.{byTest}
-use Rattle.terms.specs.Signature.{Signature, Admissible}
+use Prim.Native.Nat.{ℕ}
+use Rattle.terms.specs.Signature.{Signature}
 use Rattle.terms.specs.Term.{Term}
 use Rattle.terms.specs.Words.{termOf}
-use Rattle.terms.specs.Equivalence.{isEquivalent}
-use Rattle.terms.specs.Order.{isGreater, margin}
 use Rattle.format.specs.Reading.Reading.{got, fault}
 use Rattle.format.specs.Format.{RuleFile}
 use Rattle.format.specs.Files.{readBytes, readTerm}
@@ -21,24 +14,8 @@ use Rattle.operations.specs.Replies.{Reply}
 use Rattle.operations.specs.Replies.Reply.{accepted, refused}
 use Rattle.format.specs.Statements.{IsTerm}
 use Rattle.format.proofs.Theorems.{read-term-well-formed}
-use Rattle.symbols.specs.Table.{signatureOf}
-use Rattle.order.specs.Compared as order
-use Rattle.operations.specs.declared.Relation.{Relation}
 use Rattle.operations.specs.declared.Comparison.{Comparison}
-use Rattle.operations.specs.Comparing.{relation, comparison, comparedRight, comparedTerms, compared}
-use Rattle.comparing.specs.Numbers.{relationNumbered}
-
--- Two terms as the order's functions ask them.
-pub whole-terms : {table s t : List ℕ} → length table ≤ 1021 → Admissible (signatureOf table) →
-    IsTerm (signatureOf table) s → IsTerm (signatureOf table) t → order.Whole table s t
-whole-terms {table} {s} {t} h a p q = record {
-  small = omega arith;
-  binary = a .acBinary;
-  left = (termOf (signatureOf table) s, p .wellFormed, p .spelled);
-  right = (termOf (signatureOf table) t, q .wellFormed, q .spelled);
-  leftShort = p .short;
-  rightShort = q .short;
-}
+use Rattle.operations.specs.Comparing.{comparison, comparedRight, comparedTerms, compared}
 
 pub read-whole : (σ : Signature) (ws front : List ℕ) (n : ℕ) → got front n ≡ readTerm σ ws →
     (front ≡ ws) × IsTerm σ ws
@@ -77,16 +54,3 @@ module _ (bytes left right : List ℕ) where
       r ≡ comparedTerms (file .signature) left right → r ≡ compared bytes left right
   unfolding compared
   book-read file end e r h = h ∙ rw e
-
--- The table that reading leaves.
-pub numbered-relation : (σ : Signature) (s t : Term) → relationNumbered (order.relation σ s t) ≡ relation σ s t
-unfolding order.relation relation
-numbered-relation σ s t =
-    byTest (isGreater σ s t) (λ a. rw a) λ a. byTest (isGreater σ t s) (λ b. rw (a, b))
-    λ b. byTest (isEquivalent σ s t) (λ c. rw (a, b, c)) λ c. rw (a, b, c)
-
-pub terms-read : (σ : Signature) (s t : Term) (r : Relation) (n : ℕ) (m : ℤ) → r ≡ relationNumbered n →
-    n ≡ order.relation σ s t → m ≡ margin σ s t → record { relation = r; margin = m } ≡ comparison σ s t
-terms-read σ s t r n m e d f =
-    let k : r ≡ relation σ s t = e ∙ ap relationNumbered d ∙ numbered-relation σ s t in
-    rw (k, f)

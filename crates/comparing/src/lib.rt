@@ -9,36 +9,19 @@ ghost use Rattle.symbols.specs.Table.{signatureOf};
 ghost use Rattle.symbols.specs.Arities.{Arities};
 ghost use Rattle.operations.specs.Comparing.{comparison, comparedRight, comparedTerms, compared};
 ghost use Rattle.operations.specs.Enums.{compareReply};
-ghost use Rattle.comparing.specs.Numbers.{relationNumbered};
+use measures::SUMS;
+use measures::nodes::node_sums;
+use measures::sums::sum_up;
+use measures::totals::margin;
 use operations::CompareReply;
 use operations::Comparison;
 use operations::Error;
-use operations::Relation;
-use order::relation::margin;
 use order::relation::relation;
-use order::sums::node_sums;
-use order::sums::sum_up;
 use reader::file::File;
 use reader::file::TABLE_WORDS;
 use reader::file::read_file;
 use words::term::TermReading;
 use words::term::whole_term;
-
-// The relation of a number from 1 to 4.
-fn numbered(number: u8) -> Relation
-    ensures { λ r. ⌜ r ≡ relationNumbered number ⌝ }
-{
-    if number == 1 {
-        return Relation::Greater;
-    }
-    if number == 2 {
-        return Relation::Less;
-    }
-    if number == 3 {
-        return Relation::Equivalent;
-    }
-    Relation::Unrelated
-}
 
 // Compares two terms that were read.
 fn compare_read(table: &[u16], left: &[u16], right: &[u16]) -> Comparison
@@ -50,13 +33,13 @@ fn compare_read(table: &[u16], left: &[u16], right: &[u16]) -> Comparison
         (termOf (signatureOf (now (table .entry))) (now (right .entry)))
         ⌝ }
 {
-    let mut sw = [0u64; 387];
-    let mut tw = [0u64; 387];
+    let mut left_sums = [0u64; SUMS];
+    let mut right_sums = [0u64; SUMS];
     let adds = node_sums(table);
-    let s = sum_up(&adds, left, &mut sw);
-    let t = sum_up(&adds, right, &mut tw);
+    let s = sum_up(table, &adds, left, &mut left_sums);
+    let t = sum_up(table, &adds, right, &mut right_sums);
     Comparison {
-        relation: numbered(relation(table, &adds, left, s, &sw, right, t, &tw)),
+        relation: relation(table, &adds, left, s, &left_sums, right, t, &right_sums),
         margin: margin(s, t),
     }
 }

@@ -113,7 +113,10 @@ pub fn none_oftener_at(
     right_sums: &[u64; SUMS],
     j: usize,
 ) -> bool
-    requires { ⌜ Scales (now table) (now s) (now «left_keys») (now «left_sums») (now t) (now «right_keys») (now «right_sums») ⌝ }
+    requires { ⌜
+        Scales (now table) (now s) (now «left_keys») (now «left_sums») (now t) (now «right_keys»)
+        (now «right_sums»)
+        ⌝ }
     requires { ⌜ (i < length (now s)) × (j < length (now t)) ⌝ }
     ensures { λ r. ⌜
         r

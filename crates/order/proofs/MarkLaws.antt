@@ -1,8 +1,8 @@
 -- The mark of two terms, 1 to 10, and their relation.
 --     whole-seven, -one, -eight, -root, -ten      each way that the mark is decided
 --     decreasing-few                              marks of the order are at most 6
---     relation-greater, -equivalent, -less, -none the relation, by the marks both ways
---     level-one, -two, -four                      the relation, by the order both ways
+--     relation-greater, -equivalent, -less, -unrelated   the relation, by the marks both ways
+--     level-greater, -less, -unrelated            the relation, by the order both ways
 use mathlib.Core.List.{List}
 use mathlib.Core.Path.{_≡_, refl, sym, ap, _∙_}
 use mathlib.Core.Bool.{Bool, true, false, cond, not, _&&_}
@@ -21,7 +21,8 @@ use Rattle.terms.specs.Order.{noneOftener, highGreater, highEqual, lowGreater, 
 use Rattle.terms.specs.Order.{isGreater, mark}
 use Rattle.terms.proofs.EquivalenceLaws.{isEquivalent-equivalence}
 use Rattle.terms.proofs.OrderLaws.{isGreater-unfolds}
-use Rattle.order.specs.Compared.{relation}
+use Rattle.operations.specs.declared.Relation.the-variants.{Greater, Less, Equivalent, Unrelated}
+use Rattle.operations.specs.Comparing.{relation}
 use Rattle.order.proofs.GreaterLaws.{byNone, root}
 use Rattle.order.proofs.EquivalentLaws.{level, mark-of-equivalent}
 
@@ -153,7 +154,7 @@ module _ (σ : Signature) (s t : Term) {m : ℕ} (h : m ≡ mark σ s t) where
         absurd (omega (arith, decreasing-few σ (isEquivalent σ) (isGreater σ) s t)))
         λ k. let z : m ≡ last = mark-cond ∙ rw k in last-nine (sym z ∙ e)
 
-    pub relation-equivalent : m ≡ 9 → 3 ≡ relation σ s t
+    pub relation-equivalent : m ≡ 9 → Equivalent ≡ relation σ s t
     unfolding relation
     relation-equivalent e =
         let a = like-of-mark e in
@@ -162,31 +163,31 @@ module _ (σ : Signature) (s t : Term) {m : ℕ} (h : m ≡ mark σ s t) where
         let l : isGreater σ t s ≡ false = isGreater-unfolds σ t s ∙ ap (ltb 0) (level σ B t s w v b (isGreater σ)) in
         rw (g, l, a)
 
-  pub relation-greater : m ≤ 6 → 1 ≡ relation σ s t
+  pub relation-greater : m ≤ 6 → Greater ≡ relation σ s t
   unfolding relation
   relation-greater l = rw (greater-of-mark l)
 
 module _ (σ : Signature) (s t : Term) {m n : ℕ} (h : m ≡ mark σ s t) (k : n ≡ mark σ t s) (l : 6 < m) where
-  pub relation-less : n ≤ 6 → 2 ≡ relation σ s t
+  pub relation-less : n ≤ 6 → Less ≡ relation σ s t
   unfolding relation
   relation-less p = rw (not-greater-of-mark σ s t h l, greater-of-mark σ t s k p)
 
-  pub relation-none : AcBinary σ → WellFormed σ s → WellFormed σ t → (m ≡ 9 → ⊥) → 6 < n → 4 ≡ relation σ s t
+  pub relation-unrelated : AcBinary σ → WellFormed σ s → WellFormed σ t → (m ≡ 9 → ⊥) → 6 < n → Unrelated ≡ relation σ s t
   unfolding relation
-  relation-none B v w d p =
+  relation-unrelated B v w d p =
       rw (not-greater-of-mark σ s t h l, not-greater-of-mark σ t s k p, unlike-of-mark σ s t h B v w d)
 
 -- ---- the relation, by the order
 
 module _ (σ : Signature) (s t : Term) where
-  pub level-one : true ≡ isGreater σ s t → 1 ≡ relation σ s t
+  pub level-greater : true ≡ isGreater σ s t → Greater ≡ relation σ s t
   unfolding relation
-  level-one e = rw (← e)
+  level-greater e = rw (← e)
 
-  pub level-two : false ≡ isGreater σ s t → true ≡ isGreater σ t s → 2 ≡ relation σ s t
+  pub level-less : false ≡ isGreater σ s t → true ≡ isGreater σ t s → Less ≡ relation σ s t
   unfolding relation
-  level-two e d = rw (← e, ← d)
+  level-less e d = rw (← e, ← d)
 
-  pub level-four : false ≡ isGreater σ s t → false ≡ isGreater σ t s → false ≡ isEquivalent σ s t → 4 ≡ relation σ s t
+  pub level-unrelated : false ≡ isGreater σ s t → false ≡ isGreater σ t s → false ≡ isEquivalent σ s t → Unrelated ≡ relation σ s t
   unfolding relation
-  level-four e d c = rw (← e, ← d, ← c)
+  level-unrelated e d c = rw (← e, ← d, ← c)

@@ -32,10 +32,6 @@ pub record Parted (σ : Signature) (f : ℕ) (ws : List ℕ) (ts : List Term) (a
   pub vars : Offsets σ ws variables v (variablesOf ts)
   pub whole : all ≡ length ts
 
--- 1: the left is greater. 2: the right is. 3: they are AC-equivalent. 4: none of the three.
-unfoldable pub relation : Signature → Term → Term → ℕ
-relation σ s t = cond (isGreater σ s t) 1 (cond (isGreater σ t s) 2 (cond (isEquivalent σ s t) 3 4))
-
 module _ (table : List ℕ) where
   abbrev σ : Signature
   σ = signatureOf table

@@ -50,7 +50,10 @@ fn greater(
     right_sums: &[u64; SUMS],
     j: usize,
 ) -> bool
-    requires { ⌜ Scales (now (now table)) (now (now s)) (now «left_keys») (now «left_sums») (now (now t)) (now «right_keys») (now «right_sums») ⌝ }
+    requires { ⌜
+        Scales (now (now table)) (now (now s)) (now «left_keys») (now «left_sums») (now (now t)) (now «right_keys»)
+        (now «right_sums»)
+        ⌝ }
     requires { ⌜ (i < length (now (now s))) × (j < length (now (now t))) ⌝ }
     ensures { λ r. ⌜ r ≡ greaterAt (now (now (table .entry))) (now (now (s .entry))) i (now (now (t .entry))) j ⌝ }
 {
@@ -92,7 +95,10 @@ fn exceeds(
     right_sums: &[u64; SUMS],
     j: usize,
 ) -> bool
-    requires { ⌜ Scales (now (now table)) (now (now s)) (now «left_keys») (now «left_sums») (now (now t)) (now «right_keys») (now «right_sums») ⌝ }
+    requires { ⌜
+        Scales (now (now table)) (now (now s)) (now «left_keys») (now «left_sums») (now (now t)) (now «right_keys»)
+        (now «right_sums»)
+        ⌝ }
     requires { ⌜
         (i < length (now (now s))) × (j < length (now (now t)))
         × (true ≡ noneOftenerAt (now (now table)) (now (now s)) i (now (now t)) j)
@@ -156,7 +162,10 @@ pub fn rows_greater(
     j: usize,
     n: usize,
 ) -> bool
-    requires { ⌜ Scales (now (now table)) (now (now s)) (now «left_keys») (now «left_sums») (now (now t)) (now «right_keys») (now «right_sums») ⌝ }
+    requires { ⌜
+        Scales (now (now table)) (now (now s)) (now «left_keys») (now «left_sums») (now (now t)) (now «right_keys»)
+        (now «right_sums»)
+        ⌝ }
     requires { ⌜
         Stands (signatureOf (now (now table))) (now (now s)) i n
         × Stands (signatureOf (now (now table))) (now (now t)) j n
@@ -202,7 +211,10 @@ pub fn flattened(
     f: u16,
     n: usize,
 ) -> u8
-    requires { ⌜ Scales (now (now table)) (now (now s)) (now «left_keys») (now «left_sums») (now (now t)) (now «right_keys») (now «right_sums») ⌝ }
+    requires { ⌜
+        Scales (now (now table)) (now (now s)) (now «left_keys») (now «left_sums») (now (now t)) (now «right_keys»)
+        (now «right_sums»)
+        ⌝ }
     requires { ⌜
         Stands (signatureOf (now (now table))) (now (now s)) i n
         × Stands (signatureOf (now (now table))) (now (now t)) j n
@@ -316,7 +328,10 @@ fn compare(
     qs: &mut [u8; MAX_ELEMENTS],
     m: usize,
 ) -> u8
-    requires { ⌜ Scales (now (now table)) (now (now s)) (now «left_keys») (now «left_sums») (now (now t)) (now «right_keys») (now «right_sums») ⌝ }
+    requires { ⌜
+        Scales (now (now table)) (now (now s)) (now «left_keys») (now «left_sums») (now (now t)) (now «right_keys»)
+        (now «right_sums»)
+        ⌝ }
     requires { ⌜ OffsetsIn (now (now table)) (now (now s)) (now ps) n ⌝ }
     requires { ⌜ OffsetsIn (now (now table)) (now (now t)) (now qs) m ⌝ }
     ensures { λ r. ⌜
@@ -376,7 +391,10 @@ fn covers(
     qs: &[u8; MAX_ELEMENTS],
     m: usize,
 ) -> bool
-    requires { ⌜ Scales (now (now table)) (now (now s)) (now «left_keys») (now «left_sums») (now (now t)) (now «right_keys») (now «right_sums») ⌝ }
+    requires { ⌜
+        Scales (now (now table)) (now (now s)) (now «left_keys») (now «left_sums») (now (now t)) (now «right_keys»)
+        (now «right_sums»)
+        ⌝ }
     requires { ⌜ OffsetsIn (now (now table)) (now (now s)) (now ps) n × (0 < n) ⌝ }
     requires { ⌜ OffsetsIn (now (now table)) (now (now t)) (now qs) m ⌝ }
     ensures { λ r. ⌜

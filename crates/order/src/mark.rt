@@ -36,7 +36,10 @@ pub fn arguments_mark(
     right_keys: &[u64; MAX_NODES],
     right_sums: &[u64; SUMS],
 ) -> u8
-    requires { ⌜ Scales (now table) (now s) (now «left_keys») (now «left_sums») (now t) (now «right_keys») (now «right_sums») ⌝ }
+    requires { ⌜
+        Scales (now table) (now s) (now «left_keys») (now «left_sums») (now t) (now «right_keys»)
+        (now «right_sums»)
+        ⌝ }
     requires { ⌜ (0 < length (now s)) × (0 < length (now t)) × (getD (now s) 0 0 ≡ getD (now t) 0 0) ⌝ }
     ensures { λ r. ⌜ r ≡ rootAt (now (table .entry)) (now (s .entry)) 0 (now (t .entry)) 0 ⌝ }
 {
@@ -117,10 +120,12 @@ pub fn prepare_both(
     t: &[u16],
     right_keys: &mut [u64; MAX_NODES],
 ) -> bool
-    requires { ⌜ Whole (now table) (now s) (now t) × (length (now «left_keys») ≡ 128) × (length (now «right_keys») ≡ 128) ⌝ }
+    requires { ⌜ Whole (now table) (now s) (now t) ⌝ }
+    requires { ⌜ (length (now «left_keys») ≡ 128) × (length (now «right_keys») ≡ 128) ⌝ }
     ensures { λ r. ⌜ r ≡ alikeAt (now (table .entry)) (now (s .entry)) 0 (now (t .entry)) 0 ⌝ }
     ensures { λ _. ⌜
-        Sides (now (table .entry)) (now (s .entry)) (now («left_keys» .exit)) (now (t .entry)) (now («right_keys» .exit))
+        Sides (now (table .entry)) (now (s .entry)) (now («left_keys» .exit)) (now (t .entry))
+        (now («right_keys» .exit))
         ⌝ }
 {
     prepare(table, s, left_keys);
@@ -184,7 +189,8 @@ pub fn mark(
 ) -> u8
     requires { ⌜ Whole (now table) (now s) (now t) ⌝ }
     requires { ⌜
-        Totalled (signatureOf (now table)) (now s) «left_totals» × Totalled (signatureOf (now table)) (now t) «right_totals»
+        Totalled (signatureOf (now table)) (now s) «left_totals»
+        × Totalled (signatureOf (now table)) (now t) «right_totals»
         × NodeSums (signatureOf (now table)) (now adds)
         ⌝ }
     ensures { λ r. ⌜

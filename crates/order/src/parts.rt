@@ -151,8 +151,8 @@ pub fn join_surplus(
     ensures { λ r. ⌜
         Offsets (signatureOf (now (now (table .entry)))) (now (now (t .entry))) (now («right_high» .exit)) r
         (termsAt (now (now (table .entry))) (now (now (t .entry))) (now («right_high» .entry)) k
-        ++ leftAt (now (now (table .entry))) (now (now (s .entry))) (now («left_variables» .entry)) a (now (now (t .entry)))
-        (now («right_variables» .entry)) b .right)
+        ++ leftAt (now (now (table .entry))) (now (now (s .entry))) (now («left_variables» .entry)) a
+        (now (now (t .entry))) (now («right_variables» .entry)) b .right)
         ⌝ }
 {
     let rest = cancel(

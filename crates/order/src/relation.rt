@@ -7,17 +7,18 @@ use measures::NODE_SUMS;
 use measures::SUMS;
 use measures::totals::Totals;
 use measures::totals::none_oftener;
+use operations::Relation;
 ghost use mathlib.Core.Bool.{false};
 ghost use mathlib.Core.Path.{_≡_};
 ghost use lib.ListN.{getD};
 ghost use Rattle.terms.specs.Words.{termOf};
+ghost use Rattle.operations.specs.Comparing.{relation as relationOf};
 ghost use Rattle.symbols.specs.Table.{signatureOf};
 ghost use Rattle.equivalence.specs.Offsets.{alikeAt};
 ghost use Rattle.measures.specs.Nodes.{NodeSums};
 ghost use Rattle.measures.specs.Totals.{Totalled};
 ghost use Rattle.measures.specs.Sums.{SummedUp, Scales};
 ghost use Rattle.order.specs.Compared.{Whole, greaterAt};
-ghost use Rattle.order.specs.Compared.{relation as relationOf};
 
 // Is the left one greater, of two whole terms of equal weight with the same root that are prepared?
 fn greater_level(
@@ -32,9 +33,13 @@ fn greater_level(
     right_sums: &[u64; SUMS],
 ) -> bool
     requires { ⌜ Whole (now table) (now s) (now t) ⌝ }
-    requires { ⌜ Scales (now table) (now s) (now «left_keys») (now «left_sums») (now t) (now «right_keys») (now «right_sums») ⌝ }
     requires { ⌜
-        Totalled (signatureOf (now table)) (now s) «left_totals» × Totalled (signatureOf (now table)) (now t) «right_totals»
+        Scales (now table) (now s) (now «left_keys») (now «left_sums») (now t) (now «right_keys»)
+        (now «right_sums»)
+        ⌝ }
+    requires { ⌜
+        Totalled (signatureOf (now table)) (now s) «left_totals»
+        × Totalled (signatureOf (now table)) (now t) «right_totals»
         × («left_totals» .weight ≡ «right_totals» .weight) × (getD (now s) 0 0 ≡ getD (now t) 0 0)
         ⌝ }
     ensures { λ r. ⌜ r ≡ greaterAt (now (table .entry)) (now (s .entry)) 0 (now (t .entry)) 0 ⌝ }
@@ -45,8 +50,7 @@ fn greater_level(
     false
 }
 
-// How two whole terms of equal weight with the same root that are prepared and not equivalent are related: 1 greater,
-// 2 less, 4 unrelated.
+// How two whole terms of equal weight with the same root that are prepared and not equivalent are related.
 fn relation_unlike(
     table: &[u16],
     s: &[u16],
@@ -57,11 +61,15 @@ fn relation_unlike(
     right_totals: Totals,
     right_keys: &[u64; MAX_NODES],
     right_sums: &[u64; SUMS],
-) -> u8
+) -> Relation
     requires { ⌜ Whole (now table) (now s) (now t) ⌝ }
-    requires { ⌜ Scales (now table) (now s) (now «left_keys») (now «left_sums») (now t) (now «right_keys») (now «right_sums») ⌝ }
     requires { ⌜
-        Totalled (signatureOf (now table)) (now s) «left_totals» × Totalled (signatureOf (now table)) (now t) «right_totals»
+        Scales (now table) (now s) (now «left_keys») (now «left_sums») (now t) (now «right_keys»)
+        (now «right_sums»)
+        ⌝ }
+    requires { ⌜
+        Totalled (signatureOf (now table)) (now s) «left_totals»
+        × Totalled (signatureOf (now table)) (now t) «right_totals»
         × («left_totals» .weight ≡ «right_totals» .weight) × (getD (now s) 0 0 ≡ getD (now t) 0 0)
         × (false ≡ alikeAt (now table) (now s) 0 (now t) 0)
         ⌝ }
@@ -82,7 +90,7 @@ fn relation_unlike(
         right_keys,
         right_sums,
     ) {
-        return 1;
+        return Relation::Greater;
     }
     if greater_level(
         table,
@@ -95,9 +103,9 @@ fn relation_unlike(
         left_keys,
         left_sums,
     ) {
-        return 2;
+        return Relation::Less;
     }
-    4
+    Relation::Unrelated
 }
 
 // How two terms with these totals and sums, of equal weight and with the same root, are related.
@@ -109,13 +117,15 @@ fn relation_prepared(
     t: &[u16],
     right_totals: Totals,
     right_sums: &[u64; SUMS],
-) -> u8
+) -> Relation
     requires { ⌜ Whole (now table) (now s) (now t) ⌝ }
     requires { ⌜
-        SummedUp (signatureOf (now table)) (now s) (now «left_sums») × SummedUp (signatureOf (now table)) (now t) (now «right_sums»)
+        SummedUp (signatureOf (now table)) (now s) (now «left_sums»)
+        × SummedUp (signatureOf (now table)) (now t) (now «right_sums»)
         ⌝ }
     requires { ⌜
-        Totalled (signatureOf (now table)) (now s) «left_totals» × Totalled (signatureOf (now table)) (now t) «right_totals»
+        Totalled (signatureOf (now table)) (now s) «left_totals»
+        × Totalled (signatureOf (now table)) (now t) «right_totals»
         × («left_totals» .weight ≡ «right_totals» .weight) × (getD (now s) 0 0 ≡ getD (now t) 0 0)
         ⌝ }
     ensures { λ r. ⌜
@@ -127,7 +137,7 @@ fn relation_prepared(
     let mut left_keys = [0u64; MAX_NODES];
     let mut right_keys = [0u64; MAX_NODES];
     if prepare_both(table, s, &mut left_keys, t, &mut right_keys) {
-        return 3;
+        return Relation::Equivalent;
     }
     relation_unlike(
         table,
@@ -150,10 +160,11 @@ fn relation_marked(
     left_totals: Totals,
     t: &[u16],
     right_totals: Totals,
-) -> u8
+) -> Relation
     requires { ⌜ Whole (now table) (now s) (now t) ⌝ }
     requires { ⌜
-        Totalled (signatureOf (now table)) (now s) «left_totals» × Totalled (signatureOf (now table)) (now t) «right_totals»
+        Totalled (signatureOf (now table)) (now s) «left_totals»
+        × Totalled (signatureOf (now table)) (now t) «right_totals»
         × NodeSums (signatureOf (now table)) (now adds)
         ⌝ }
     ensures { λ r. ⌜
@@ -164,19 +175,19 @@ fn relation_marked(
 {
     let m = mark(table, adds, s, left_totals, t, right_totals);
     if m <= 6 {
-        return 1;
+        return Relation::Greater;
     }
     if m == 9 {
-        return 3;
+        return Relation::Equivalent;
     }
     let n = mark(table, adds, t, right_totals, s, left_totals);
     if n <= 6 {
-        return 2;
+        return Relation::Less;
     }
-    4
+    Relation::Unrelated
 }
 
-// How two terms with these totals and sums are related: 1 greater, 2 less, 3 AC-equivalent, 4 unrelated.
+// How two terms with these totals and sums are related.
 pub fn relation(
     table: &[u16],
     adds: &[u64; NODE_SUMS],
@@ -186,14 +197,16 @@ pub fn relation(
     t: &[u16],
     right_totals: Totals,
     right_sums: &[u64; SUMS],
-) -> u8
+) -> Relation
     requires { ⌜ Whole (now table) (now s) (now t) ⌝ }
     requires { ⌜
-        Totalled (signatureOf (now table)) (now s) «left_totals» × Totalled (signatureOf (now table)) (now t) «right_totals»
+        Totalled (signatureOf (now table)) (now s) «left_totals»
+        × Totalled (signatureOf (now table)) (now t) «right_totals»
         × NodeSums (signatureOf (now table)) (now adds)
         ⌝ }
     requires { ⌜
-        SummedUp (signatureOf (now table)) (now s) (now «left_sums») × SummedUp (signatureOf (now table)) (now t) (now «right_sums»)
+        SummedUp (signatureOf (now table)) (now s) (now «left_sums»)
+        × SummedUp (signatureOf (now table)) (now t) (now «right_sums»)
         ⌝ }
     ensures { λ r. ⌜
         r

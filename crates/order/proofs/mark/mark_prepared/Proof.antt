@@ -9,7 +9,7 @@ use Rattle.order.proofs.mark.mark_prepared.Tie as tie
 prepare-both-requires : tie.Need-prepare-both-requires
 prepare-both-requires c κs =
     let c5 = c .before .before .before .before .before in
-    (c5 .pre .0, refl, refl)
+    (c5 .pre .0, (refl, refl))
 
 returns : tie.Need-returns
 returns c =

@@ -6,12 +6,12 @@ use Rattle.order.proofs.mark.prepare_both.Tie as tie
 prepare-requires : tie.Need-prepare-requires
 prepare-requires c κs =
     let c4 = c .before .before .before .before in
-    let (S, p, q) = c4 .pre in (left-complete S, (S .small, S .left .short, p))
+    let (S, (p, q)) = c4 .pre in (left-complete S, (S .small, S .left .short, p))
 
 prepare-requires-2 : tie.Need-prepare-requires-2
 prepare-requires-2 c κs =
     let c6 = c .before .before .before .before .before .before in
-    let (S, p, q) = c6 .pre in (right-complete S, (S .small, S .right .short, q))
+    let (S, (p, q)) = c6 .pre in (right-complete S, (S .small, S .right .short, q))
 
 equivalent-requires : tie.Need-equivalent-requires
 equivalent-requires c κs =

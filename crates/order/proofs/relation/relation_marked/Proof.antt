@@ -1,7 +1,7 @@
 use native.Mathlib.Omega.{arith}
 use Rattle.terms.specs.Words.{termOf}
 use Rattle.symbols.specs.Table.{signatureOf}
-use Rattle.order.proofs.MarkLaws.{relation-greater, relation-equivalent, relation-less, relation-none}
+use Rattle.order.proofs.MarkLaws.{relation-greater, relation-equivalent, relation-less, relation-unrelated}
 use Rattle.order.proofs.WholeLaws.{turned}
 use borrow.Author.Needs.{needs}
 use Rattle.order.proofs.relation.relation_marked.Statement.{statement}
@@ -40,7 +40,7 @@ returns-4 c =
     let a = c .before .before .before .before .before .before .before .before .args in
     let S = c .before .before .before .before .before .before .before .before .pre .0 in
     let σ = signatureOf (a .table .now) in
-    relation-none σ (termOf σ (a .s .now)) (termOf σ (a .t .now)) (c .before .before .before .before .mark .ensures)
+    relation-unrelated σ (termOf σ (a .s .now)) (termOf σ (a .t .now)) (c .before .before .before .before .mark .ensures)
     (c .before .mark2 .ensures) (omega arith)
     (S .binary) (S .left .wellFormed) (S .right .wellFormed) (c .before .before .if2 .left) (omega arith)
 

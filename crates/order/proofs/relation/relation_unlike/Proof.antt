@@ -1,7 +1,7 @@
 use mathlib.Core.Path.{sym, _∙_}
 use Rattle.terms.specs.Words.{termOf}
 use Rattle.symbols.specs.Table.{signatureOf}
-use Rattle.order.proofs.MarkLaws.{level-one, level-two, level-four}
+use Rattle.order.proofs.MarkLaws.{level-greater, level-less, level-unrelated}
 use Rattle.order.proofs.WholeLaws.{turned, scales-turned}
 use Rattle.order.proofs.relation.relation_unlike.Statement.{statement}
 use Rattle.order.proofs.relation.relation_unlike.Tie as tie
@@ -16,7 +16,7 @@ returns c =
     let c5 = c .before .before .before .before .before in
     let a = c5 .args in
     let σ = signatureOf (a .table .now) in
-    level-one σ (termOf σ (a .s .now)) (termOf σ (a .t .now)) (sym (c .if1 .taken) ∙ c .before .greater-level .ensures)
+    level-greater σ (termOf σ (a .s .now)) (termOf σ (a .t .now)) (sym (c .if1 .taken) ∙ c .before .greater-level .ensures)
 
 greater-level-requires-2 : tie.Need-greater-level-requires-2
 greater-level-requires-2 c κs =
@@ -29,7 +29,7 @@ returns-2 c =
     let c7 = c3 .before .before .before .before in
     let a = c7 .args in
     let σ = signatureOf (a .table .now) in
-    level-two σ (termOf σ (a .s .now)) (termOf σ (a .t .now))
+    level-less σ (termOf σ (a .s .now)) (termOf σ (a .t .now))
     (sym (c .before .before .if1 .left) ∙ c3 .greater-level .ensures)
     (sym (c .if2 .taken) ∙ c .before .greater-level2 .ensures)
 
@@ -40,7 +40,7 @@ returns-3 c =
     let a = c7 .args in
     let (S, (W, (A, B, l, e, u))) = c7 .pre in
     let σ = signatureOf (a .table .now) in
-    level-four σ (termOf σ (a .s .now)) (termOf σ (a .t .now))
+    level-unrelated σ (termOf σ (a .s .now)) (termOf σ (a .t .now))
     (sym (c .before .before .if1 .left) ∙ c3 .greater-level .ensures)
     (sym (c .if2 .left) ∙ c .before .greater-level2 .ensures) u
 

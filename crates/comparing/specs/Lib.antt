@@ -1,2 +1,0 @@
--- The relation that a number stands for.
-pub mod Numbers

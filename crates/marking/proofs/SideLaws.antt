@@ -1,13 +1,10 @@
 -- The sides of a rule that is read are terms, and what marking it has to show.
 --     side-term        a side that is read from bits is the words of a well-formed term
---     whole-terms      two terms as the order asks them
 --     right-marked, left-unread, rule-marked     a rule by its sides
 use mathlib.Core.List.{List}
 use mathlib.Core.Path.{_≡_, sym}
 use Prim.Native.Nat.{ℕ}
-use native.Mathlib.Omega.{arith}
 use Rattle.terms.specs.Signature.{Signature}
-use Rattle.terms.specs.Words.{termOf}
 use Rattle.format.specs.Layout.{maxNodes}
 use Rattle.format.specs.Reading.{Reading, Source, bitSource}
 use Rattle.format.specs.Reading.Reading.{got, fault}
@@ -20,13 +17,11 @@ use Rattle.format.proofs.SpellingLaws.Spells.{none, more}
 use Rattle.format.proofs.FormatLaws.{forest-read}
 use Rattle.format.proofs.CodingLaws.{bit-coding}
 use Rattle.format.proofs.SideLaws.{side-formed, forest-le}
-use Rattle.symbols.specs.Table.{signatureOf}
-use Rattle.order.specs.Compared.{Whole}
 use Rattle.format.specs.Format.{ruleReader}
 use Rattle.marking.specs.declared.rule.MarkedRule.{MarkedRule}
 use Rattle.marking.specs.declared.rule.RuleReading.{RuleReading}
 use Rattle.marking.specs.declared.rule.RuleReading.the-variants.{Got, Fault}
-use Rattle.marking.specs.Rule.{IsTable, Marks, MarksRead}
+use Rattle.marking.specs.Rule.{Marks, MarksRead}
 use Rattle.marking.proofs.WalkLaws.{sidesThemselves}
 
 spells-fit : (bytes : List ℕ) {is : List Item} {at end : ℕ} → Spells (bitSource bytes) is at end → AllFit is
@@ -39,18 +34,6 @@ module _ (bytes : List ℕ) (σ : Signature) where
       let (f, p) = holds-got _ _ ws end (forest-read (bitSource bytes) σ maxNodes 1 at) e in
       let (s, w) = side-formed σ f (spells-fit bytes p) in
       record { spelled = sym s; wellFormed = w; short = forest-le σ f }
-
--- Two terms as the order's functions ask them.
-pub whole-terms : {table s t : List ℕ} → IsTable table → IsTerm (signatureOf table) s → IsTerm (signatureOf table) t →
-    Whole table s t
-whole-terms {table} {s} {t} T p q = record {
-  small = omega (arith, T .short);
-  binary = T .admissible .acBinary;
-  left = (termOf (signatureOf table) s, p .wellFormed, p .spelled);
-  right = (termOf (signatureOf table) t, q .wellFormed, q .spelled);
-  leftShort = p .short;
-  rightShort = q .short;
-}
 
 -- ---- the sides of a rule
 

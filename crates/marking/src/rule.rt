@@ -10,12 +10,15 @@ ghost use Rattle.format.specs.Statements.{IsTerm};
 ghost use Rattle.symbols.specs.Table.{signatureOf};
 ghost use Rattle.symbols.specs.Arities.{Arities};
 ghost use Rattle.format.specs.Format.{ruleReader};
-ghost use Rattle.order.specs.Sums.{NodeSums};
+ghost use Rattle.measures.specs.Nodes.{NodeSums};
 ghost use Rattle.marking.specs.Rule.{IsTable, Marks, MarksRead, MarkedWithin};
 use bits::BitCursor;
+use format::MAX_NODES;
+use format::NODE_WORDS;
+use measures::NODE_SUMS;
+use measures::totals::margin;
+use measures::totals::total;
 use order::mark::mark;
-use order::relation::margin;
-use order::sums::total;
 use reader::term::Side;
 use reader::term::read_side;
 
@@ -35,7 +38,7 @@ pub enum RuleReading {
 // Marks a rule with these sides.
 fn mark_sides(
     table: &[u16],
-    adds: &[u64; 816],
+    adds: &[u64; NODE_SUMS],
     left: &[u16],
     right: &[u16],
     next: BitCursor,
@@ -49,8 +52,8 @@ fn mark_sides(
         ⌝ }
     ensures { λ r. ⌜ r .next .at ≡ next .at ⌝ }
 {
-    let s = total(adds, left);
-    let t = total(adds, right);
+    let s = total(table, adds, left);
+    let t = total(table, adds, right);
     MarkedRule {
         mark: mark(table, adds, left, s, right, t),
         margin: margin(s, t),
@@ -62,8 +65,8 @@ fn mark_sides(
 fn mark_right(
     book: &[u8],
     table: &[u16],
-    arities: &[u32; 272],
-    adds: &[u64; 816],
+    arities: &[u32; NODE_WORDS],
+    adds: &[u64; NODE_SUMS],
     left: &[u16],
     cursor: BitCursor,
 ) -> RuleReading
@@ -79,7 +82,7 @@ fn mark_right(
         ⌝ }
     ensures { λ r. ⌜ MarkedWithin (8 * length (now (book .entry))) r ⌝ }
 {
-    let mut right = [0u16; 128];
+    let mut right = [0u16; MAX_NODES];
     match read_side(book, arities, &mut right, cursor) {
         Side::Fault(code, offset) => RuleReading::Fault { code, offset },
         Side::Read(count, next) => RuleReading::Got(mark_sides(
@@ -96,8 +99,8 @@ fn mark_right(
 pub fn mark_rule(
     book: &[u8],
     table: &[u16],
-    arities: &[u32; 272],
-    adds: &[u64; 816],
+    arities: &[u32; NODE_WORDS],
+    adds: &[u64; NODE_SUMS],
     cursor: BitCursor,
 ) -> RuleReading
     requires { ⌜ (length (now book) ≤ maxBytes) × (cursor .at ≤ 8 * length (now book)) ⌝ }
@@ -111,7 +114,7 @@ pub fn mark_rule(
         ⌝ }
     ensures { λ r. ⌜ MarkedWithin (8 * length (now (book .entry))) r ⌝ }
 {
-    let mut left = [0u16; 128];
+    let mut left = [0u16; MAX_NODES];
     match read_side(book, arities, &mut left, cursor) {
         Side::Fault(code, offset) => RuleReading::Fault { code, offset },
         Side::Read(count, middle) => mark_right(book, table, arities, adds, &left[..count], middle),

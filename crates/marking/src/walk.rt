@@ -10,7 +10,7 @@ ghost use Rattle.format.specs.Files.{readBytes};
 ghost use Rattle.operations.specs.Marking.{decreasingCount};
 ghost use Rattle.symbols.specs.Table.{signatureOf};
 ghost use Rattle.symbols.specs.Arities.{Arities};
-ghost use Rattle.order.specs.Sums.{NodeSums};
+ghost use Rattle.measures.specs.Nodes.{NodeSums};
 ghost use Rattle.reader.specs.File.{restReader};
 ghost use Rattle.marking.specs.Rule.{IsTable, AllMarked, AllWithin, WholeMarked};
 use crate::rule::RuleReading;
@@ -18,7 +18,8 @@ use crate::rule::mark_rule;
 use bits::BitCursor;
 use format::BAD_PADDING;
 use format::NODE_WORDS;
-use order::sums::node_sums;
+use measures::NODE_SUMS;
+use measures::nodes::node_sums;
 use reader::file::Head;
 use reader::file::TABLE_WORDS;
 use reader::file::read_head;
@@ -63,7 +64,7 @@ fn mark_rules(
     book: &[u8],
     table: &[u16],
     arities: &[u32; NODE_WORDS],
-    adds: &[u64; 816],
+    adds: &[u64; NODE_SUMS],
     marks: &mut [u8],
     margins: &mut [i64],
     count: usize,

@@ -2,12 +2,12 @@
 --     delete-last, delete-more    an element is taken out by moving the others down
 --     offset-added                one offset more
 --     offsets-length, offsets-own how many they are, and the list as it stands
-use mathlib.Core.List.{List, [], _∷_, _++_, map}
+use mathlib.Core.List.{List, [], _∷_, _++_, map, map-append}
 use mathlib.Core.Path.{_≡_, refl, sym, ap, _∙_}
 use Prim.Native.Nat.{ℕ, suc, zero, _+_, _-_, _≤_, _<_}
 use native.Mathlib.Omega.{arith}
 use native.Mathlib.Numerals.{add-one}
-use lib.ListN.{length, getD, take, set, length-set}
+use lib.ListN.{length, getD, take, set, length-set, length-map}
 use lib.Seq.{length-take-le, take-suc-set, getD-set-same, getD-set-other}
 use Rattle.multisets.proofs.Relations.{byOrder}
 use Rattle.terms.specs.Signature.{Signature}
@@ -42,10 +42,6 @@ delete-more l out k m h i e = e ∙ rw add-one (moved l k m (omega arith) (omega
 
 -- ---- offsets
 
-pub map-append : {A B : Type 0} (f : A → B) (l m : List A) → map f (l ++ m) ≡ map f l ++ map f m
-map-append f [] m = refl
-map-append f (a ∷ l) m = ap (_∷_ (f a)) (map-append f l m)
-
 module _ (σ : Signature) where
   pub offset-added : (ws offsets : List ℕ) (k j : ℕ) (l : List Term) → Offsets σ ws offsets k l → j < length ws → k < 64
       →
@@ -65,13 +61,9 @@ module _ (σ : Signature) where
 
 -- ---- how many they are
 
-length-map : {A B : Type 0} (g : A → B) (l : List A) → length (map g l) ≡ length l
-length-map g [] = refl
-length-map g (a ∷ l) = ap suc (length-map g l)
-
 pub offsets-length : {σ : Signature} {ws ps : List ℕ} {m : ℕ} {l : List Term} → Offsets σ ws ps m l → length l ≡ m
 offsets-length {σ} {ws} {ps} {m} P =
-    ap length (sym (P .there)) ∙ length-map (partAt σ ws) (take m ps) ∙ length-take-le m ps
+    ap length (sym (P .there)) ∙ length-map (take m ps) (partAt σ ws) ∙ length-take-le m ps
     (omega (arith, P .room, P .few))
 
 -- ---- the list as it stands

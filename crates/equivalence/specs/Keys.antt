@@ -56,11 +56,11 @@ module _ (σ : Signature) where
     pub keyed : KeyedFrom ws keys 0
 
 -- What both sides of a comparison are.
-pub record Sides (table s sk t tk : List ℕ) : Type 0 where
+pub record BothPrepared (table s leftKeys t rightKeys : List ℕ) : Type 0 where
   pub small : length table ≤ 1025
   pub binary : AcBinary (signatureOf table)
-  pub left : Prepared (signatureOf table) s sk
-  pub right : Prepared (signatureOf table) t tk
+  pub left : Prepared (signatureOf table) s leftKeys
+  pub right : Prepared (signatureOf table) t rightKeys
 
 -- The size of the term at an offset, by its key.
 abbrev pub sizeIn : List ℕ → ℕ → ℕ

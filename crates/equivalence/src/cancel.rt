@@ -5,10 +5,10 @@ use crate::offsets::delete;
 use crate::offsets::wide_byte;
 use format::MAX_NODES;
 ghost use Rattle.symbols.specs.Table.{signatureOf};
-ghost use Rattle.equivalence.specs.Keys.{Sides};
+ghost use Rattle.equivalence.specs.Keys.{BothPrepared};
 ghost use Rattle.equivalence.specs.Offsets.{Offsets, OffsetsIn, leftAt};
 
-pub struct Counts {
+pub struct Uncancelled {
     pub left: usize,
     pub right: usize,
 }
@@ -24,8 +24,8 @@ pub fn cancel(
     right_keys: &[u64; MAX_NODES],
     qs: &mut [u8; MAX_ELEMENTS],
     m: usize,
-) -> Counts
-    requires { ⌜ Sides (now (now table)) (now (now s)) (now «left_keys») (now (now t)) (now «right_keys») ⌝ }
+) -> Uncancelled
+    requires { ⌜ BothPrepared (now (now table)) (now (now s)) (now «left_keys») (now (now t)) (now «right_keys») ⌝ }
     requires { ⌜ OffsetsIn (now (now table)) (now (now s)) (now ps) n ⌝ }
     requires { ⌜ OffsetsIn (now (now table)) (now (now t)) (now qs) m ⌝ }
     ensures { λ r. ⌜
@@ -55,5 +55,5 @@ pub fn cancel(
             k += 1;
         }
     }
-    Counts { left, right }
+    Uncancelled { left, right }
 }

@@ -12,7 +12,7 @@ ghost use Prim.Native.Nat.{ℕ, _≤_, _<_};
 ghost use lib.ListN.{length, getD};
 ghost use Rattle.symbols.specs.Table.{signatureOf};
 ghost use Rattle.equivalence.specs.Parts.{elementsAt, Stands};
-ghost use Rattle.equivalence.specs.Keys.{Sides};
+ghost use Rattle.equivalence.specs.Keys.{BothPrepared};
 ghost use Rattle.equivalence.specs.Offsets.{OffsetsIn, First, alikeAt, rowsAlike, elementsAlike, termsAt};
 
 // Are the terms at i and j AC-equivalent?
@@ -25,7 +25,7 @@ pub fn equivalent(
     right_keys: &[u64; MAX_NODES],
     j: usize,
 ) -> bool
-    requires { ⌜ Sides (now (now table)) (now (now s)) (now «left_keys») (now (now t)) (now «right_keys») ⌝ }
+    requires { ⌜ BothPrepared (now (now table)) (now (now s)) (now «left_keys») (now (now t)) (now «right_keys») ⌝ }
     requires { ⌜ (i < length (now (now s))) × (j < length (now (now t))) ⌝ }
     ensures { λ r. ⌜ r ≡ alikeAt (now (now (table .entry))) (now (now (s .entry))) i (now (now (t .entry))) j ⌝ }
 {
@@ -51,7 +51,7 @@ fn rows_equivalent(
     j: usize,
     n: usize,
 ) -> bool
-    requires { ⌜ Sides (now (now table)) (now (now s)) (now «left_keys») (now (now t)) (now «right_keys») ⌝ }
+    requires { ⌜ BothPrepared (now (now table)) (now (now s)) (now «left_keys») (now (now t)) (now «right_keys») ⌝ }
     requires { ⌜
         Stands (signatureOf (now (now table))) (now (now s)) i n
         × Stands (signatureOf (now (now table))) (now (now t)) j n
@@ -88,7 +88,7 @@ fn flattenings_equivalent(
     f: u16,
     n: usize,
 ) -> bool
-    requires { ⌜ Sides (now (now table)) (now (now s)) (now «left_keys») (now (now t)) (now «right_keys») ⌝ }
+    requires { ⌜ BothPrepared (now (now table)) (now (now s)) (now «left_keys») (now (now t)) (now «right_keys») ⌝ }
     requires { ⌜
         Stands (signatureOf (now (now table))) (now (now s)) i n
         × Stands (signatureOf (now (now table))) (now (now t)) j n
@@ -118,7 +118,7 @@ fn cancels(
     offsets: &mut [u8; MAX_ELEMENTS],
     m: usize,
 ) -> bool
-    requires { ⌜ Sides (now (now table)) (now (now s)) (now «left_keys») (now (now t)) (now «right_keys») ⌝ }
+    requires { ⌜ BothPrepared (now (now table)) (now (now s)) (now «left_keys») (now (now t)) (now «right_keys») ⌝ }
     requires { ⌜ Stands (signatureOf (now (now table))) (now (now s)) i n ⌝ }
     requires { ⌜ f < 256 ⌝ }
     requires { ⌜ OffsetsIn (now (now table)) (now (now t)) (now offsets) m ⌝ }
@@ -161,7 +161,7 @@ pub fn partner(
     offsets: &[u8; MAX_ELEMENTS],
     m: usize,
 ) -> usize
-    requires { ⌜ Sides (now (now table)) (now (now s)) (now «left_keys») (now (now t)) (now «right_keys») ⌝ }
+    requires { ⌜ BothPrepared (now (now table)) (now (now s)) (now «left_keys») (now (now t)) (now «right_keys») ⌝ }
     requires { ⌜ i < length (now (now s)) ⌝ }
     requires { ⌜ OffsetsIn (now (now table)) (now (now t)) (now offsets) m ⌝ }
     ensures { λ r. ⌜
@@ -197,7 +197,7 @@ pub fn equivalent_by_keys(
     right_keys: &[u64; MAX_NODES],
     j: usize,
 ) -> bool
-    requires { ⌜ Sides (now (now table)) (now (now s)) (now «left_keys») (now (now t)) (now «right_keys») ⌝ }
+    requires { ⌜ BothPrepared (now (now table)) (now (now s)) (now «left_keys») (now (now t)) (now «right_keys») ⌝ }
     requires { ⌜ (i < length (now (now s))) × (j < length (now (now t))) ⌝ }
     ensures { λ r. ⌜ r ≡ alikeAt (now (now (table .entry))) (now (now (s .entry))) i (now (now (t .entry))) j ⌝ }
 {

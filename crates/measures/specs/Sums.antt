@@ -5,7 +5,7 @@ use Prim.Native.Nat.{ℕ, _+_, _*_, _≤_, _<_}
 use lib.ListN.{length, getD, drop}
 use Rattle.terms.specs.Signature.{Signature}
 use Rattle.symbols.specs.Table.{signatureOf}
-use Rattle.equivalence.specs.Keys.{Sides}
+use Rattle.equivalence.specs.Keys.{BothPrepared}
 use Rattle.measures.specs.Nodes.{wordSum}
 
 -- sums has for each offset, as three numbers, the sums over all words from there on.
@@ -15,6 +15,6 @@ pub record SummedUp (σ : Signature) (ws sums : List ℕ) : Type 0 where
 
 -- What both sides of a comparison by the order are: prepared, with their sums.
 pub record Scales (table s leftKeys leftSums t rightKeys rightSums : List ℕ) : Type 0 where
-  pub sides : Sides table s leftKeys t rightKeys
+  pub sides : BothPrepared table s leftKeys t rightKeys
   pub left : SummedUp (signatureOf table) s leftSums
   pub right : SummedUp (signatureOf table) t rightSums

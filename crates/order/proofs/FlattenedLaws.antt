@@ -1,7 +1,7 @@
--- The mark of two flattenings, by the verdicts on their high and on their low parts.
+-- The mark of two flattenings, by the outcomes on their high and on their low parts.
 --     flat-four, -none, -five, -fewer, -six, -level      each way that it is decided
 --     parted-few, joined-offsets                         the joined high part
---     high-of, low-of, high-nodes, low-nodes             the verdicts by offsets, and what falls
+--     high-of, low-of, high-nodes, low-nodes             the outcomes by offsets, and what falls
 --     parts-four, -none, -five, -fewer, -six, -level     each way, by offsets
 use mathlib.Core.List.{List, _++_}
 use mathlib.Core.Path.{_≡_, refl, sym, ap₂, _∙_}
@@ -20,7 +20,7 @@ use Rattle.multisets.proofs.MultisetLaws.{sum}
 use Rattle.symbols.specs.Table.{signatureOf}
 use Rattle.equivalence.specs.Offsets.{Offsets, termsAt, leftAt}
 use Rattle.equivalence.proofs.OffsetLaws.{offsets-length}
-use Rattle.order.specs.Compared.{Parted, verdict, highVerdict, lowVerdict}
+use Rattle.order.specs.Compared.{Parted, outcome, highOutcome, lowOutcome}
 use Rattle.order.proofs.MeasureLaws.{choose-sum, joined-sum, above-variables}
 
 abbrev picked : Bool → Bool → ℕ
@@ -64,21 +64,21 @@ module _ (table : List ℕ) (f : ℕ) (ss ts : List Term) where
   abbrev lowE : Bool
   lowE = multisetEqual (isEquivalent σ) (lowPart σ f ss) (lowPart σ f ts)
 
-  flat-four : highVerdict table f ss ts ≡ 2 → 4 ≡ flat
-  unfolding verdict flattenedMark
+  flat-four : highOutcome table f ss ts ≡ 2 → 4 ≡ flat
+  unfolding outcome flattenedMark
   flat-four h = rw (pick-two highG highE h)
 
-  flat-none : highVerdict table f ss ts ≡ 0 → 0 ≡ flat
-  unfolding verdict flattenedMark
+  flat-none : highOutcome table f ss ts ≡ 0 → 0 ≡ flat
+  unfolding outcome flattenedMark
   flat-none h = let p = pick-none highG highE h in rw (p .0, p .1)
 
-  module _ (h : highVerdict table f ss ts ≡ 2 → ⊥) (k : highVerdict table f ss ts ≡ 0 → ⊥) where
+  module _ (h : highOutcome table f ss ts ≡ 2 → ⊥) (k : highOutcome table f ss ts ≡ 0 → ⊥) where
     high-less : highG ≡ false
-    unfolding verdict
+    unfolding outcome
     high-less = pick-less highG highE h
 
     high-same : highE ≡ true
-    unfolding verdict
+    unfolding outcome
     high-same = pick-one highG highE k high-less
 
     flat-five : length ts < length ss → 5 ≡ flat
@@ -92,8 +92,8 @@ module _ (table : List ℕ) (f : ℕ) (ss ts : List Term) where
         rw (high-less, high-same, le-ltb (length ts) (length ss) (omega arith), ne-eqb (length ts) (length ss) z)
 
     module _ (l : length ts ≡ length ss) where
-      flat-six : lowVerdict table f ss ts ≡ 2 → 6 ≡ flat
-      unfolding flattenedMark verdict
+      flat-six : lowOutcome table f ss ts ≡ 2 → 6 ≡ flat
+      unfolding flattenedMark outcome
       flat-six v =
           rw (
             high-less,
@@ -103,8 +103,8 @@ module _ (table : List ℕ) (f : ℕ) (ss ts : List Term) where
             pick-two lowG lowE v,
           )
 
-      flat-level : (lowVerdict table f ss ts ≡ 2 → ⊥) → 0 ≡ flat
-      unfolding flattenedMark verdict
+      flat-level : (lowOutcome table f ss ts ≡ 2 → ⊥) → 0 ≡ flat
+      unfolding flattenedMark outcome
       flat-level v =
           rw (
             high-less,
@@ -121,32 +121,37 @@ module _ {σ : Signature} {f : ℕ} {ws : List ℕ} {ts : List Term} {above belo
   pub parted-few : a + v ≤ length ts
   parted-few = omega (arith, offsets-length (B .high), offsets-length (B .vars), above-variables σ f ts)
 
-module _ (table : List ℕ) {f : ℕ} {s t : List ℕ} {ss ts : List Term} {sh sl sv th tl tv : List ℕ}
+module _ (table : List ℕ) {f : ℕ} {s t : List ℕ} {ss ts : List Term}
+    {leftHigh leftLow leftVariables rightHigh rightLow rightVariables : List ℕ}
     {a b v m a' b' v' m' : ℕ}
-    (A : Parted (signatureOf table) f s ss sh sl sv a b v m)
-    (B : Parted (signatureOf table) f t ts th tl tv a' b' v' m') where
+    (A : Parted (signatureOf table) f s ss leftHigh leftLow leftVariables a b v m)
+    (B : Parted (signatureOf table) f t ts rightHigh rightLow rightVariables a' b' v' m') where
   -- The high part of the right with the variables that the left does not cancel.
   pub joined-offsets : {out : List ℕ} {r : ℕ} →
-      Offsets (signatureOf table) t out r (termsAt table t th a' ++ leftAt table s sv v t tv v' .right) →
+      Offsets (signatureOf table) t out r (termsAt table t rightHigh a' ++ leftAt table s leftVariables v t
+      rightVariables v' .right) →
       Offsets (signatureOf table) t out r (joinedHigh (signatureOf table) (isEquivalent (signatureOf table)) f ss ts)
   joined-offsets h = rw (A .vars .there, B .vars .there, B .high .there) at h
 
   module _ {out : List ℕ} {r : ℕ}
       (J : Offsets (signatureOf table) t out r (joinedHigh (signatureOf table) (isEquivalent (signatureOf table)) f ss
       ts)) where
-    high-of : {c : ℕ} → c ≡ verdict table (termsAt table s sh a) (termsAt table t out r) → c ≡ highVerdict table f
+    high-of : {c : ℕ} → c ≡ outcome table (termsAt table s leftHigh a) (termsAt table t out r) → c ≡ highOutcome table f
         ss ts
-    high-of h = h ∙ ap₂ (verdict table) (A .high .there) (J .there)
+    high-of h = h ∙ ap₂ (outcome table) (A .high .there) (J .there)
 
-    pub high-nodes : sum size (termsAt table s sh a) + sum size (termsAt table t out r) ≤ sum size ss + sum size ts
+    pub high-nodes : sum size (termsAt table s leftHigh a) + sum size (termsAt table t out r) ≤ sum size ss + sum size
+        ts
     high-nodes =
         rw (A .high .there, J .there)
         (omega (arith, choose-sum size (rootAbove (signatureOf table) f) ss, joined-sum (signatureOf table) f ss ts))
 
-  low-of : {c : ℕ} → c ≡ verdict table (termsAt table s sl b) (termsAt table t tl b') → c ≡ lowVerdict table f ss ts
-  low-of h = h ∙ ap₂ (verdict table) (A .low .there) (B .low .there)
+  low-of : {c : ℕ} → c ≡ outcome table (termsAt table s leftLow b) (termsAt table t rightLow b') →
+      c ≡ lowOutcome table f ss ts
+  low-of h = h ∙ ap₂ (outcome table) (A .low .there) (B .low .there)
 
-  pub low-nodes : sum size (termsAt table s sl b) + sum size (termsAt table t tl b') ≤ sum size ss + sum size ts
+  pub low-nodes : sum size (termsAt table s leftLow b) + sum size (termsAt table t rightLow b') ≤ sum size ss + sum
+      size ts
   low-nodes =
       rw (A .low .there, B .low .there)
       (omega (
@@ -157,13 +162,15 @@ module _ (table : List ℕ) {f : ℕ} {s t : List ℕ} {ss ts : List Term} {sh s
 
 -- ---- each way that the mark is decided, by the offsets
 
-module _ (table : List ℕ) {f : ℕ} {s t : List ℕ} {ss ts : List Term} {sh sl sv th tl tv : List ℕ}
+module _ (table : List ℕ) {f : ℕ} {s t : List ℕ} {ss ts : List Term}
+    {leftHigh leftLow leftVariables rightHigh rightLow rightVariables : List ℕ}
     {a b v m a' b' v' m' : ℕ}
-    (A : Parted (signatureOf table) f s ss sh sl sv a b v m)
-    (B : Parted (signatureOf table) f t ts th tl tv a' b' v' m') {out : List ℕ} {r : ℕ}
-    (J : Offsets (signatureOf table) t out r (termsAt table t th a' ++ leftAt table s sv v t tv v' .right))
-    {c : ℕ} (h : c ≡ verdict table (termsAt table s sh a) (termsAt table t out r)) where
-  high : c ≡ highVerdict table f ss ts
+    (A : Parted (signatureOf table) f s ss leftHigh leftLow leftVariables a b v m)
+    (B : Parted (signatureOf table) f t ts rightHigh rightLow rightVariables a' b' v' m') {out : List ℕ} {r : ℕ}
+    (J : Offsets (signatureOf table) t out r (termsAt table t rightHigh a' ++ leftAt table s leftVariables v t
+    rightVariables v' .right))
+    {c : ℕ} (h : c ≡ outcome table (termsAt table s leftHigh a) (termsAt table t out r)) where
+  high : c ≡ highOutcome table f ss ts
   high = high-of table A B (joined-offsets table A B J) h
 
   pub parts-four : c ≡ 2 → 4 ≡ flat table f ss ts
@@ -181,7 +188,8 @@ module _ (table : List ℕ) {f : ℕ} {s t : List ℕ} {ss ts : List Term} {sh s
     parts-fewer l =
         flat-fewer table f ss ts (λ z. p (high ∙ z)) (λ z. q (high ∙ z)) (omega (arith, A .whole, B .whole))
 
-    module _ (l : m ≤ m') (k : m' ≤ m) {d : ℕ} (e : d ≡ verdict table (termsAt table s sl b) (termsAt table t tl b'))
+    module _ (l : m ≤ m') (k : m' ≤ m) {d : ℕ} (e : d ≡ outcome table (termsAt table s leftLow b)
+        (termsAt table t rightLow b'))
       where
         pub parts-six : d ≡ 2 → 6 ≡ flat table f ss ts
         parts-six g =

@@ -172,7 +172,8 @@ module _ (σ : Signature) (s t : Term) {m n : ℕ} (h : m ≡ mark σ s t) (k : 
   unfolding relation
   relation-less p = rw (not-greater-of-mark σ s t h l, greater-of-mark σ t s k p)
 
-  pub relation-unrelated : AcBinary σ → WellFormed σ s → WellFormed σ t → (m ≡ 9 → ⊥) → 6 < n → Unrelated ≡ relation σ s t
+  pub relation-unrelated : AcBinary σ → WellFormed σ s → WellFormed σ t → (m ≡ 9 → ⊥) → 6 < n →
+      Unrelated ≡ relation σ s t
   unfolding relation
   relation-unrelated B v w d p =
       rw (not-greater-of-mark σ s t h l, not-greater-of-mark σ t s k p, unlike-of-mark σ s t h B v w d)
@@ -188,6 +189,7 @@ module _ (σ : Signature) (s t : Term) where
   unfolding relation
   level-less e d = rw (← e, ← d)
 
-  pub level-unrelated : false ≡ isGreater σ s t → false ≡ isGreater σ t s → false ≡ isEquivalent σ s t → Unrelated ≡ relation σ s t
+  pub level-unrelated : false ≡ isGreater σ s t → false ≡ isGreater σ t s → false ≡ isEquivalent σ s t →
+      Unrelated ≡ relation σ s t
   unfolding relation
   level-unrelated e d c = rw (← e, ← d, ← c)

@@ -25,7 +25,7 @@ use Rattle.terms.specs.Equivalence.{isEquivalent}
 use Rattle.terms.specs.Order.{variables, rootAbove, highPart, joinedHigh}
 use Rattle.symbols.specs.Table.{signatureOf}
 use Rattle.equivalence.specs.Parts.{partAt, partsAt, elementsAt, Stands}
-use Rattle.equivalence.specs.Keys.{Prepared, Sides, sizeIn}
+use Rattle.equivalence.specs.Keys.{Prepared, BothPrepared, sizeIn}
 use Rattle.equivalence.specs.Offsets.{Offsets, termsAt}
 use Rattle.equivalence.proofs.PartLaws.{total, symbol}
 use Rattle.equivalence.proofs.StepLaws.{row-next, prepared-size}
@@ -162,7 +162,8 @@ module _ (table s t : List ℕ) where
   offsetNodes ps n qs m = sum size (termsAt table s ps n) + sum size (termsAt table t qs m)
 
 -- The arguments of two terms with the same root.
-module _ {table s sk t tk : List ℕ} (S : Sides table s sk t tk) (i j : ℕ) (h : i < length s) (k : j < length t)
+module _ {table s leftKeys t rightKeys : List ℕ} (S : BothPrepared table s leftKeys t rightKeys) (i j : ℕ)
+    (h : i < length s) (k : j < length t)
     (e : getD s i 0 ≡ getD t j 0) {n : ℕ} (d : n ≡ symbolOf (signatureOf table) (getD s i 0) .arity) where
   pub inner-rows : Stands (signatureOf table) s (i + 1) n × Stands (signatureOf table) t (j + 1) n
   inner-rows = (inner-left S i j h k e d, inner-right S i j h k e d)

@@ -19,7 +19,7 @@ use Rattle.terms.specs.Order.{rootMark, isGreater}
 use Rattle.terms.proofs.TermLaws.{row-arguments}
 use Rattle.symbols.specs.Table.{signatureOf}
 use Rattle.equivalence.specs.Parts.{partAt, partsAt, Stands}
-use Rattle.equivalence.specs.Keys.{Sides, sizeIn}
+use Rattle.equivalence.specs.Keys.{BothPrepared, sizeIn}
 use Rattle.equivalence.specs.Offsets.{alikeAt}
 use Rattle.equivalence.proofs.PartLaws.{variable, symbol}
 use Rattle.equivalence.proofs.StepLaws.{row-next, prepared-size}
@@ -28,7 +28,8 @@ use Rattle.order.specs.Compared.{isHigher, greaterAt, rootAt, rowsGreate
 
 -- ---- rows
 
-module _ {table s sk t tk : List ℕ} (S : Sides table s sk t tk) {i j n : ℕ} (a : Stands (signatureOf table) s i n)
+module _ {table s leftKeys t rightKeys : List ℕ} (S : BothPrepared table s leftKeys t rightKeys) {i j n : ℕ}
+    (a : Stands (signatureOf table) s i n)
     (b : Stands (signatureOf table) t j n) where
   pub lex-none : n ≡ 0 → false ≡ rowsGreater table s i t j n
   unfolding rowGreater
@@ -47,7 +48,8 @@ module _ {table s sk t tk : List ℕ} (S : Sides table s sk t tk) {i j n : ℕ} 
       table s i t j n
   lex-here p e h = h ∙ rw (lex-step p, ← e)
 
-  pub lex-more : {w v : ℕ} {r : Bool} → 0 < n → true ≡ alikeAt table s i t j → w ≡ sizeIn sk i → v ≡ sizeIn tk j →
+  pub lex-more : {w v : ℕ} {r : Bool} → 0 < n → true ≡ alikeAt table s i t j → w ≡ sizeIn leftKeys i →
+      v ≡ sizeIn rightKeys j →
       r ≡ rowsGreater table s (i + w) t (j + v) (n - 1) → r ≡ rowsGreater table s i t j n
   lex-more p e d g h =
       (rw (d, g, prepared-size (S .left) i (omega arith), prepared-size (S .right) j (omega arith)) at h)

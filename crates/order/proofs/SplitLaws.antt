@@ -1,7 +1,7 @@
 -- Splitting a list of elements by their roots, and joining two lists of offsets.
 --     split-start, split-variable, -above, -below, -level   one step of the splitting
 --     joined-none, joined-more                      one step of the joining
-use mathlib.Core.List.{List, [], _∷_, _++_, map, append-assoc, append-nil}
+use mathlib.Core.List.{List, [], _∷_, _++_, map, append-assoc, append-nil, map-append}
 use mathlib.Core.Path.{_≡_, refl, sym, ap, _∙_}
 use mathlib.Core.Bool.{Bool, true, false, cond}
 use Prim.Native.Nat.{ℕ, _+_, _-_, _≤_, _<_}
@@ -21,7 +21,7 @@ use Rattle.symbols.specs.Table.{signatureOf}
 use Rattle.equivalence.specs.Parts.{partAt}
 use Rattle.equivalence.specs.Offsets.{Offsets, termsAt, leftAt}
 use Rattle.equivalence.proofs.PartLaws.{variable, symbol}
-use Rattle.equivalence.proofs.OffsetLaws.{map-append, offset-added, offsets-length}
+use Rattle.equivalence.proofs.OffsetLaws.{offset-added, offsets-length}
 use Rattle.order.specs.Compared.{Parted}
 use Rattle.order.proofs.MeasureLaws.{cancel-length}
 
@@ -187,13 +187,14 @@ module _ (table t ps₀ qs : List ℕ) (k : ℕ) where
       rw (d, e, ← append-assoc) (offset-added σ t ps (k + x) (getD qs x 0) _ (h l g) c b)
 
 -- What is left is no more than what was there.
-pub surplus-few : (table s sv : List ℕ) (a : ℕ) {t tv out : List ℕ} {b r : ℕ} →
-    Offsets (signatureOf table) t tv b (termsAt table t tv b) →
-    Offsets (signatureOf table) t out r (leftAt table s sv a t tv b .right) → r ≤ b
-surplus-few table s sv a {t} {tv} {out} {b} P Q =
+pub surplus-few : (table s leftVariables : List ℕ) (a : ℕ) {t rightVariables out : List ℕ} {b r : ℕ} →
+    Offsets (signatureOf table) t rightVariables b (termsAt table t rightVariables b) →
+    Offsets (signatureOf table) t out r (leftAt table s leftVariables a t rightVariables b .right) → r ≤ b
+surplus-few table s leftVariables a {t} {rightVariables} {out} {b} P Q =
     omega (
       arith,
       offsets-length P,
       offsets-length Q,
-      cancel-length (isEquivalent (signatureOf table)) (termsAt table s sv a) (termsAt table t tv b),
+      cancel-length (isEquivalent (signatureOf table)) (termsAt table s leftVariables a)
+          (termsAt table t rightVariables b),
     )

@@ -11,7 +11,7 @@ use Rattle.format.specs.Statements.{IsTerm}
 use Rattle.symbols.specs.Table.{signatureOf}
 use Rattle.symbols.proofs.TableLaws.{few-at}
 use Rattle.equivalence.specs.Parts.{Complete}
-use Rattle.equivalence.specs.Keys.{Prepared, Sides}
+use Rattle.equivalence.specs.Keys.{Prepared, BothPrepared}
 use Rattle.equivalence.proofs.FormedLaws.{term-some, term-complete}
 use Rattle.measures.specs.Sums.{Scales}
 use Rattle.order.specs.Compared.{Whole}
@@ -38,7 +38,7 @@ module _ {table s t : List ℕ} (S : Whole table s t) where
 
   module _ {leftKeys rightKeys : List ℕ} (P : Prepared (signatureOf table) s leftKeys)
       (Q : Prepared (signatureOf table) t rightKeys) where
-    pub whole-sides : Sides table s leftKeys t rightKeys
+    pub whole-sides : BothPrepared table s leftKeys t rightKeys
     whole-sides = record { small = S .small; binary = S .binary; left = P; right = Q }
 
 pub scales-turned : {table s leftKeys leftSums t rightKeys rightSums : List ℕ} →

@@ -23,7 +23,7 @@ ghost use Rattle.equivalence.specs.Parts.{elementsAt, Stands};
 ghost use Rattle.equivalence.specs.Offsets.{OffsetsIn, termsAt};
 ghost use Rattle.measures.specs.Sums.{Scales};
 ghost use Rattle.order.specs.Compared.{noneOftenerAt, isHigher, greaterAt, rowsGreater};
-ghost use Rattle.order.specs.Compared.{flattenedAt, covered, verdict};
+ghost use Rattle.order.specs.Compared.{flattenedAt, covered, outcome};
 
 // Are both words symbols, and the first higher in the precedence?
 pub fn higher(table: &[u16], f: u16, g: u16) -> bool
@@ -336,7 +336,7 @@ fn compare(
     requires { ⌜ OffsetsIn (now (now table)) (now (now t)) (now qs) m ⌝ }
     ensures { λ r. ⌜
         r
-        ≡ verdict (now (now (table .entry)))
+        ≡ outcome (now (now (table .entry)))
         (termsAt (now (now (table .entry))) (now (now (s .entry))) (now (ps .entry)) n)
         (termsAt (now (now (table .entry))) (now (now (t .entry))) (now (qs .entry)) m)
         ⌝ }

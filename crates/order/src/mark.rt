@@ -19,7 +19,7 @@ ghost use lib.ListN.{length, getD};
 ghost use Rattle.terms.specs.Words.{termOf};
 ghost use Rattle.terms.specs.Order.{mark as markOf};
 ghost use Rattle.symbols.specs.Table.{signatureOf};
-ghost use Rattle.equivalence.specs.Keys.{Sides};
+ghost use Rattle.equivalence.specs.Keys.{BothPrepared};
 ghost use Rattle.equivalence.specs.Offsets.{alikeAt};
 ghost use Rattle.measures.specs.Nodes.{NodeSums};
 ghost use Rattle.measures.specs.Totals.{Totalled};
@@ -92,7 +92,7 @@ fn mark_unlike(
         × NodeSums (signatureOf (now table)) (now adds)
         ⌝ }
     requires { ⌜
-        Sides (now table) (now s) (now «left_keys») (now t) (now «right_keys»)
+        BothPrepared (now table) (now s) (now «left_keys») (now t) (now «right_keys»)
         × (false ≡ alikeAt (now table) (now s) 0 (now t) 0)
         ⌝ }
     ensures { λ r. ⌜
@@ -124,7 +124,7 @@ pub fn prepare_both(
     requires { ⌜ (length (now «left_keys») ≡ 128) × (length (now «right_keys») ≡ 128) ⌝ }
     ensures { λ r. ⌜ r ≡ alikeAt (now (table .entry)) (now (s .entry)) 0 (now (t .entry)) 0 ⌝ }
     ensures { λ _. ⌜
-        Sides (now (table .entry)) (now (s .entry)) (now («left_keys» .exit)) (now (t .entry))
+        BothPrepared (now (table .entry)) (now (s .entry)) (now («left_keys» .exit)) (now (t .entry))
         (now («right_keys» .exit))
         ⌝ }
 {

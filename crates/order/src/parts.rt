@@ -12,7 +12,7 @@ ghost use lib.ListN.{length};
 ghost use Rattle.terms.specs.Term.{Term};
 ghost use Rattle.symbols.specs.Table.{signatureOf};
 ghost use Rattle.equivalence.specs.Parts.{elementsAt, Stands};
-ghost use Rattle.equivalence.specs.Keys.{Prepared, Sides};
+ghost use Rattle.equivalence.specs.Keys.{Prepared, BothPrepared};
 ghost use Rattle.equivalence.specs.Offsets.{Offsets, OffsetsIn, termsAt, leftAt};
 ghost use Rattle.order.specs.Compared.{Parted};
 
@@ -143,7 +143,7 @@ pub fn join_surplus(
     right_high: &mut [u8; MAX_ELEMENTS],
     k: usize,
 ) -> usize
-    requires { ⌜ Sides (now (now table)) (now (now s)) (now «left_keys») (now (now t)) (now «right_keys») ⌝ }
+    requires { ⌜ BothPrepared (now (now table)) (now (now s)) (now «left_keys») (now (now t)) (now «right_keys») ⌝ }
     requires { ⌜ OffsetsIn (now (now table)) (now (now s)) (now «left_variables») a ⌝ }
     requires { ⌜ OffsetsIn (now (now table)) (now (now t)) (now «right_variables») b ⌝ }
     requires { ⌜ OffsetsIn (now (now table)) (now (now t)) (now «right_high») k ⌝ }

@@ -42,7 +42,8 @@ returns c =
     let c8 = c5 .before .before .before in
     let c15 = c8 .before .before .before .before .before .before .before in
     let a = c15 .args in
-    let margin = c .margin .ensures (signatureOf (a .table .now)) (a .left .now) (a .right .now) (c8 .sum-up .ensures .1)
+    let margin = c .margin .ensures (signatureOf (a .table .now)) (a .left .now) (a .right .now)
+    (c8 .sum-up .ensures .1)
     (c5 .sum-up2 .ensures .1) in
     rw (toZ-ofZ w64 (c .margin .result) (record { sfits = c .margin .ok }), c .before .relation .ensures, margin)
 

@@ -44,7 +44,8 @@ returns c =
     let c6 = c5 .before in
     let c10 = c6 .before .before .before .before in
     let (W, (p, q)) = c10 .pre in
-    let all = few-halves W p q (c6 .sum-at .ensures) (c5 .sum-at2 .ensures) (c4 .sum-at3 .ensures) (c3 .sum-at4 .ensures) in
+    let all = few-halves W p q (c6 .sum-at .ensures) (c5 .sum-at2 .ensures) (c4 .sum-at3 .ensures)
+    (c3 .sum-at4 .ensures) in
     c .before .digits-within2 .ensures ∙ (rw (sym (c .before .before .digits-within .ensures) ∙ c .if1 .taken) at all)
 
 returns-2 : tie.Need-returns-2
@@ -55,7 +56,8 @@ returns-2 c =
     let c6 = c5 .before in
     let c10 = c6 .before .before .before .before in
     let (W, (p, q)) = c10 .pre in
-    let all = few-halves W p q (c6 .sum-at .ensures) (c5 .sum-at2 .ensures) (c4 .sum-at3 .ensures) (c3 .sum-at4 .ensures) in
+    let all = few-halves W p q (c6 .sum-at .ensures) (c5 .sum-at2 .ensures) (c4 .sum-at3 .ensures)
+    (c3 .sum-at4 .ensures) in
     rw (sym (c .before .before .digits-within .ensures) ∙ c .if1 .left) at all
 
 pub none-oftener-at-spec : {M : Type 1} → statement M

@@ -22,7 +22,8 @@ returns c =
     let (S, (A, B, N)) = c8 .pre in
     let σ = signatureOf (a .table .now) in
     whole-one σ (termOf σ (a .s .now)) (termOf σ (a .t .now))
-    (sym (c3 .if1 .taken) ∙ c4 .none-oftener .ensures σ (a .s .now) (a .t .now) A B) (A .weight) (B .weight) (c .if2 .taken)
+    (sym (c3 .if1 .taken) ∙ c4 .none-oftener .ensures σ (a .s .now) (a .t .now) A B) (A .weight) (B .weight)
+    (c .if2 .taken)
 
 returns-2 : tie.Need-returns-2
 returns-2 c =
@@ -33,7 +34,8 @@ returns-2 c =
     let (S, (A, B, N)) = c11 .pre in
     let σ = signatureOf (a .table .now) in
     whole-eight σ (termOf σ (a .s .now)) (termOf σ (a .t .now))
-    (sym (c6 .if1 .taken) ∙ c7 .none-oftener .ensures σ (a .s .now) (a .t .now) A B) (A .weight) (B .weight) (c .if3 .taken)
+    (sym (c6 .if1 .taken) ∙ c7 .none-oftener .ensures σ (a .s .now) (a .t .now) A B) (A .weight) (B .weight)
+    (c .if3 .taken)
 
 mark-level-requires : tie.Need-mark-level-requires
 mark-level-requires c κs =

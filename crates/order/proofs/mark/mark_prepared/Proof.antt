@@ -17,7 +17,8 @@ returns c =
     let a = c7 .args in
     let S = c7 .pre .0 in
     let σ = signatureOf (a .table .now) in
-    mark-of-equivalent σ (S .binary) (termOf σ (a .s .now)) (termOf σ (a .t .now)) (S .left .wellFormed) (S .right .wellFormed)
+    mark-of-equivalent σ (S .binary) (termOf σ (a .s .now)) (termOf σ (a .t .now)) (S .left .wellFormed)
+    (S .right .wellFormed)
     (sym (c .before .prepare-both .ensures .0) ∙ c .if1 .taken)
 
 mark-unlike-requires : tie.Need-mark-unlike-requires

@@ -25,7 +25,8 @@ returns c =
     let (S, (W, (A, B, l, e))) = c6 .pre in
     let σ = signatureOf (a .table .now) in
     greater-level σ (partAt σ (a .s .now) 0) (partAt σ (a .t .now) 0)
-    (sym (c .before .if1 .taken) ∙ c .before .before .none-oftener .ensures σ (a .s .now) (a .t .now) A B) (A .weight) (B .weight) l
+    (sym (c .before .if1 .taken) ∙ c .before .before .none-oftener .ensures σ (a .s .now) (a .t .now) A B) (A .weight)
+    (B .weight) l
     (ap (ltb 0) (c .arguments-mark .ensures))
 
 returns-2 : tie.Need-returns-2

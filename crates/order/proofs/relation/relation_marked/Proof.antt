@@ -40,7 +40,8 @@ returns-4 c =
     let a = c .before .before .before .before .before .before .before .before .args in
     let S = c .before .before .before .before .before .before .before .before .pre .0 in
     let σ = signatureOf (a .table .now) in
-    relation-unrelated σ (termOf σ (a .s .now)) (termOf σ (a .t .now)) (c .before .before .before .before .mark .ensures)
+    relation-unrelated σ (termOf σ (a .s .now)) (termOf σ (a .t .now))
+    (c .before .before .before .before .mark .ensures)
     (c .before .mark2 .ensures) (omega arith)
     (S .binary) (S .left .wellFormed) (S .right .wellFormed) (c .before .before .if2 .left) (omega arith)
 

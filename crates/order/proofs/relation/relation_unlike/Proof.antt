@@ -16,7 +16,8 @@ returns c =
     let c5 = c .before .before .before .before .before in
     let a = c5 .args in
     let σ = signatureOf (a .table .now) in
-    level-greater σ (termOf σ (a .s .now)) (termOf σ (a .t .now)) (sym (c .if1 .taken) ∙ c .before .greater-level .ensures)
+    level-greater σ (termOf σ (a .s .now)) (termOf σ (a .t .now))
+    (sym (c .if1 .taken) ∙ c .before .greater-level .ensures)
 
 greater-level-requires-2 : tie.Need-greater-level-requires-2
 greater-level-requires-2 c κs =

@@ -19,11 +19,11 @@ abbrev rows-equivalent-claims : ℕ → rows-equivalent-lts.Claims
 rows-equivalent-claims t = (equivalent-below t, equivalent.Post, size-at-reads.Asked, size-at-reads.Learnt)
 
 abbrev rows-equivalent-Inv-loop : rows-equivalent-lts.InvT-loop
-rows-equivalent-Inv-loop table s sk i t tk j n at₀ to₀ left₀ at to left =
+rows-equivalent-Inv-loop table s leftKeys i t rightKeys j n at₀ to₀ left₀ at to left =
     (0 < left) × RowGoing (table .now) (s .now) (t .now) i j n at to left
 
 abbrev rows-equivalent-μ-loop : rows-equivalent-lts.MeasureT-loop
-rows-equivalent-μ-loop table s sk i t tk j n at₀ to₀ left₀ at to left = left
+rows-equivalent-μ-loop table s leftKeys i t rightKeys j n at₀ to₀ left₀ at to left = left
 
 rows-equivalent-returns : (t : ℕ) → rows-equivalent-lts.Need-returns (rows-equivalent-claims t) (rows-equivalent-at t)
     rows-equivalent.Post rows-equivalent-Inv-loop rows-equivalent-μ-loop

@@ -35,11 +35,13 @@ exceeds-claims t = (
   rows-greater.Post,
 )
 
-exceeds-weight-at-requires : (t : ℕ) → exceeds-lts.Need-weight-at-requires (exceeds-claims t) (exceeds-at t) exceeds.Post
+exceeds-weight-at-requires : (t : ℕ) → exceeds-lts.Need-weight-at-requires (exceeds-claims t) (exceeds-at t)
+    exceeds.Post
 exceeds-weight-at-requires t c κs =
     let h = c .before .before .pre .1 in (h .0 .sides .left, (h .0 .left, h .1 .0))
 
-exceeds-weight-at-requires-2 : (t : ℕ) → exceeds-lts.Need-weight-at-requires-2 (exceeds-claims t) (exceeds-at t) exceeds.Post
+exceeds-weight-at-requires-2 : (t : ℕ) → exceeds-lts.Need-weight-at-requires-2 (exceeds-claims t) (exceeds-at t)
+    exceeds.Post
 exceeds-weight-at-requires-2 t c κs =
     let c5 = c .before .before .before .before .before in
     let h = c5 .pre .1 in (h .0 .sides .right, (h .0 .right, h .1 .1))
@@ -59,7 +61,8 @@ exceeds-returns-2 t c =
     let c12 = c9 .before .before .before in
     let a = c12 .args in
     let h = c12 .pre .1 in
-    at-differing (h .0) (a .i) (a .j) (h .1 .2) (c9 .weight-at .ensures) (c5 .before .weight-at2 .ensures) (c5 .if1 .left)
+    at-differing (h .0) (a .i) (a .j) (h .1 .2) (c9 .weight-at .ensures) (c5 .before .weight-at2 .ensures)
+    (c5 .if1 .left)
     (h .1 .0) (h .1 .1) (c .before .before .if2 .taken) (c .higher .ensures)
 
 exceeds-returns-3 : (t : ℕ) → exceeds-lts.Need-returns-3 (exceeds-claims t) (exceeds-at t) exceeds.Post
@@ -69,7 +72,8 @@ exceeds-returns-3 t c =
     let c11 = c8 .before .before .before in
     let a = c11 .args in
     let h = c11 .pre .1 in
-    at-variable (h .0) (a .i) (a .j) (h .1 .2) (c8 .weight-at .ensures) (c4 .before .weight-at2 .ensures) (c4 .if1 .left)
+    at-variable (h .0) (a .i) (a .j) (h .1 .2) (c8 .weight-at .ensures) (c4 .before .weight-at2 .ensures)
+    (c4 .if1 .left)
     (h .1 .0) (h .1 .1) (c .if3 .taken)
 
 exceeds-add-flattened : (t : ℕ) → exceeds-lts.Need-add-flattened (exceeds-claims t) (exceeds-at t) exceeds.Post
@@ -109,7 +113,8 @@ exceeds-returns-4 t c =
     let c17 = c14 .before .before .before in
     let a = c17 .args in
     let h = c17 .pre .1 in
-    at-elements (h .0) (a .i) (a .j) (h .1 .2) (c14 .weight-at .ensures) (c10 .before .weight-at2 .ensures) (c10 .if1 .left)
+    at-elements (h .0) (a .i) (a .j) (h .1 .2) (c14 .weight-at .ensures) (c10 .before .weight-at2 .ensures)
+    (c10 .if1 .left)
     (h .1 .0) (h .1 .1) (c6 .before .if2 .left) (c6 .if3 .left) (c4 .arity .ensures .0)
     (sym (c .before .before .is-ac .ensures) ∙ c .before .if4 .taken) (c .flattened .ensures)
 

@@ -199,11 +199,13 @@ pub fn mark(
         (termOf (signatureOf (now (table .entry))) (now (t .entry)))
         ⌝ }
 {
+    let x = left_totals.weight;
+    let y = right_totals.weight;
     if none_oftener(left_totals, right_totals) {
-        if right_totals.weight < left_totals.weight {
+        if y < x {
             return 1;
         }
-        if left_totals.weight < right_totals.weight {
+        if x < y {
             return 8;
         }
         return mark_level(table, adds, s, t);

@@ -30,12 +30,6 @@ relation-requires c κs =
     let (T, B) = c3 .sum-up2 .ensures in
     (whole-terms small admissible left right, ((A, B, c9 .node-sums .ensures), (S, T)))
 
-margin-requires : tie.Need-margin-requires
-margin-requires c κs =
-    let c4 = c .before .before .before .before in
-    let c7 = c4 .before .before .before in
-    (c7 .sum-up .ensures .1 .small, c4 .sum-up2 .ensures .1 .small)
-
 returns : tie.Need-returns
 returns c =
     let c5 = c .before .before .before .before .before in
@@ -49,5 +43,5 @@ returns c =
 
 pub compare-read-spec : {M : Type 1} → statement M
 compare-read-spec =
-    tie.close (tie.spec (λ c κs. search needs) sum-up-requires sum-up-requires-2 relation-requires margin-requires
+    tie.close (tie.spec (λ c κs. search needs) sum-up-requires sum-up-requires-2 relation-requires (λ c κs. search needs)
     returns)

@@ -23,7 +23,7 @@ partner-requires c κs =
     let g = c4 .loop .inv in (
       c4 .before .pre .0,
       (
-        rw (c .before .wide-byte .ensures .0) (g .left .inside (c4 .loop .k) (omega arith)),
+        rw (c .before .wide-byte .ensures .0) (g .left .inside _ (omega arith)),
         g .right,
       ),
     )

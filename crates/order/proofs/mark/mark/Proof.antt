@@ -15,42 +15,32 @@ none-oftener-requires c κs =
 
 returns : tie.Need-returns
 returns c =
-    let c3 = c .before .before .before in
-    let c4 = c3 .before in
-    let c8 = c4 .before .before .before .before in
-    let a = c8 .args in
-    let (S, (A, B, N)) = c8 .pre in
+    let c6 = c .before .before .before .before .before .before in
+    let a = c6 .args in
+    let (S, (A, B, N)) = c6 .pre in
     let σ = signatureOf (a .table .now) in
-    whole-one σ (termOf σ (a .s .now)) (termOf σ (a .t .now))
-    (sym (c3 .if1 .taken) ∙ c4 .none-oftener .ensures σ (a .s .now) (a .t .now) A B) (A .weight) (B .weight)
-    (c .if2 .taken)
+    let few = sym (c .before .if1 .taken) ∙ c .before .before .none-oftener .ensures σ (a .s .now) (a .t .now) A B in
+    whole-one σ (termOf σ (a .s .now)) (termOf σ (a .t .now)) few (A .weight) (B .weight) (c .if2 .taken)
 
 returns-2 : tie.Need-returns-2
 returns-2 c =
-    let c6 = c .before .before .before .before .before .before in
-    let c7 = c6 .before in
-    let c11 = c7 .before .before .before .before in
-    let a = c11 .args in
-    let (S, (A, B, N)) = c11 .pre in
+    let c3 = c .before .before .before in
+    let c7 = c3 .before .before .before .before in
+    let a = c7 .args in
+    let (S, (A, B, N)) = c7 .pre in
     let σ = signatureOf (a .table .now) in
-    whole-eight σ (termOf σ (a .s .now)) (termOf σ (a .t .now))
-    (sym (c6 .if1 .taken) ∙ c7 .none-oftener .ensures σ (a .s .now) (a .t .now) A B) (A .weight) (B .weight)
-    (c .if3 .taken)
+    let few = sym (c .before .before .if1 .taken) ∙ c3 .none-oftener .ensures σ (a .s .now) (a .t .now) A B in
+    whole-eight σ (termOf σ (a .s .now)) (termOf σ (a .t .now)) few (A .weight) (B .weight) (c .if3 .taken)
 
 mark-level-requires : tie.Need-mark-level-requires
 mark-level-requires c κs =
-    let c6 = c .before .before .before .before .before .before in
-    let c7 = c6 .before in
-    let c11 = c7 .before .before .before .before in
-    let a = c11 .args in
-    let (S, (A, B, N)) = c11 .pre in (
-      S,
-      (
-        sym (c6 .if1 .taken) ∙ c7 .none-oftener .ensures (signatureOf (a .table .now)) (a .s .now) (a .t .now) A B,
-        omega (arith, A .weight, B .weight),
-        N,
-      ),
-    )
+    let c3 = c .before .before .before in
+    let c7 = c3 .before .before .before .before in
+    let a = c7 .args in
+    let (S, (A, B, N)) = c7 .pre in
+    let few = sym (c .before .before .if1 .taken)
+    ∙ c3 .none-oftener .ensures (signatureOf (a .table .now)) (a .s .now) (a .t .now) A B in
+    (S, (few, omega (arith, A .weight, B .weight), N))
 
 returns-4 : tie.Need-returns-4
 returns-4 c =

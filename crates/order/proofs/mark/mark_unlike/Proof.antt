@@ -1,5 +1,6 @@
 -- The terms are prepared and summed up; then their arguments decide, and where they do not the mark is 10.
 use mathlib.Core.Path.{refl}
+use native.Mathlib.Omega.{arith}
 use Rattle.terms.specs.Words.{termOf}
 use Rattle.symbols.specs.Table.{signatureOf}
 use Rattle.order.proofs.MarkLaws.{whole-root, whole-ten}
@@ -33,7 +34,7 @@ returns c =
     let ((S, R, N), P) = c11 .pre in
     let σ = signatureOf (a .table .now) in
     whole-root σ (termOf σ (a .s .now)) (termOf σ (a .t .now)) (R .few) refl refl (R .level)
-    (c .before .arguments-mark .ensures) (c .if1 .taken)
+    (c .before .arguments-mark .ensures) (omega arith)
 
 returns-2 : tie.Need-returns-2
 returns-2 c =
@@ -42,7 +43,7 @@ returns-2 c =
     let ((S, R, N), (P, u)) = c11 .pre in
     let σ = signatureOf (a .table .now) in
     whole-ten σ (termOf σ (a .s .now)) (termOf σ (a .t .now)) (R .few) refl refl (R .level)
-    (c .before .arguments-mark .ensures) (c .if1 .left) u
+    (c .before .arguments-mark .ensures) (omega arith) u
 
 pub mark-unlike-spec : {M : Type 1} → statement M
 mark-unlike-spec =

@@ -33,7 +33,7 @@ returns-3 c =
     let σ = signatureOf (a .table .now) in
     relation-less σ (termOf σ (a .s .now)) (termOf σ (a .t .now)) (c .before .before .before .before .mark .ensures)
     (c .before .mark2 .ensures) (omega arith)
-    (c .if3 .taken)
+    (omega arith)
 
 returns-4 : tie.Need-returns-4
 returns-4 c =

@@ -1,3 +1,4 @@
+-- The loop keeps: what was kept, and what cancelling what is ahead leaves, is what cancelling all leaves.
 use borrow.Author.Needs.{needs}
 use native.Mathlib.Omega.{arith}
 use Prim.Native.Nat.{_-_}

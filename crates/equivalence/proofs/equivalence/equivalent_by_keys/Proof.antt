@@ -1,3 +1,4 @@
+-- AC-equivalent terms have equal keys, so different keys tell terms apart.
 use Rattle.equivalence.proofs.AlikeLaws.{equivalent-keys}
 use borrow.Author.Needs.{needs}
 use Rattle.equivalence.proofs.equivalence.equivalent_by_keys.Statement.{statement}

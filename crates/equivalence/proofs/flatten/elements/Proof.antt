@@ -1,3 +1,5 @@
+-- The loop keeps: the elements listed, with those of the terms ahead, are the elements of all. A node of f is opened,
+-- any other is an element.
 use borrow.Author.Needs.{needs}
 use native.Mathlib.Omega.{arith}
 use Prim.Native.Nat.{_-_}

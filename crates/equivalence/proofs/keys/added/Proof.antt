@@ -1,3 +1,4 @@
+-- Each branch is one of the definition, and a remainder by 2 to the power of 32 is below it.
 use native.Mathlib.Omega.{arith}
 use borrow.Author.Tests.{eq-eqb, ne-eqb}
 use Rattle.equivalence.specs.Keys.{added}

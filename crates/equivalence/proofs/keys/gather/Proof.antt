@@ -1,3 +1,4 @@
+-- The loop keeps: the offset and the hash so far, with what is left to gather, give the whole.
 use borrow.Author.Needs.{needs}
 use native.Mathlib.Omega.{arith}
 use mathlib.Core.Path.{_≡_, refl, _∙_}

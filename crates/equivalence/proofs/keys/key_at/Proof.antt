@@ -1,3 +1,4 @@
+-- Past the end the default is read.
 use native.Mathlib.Omega.{arith}
 use mathlib.Core.Path.{sym}
 use lib.ListN.{List·getD-eq-default}

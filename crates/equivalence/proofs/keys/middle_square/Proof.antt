@@ -1,3 +1,4 @@
+-- The square of a number of 32 bits has 64.
 use native.Mathlib.Omega.{arith}
 use native.Mathlib.Nat.{mul-le-mul}
 use mathlib.Core.Path.{refl}

@@ -1,3 +1,4 @@
+-- No sum overflows: the hash has 40 bits, the product 48.
 use native.Mathlib.Omega.{arith}
 use borrow.Author.Needs.{needs}
 use Rattle.equivalence.proofs.keys.mix.Statement.{statement}

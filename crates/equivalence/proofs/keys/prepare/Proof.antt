@@ -1,3 +1,5 @@
+-- The loop keeps: the keys from i on are those of the terms that start there. A term's key is made of those of its
+-- arguments, which stand to its right.
 use borrow.Author.Needs.{needs}
 use native.Mathlib.Omega.{arith}
 use mathlib.Core.Path.{_≡_}

@@ -1,3 +1,4 @@
+-- What comes after the index moves down by one, and the last of the m is no longer counted.
 use borrow.Author.Needs.{needs}
 use native.Mathlib.Omega.{arith}
 use mathlib.Core.Path.{_∙_, refl}

@@ -1,3 +1,5 @@
+-- 128 more than a digit, less a digit below 128, has its eighth bit unless the first digit is less, and borrows
+-- nothing.
 use native.Mathlib.Omega.{arith}
 use Rattle.measures.proofs.DigitLaws.{small-most, digits-test}
 use Rattle.measures.proofs.digits.digits_within.Statement.{statement}

@@ -1,3 +1,4 @@
+-- A shift by 8 times a place is the place value, 256 to the power of the place.
 use native.Mathlib.Omega.{arith}
 use Prim.Native.Nat.{_/_, _%_}
 use borrow.Author.Tests.{eq-eqb, ne-eqb}

@@ -1,3 +1,4 @@
+-- The symbols' weights are stored, then what the variables add; all else is 0.
 use mathlib.Core.Path.{_≡_, sym}
 use Prim.Native.Nat.{_+_, _/_}
 use lib.ListN.{length}

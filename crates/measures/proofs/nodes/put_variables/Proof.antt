@@ -1,3 +1,4 @@
+-- The loop keeps: what the variables below the word at hand add is stored, and nothing else has changed.
 use mathlib.Core.Path.{_≡_, refl, sym, _∙_}
 use Prim.Native.Nat.{_-_, _≤_}
 use native.Mathlib.Omega.{arith}

@@ -1,3 +1,4 @@
+-- The loop keeps: the weights of the first i symbols are stored, and nothing else has changed.
 use mathlib.Core.Path.{_≡_}
 use Prim.Native.Nat.{_-_, _≤_}
 use native.Mathlib.Omega.{arith}

@@ -1,3 +1,4 @@
+-- Each sum is the one after the node and what is stored for its word; both are small.
 use mathlib.Core.Path.{refl}
 use Prim.Native.Nat.{_+_, _*_}
 use native.Mathlib.Omega.{arith}

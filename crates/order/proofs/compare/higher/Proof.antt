@@ -1,3 +1,4 @@
+-- Each branch is a case of the definition: variables are no symbols, and symbols are compared by precedence.
 use borrow.Author.Tests.{lt-ltb, le-ltb}
 use Rattle.order.specs.Compared.{isHigher}
 use borrow.Author.Needs.{needs}

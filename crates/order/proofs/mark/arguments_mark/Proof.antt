@@ -1,3 +1,5 @@
+-- The roots are the same, so the mark is that of the arguments, as flattenings where the root is AC and as rows where
+-- it is not.
 use mathlib.Core.Path.{sym, _∙_}
 use Rattle.symbols.proofs.TableLaws.{few-at}
 use Rattle.equivalence.proofs.AlikeLaws.{ac-small}

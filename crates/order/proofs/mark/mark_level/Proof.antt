@@ -1,3 +1,4 @@
+-- With equal weights and different roots the precedence decides, and terms with different roots are not equivalent.
 use native.Mathlib.Omega.{arith}
 use mathlib.Core.Path.{refl, sym, _∙_}
 use Rattle.terms.specs.Words.{termOf}

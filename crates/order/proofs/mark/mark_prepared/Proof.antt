@@ -1,3 +1,4 @@
+-- Equivalent terms have mark 9.
 use mathlib.Core.Path.{refl, sym, _∙_}
 use Rattle.terms.specs.Words.{termOf}
 use Rattle.symbols.specs.Table.{signatureOf}

@@ -1,3 +1,4 @@
+-- The loop keeps: the first x of the second list stand after the first list.
 use borrow.Author.Needs.{needs}
 use native.Mathlib.Omega.{arith}
 use mathlib.Core.Path.{_≡_}

@@ -1,3 +1,4 @@
+-- What cancelling leaves on the right is no more than was there, so it has room after the high part.
 use native.Mathlib.Omega.{arith}
 use Rattle.symbols.specs.Table.{signatureOf}
 use Rattle.equivalence.proofs.OffsetLaws.{offsets-own}

@@ -1,3 +1,4 @@
+-- The elements are listed and then split.
 use borrow.Author.Needs.{needs}
 use Rattle.order.proofs.parts.parts.Statement.{statement}
 use Rattle.order.proofs.parts.parts.Tie as tie

@@ -1,3 +1,4 @@
+-- The loop keeps: the first k elements are split by their roots.
 use borrow.Author.Needs.{needs}
 use native.Mathlib.Omega.{arith}
 use mathlib.Core.Path.{_≡_}

@@ -1,3 +1,4 @@
+-- Both ways of telling the relation give that of the terms.
 use Rattle.order.proofs.WholeLaws.{left-some, right-some}
 use borrow.Author.Needs.{needs}
 use Rattle.order.proofs.relation.relation.Statement.{statement}

@@ -1,3 +1,4 @@
+-- A mark is at most 6 exactly if the left is greater, and 9 exactly if the terms are equivalent.
 use native.Mathlib.Omega.{arith}
 use Rattle.terms.specs.Words.{termOf}
 use Rattle.symbols.specs.Table.{signatureOf}

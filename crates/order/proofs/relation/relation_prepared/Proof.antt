@@ -1,3 +1,4 @@
+-- Equivalent terms are not greater than each other; of the others the order decides, both ways.
 use mathlib.Core.Path.{refl, sym, _∙_}
 use Rattle.terms.specs.Words.{termOf}
 use Rattle.symbols.specs.Table.{signatureOf}

@@ -1,3 +1,4 @@
+-- The terms are not equivalent, so the order both ways tells the relation.
 use mathlib.Core.Path.{sym, _∙_}
 use Rattle.terms.specs.Words.{termOf}
 use Rattle.symbols.specs.Table.{signatureOf}

@@ -1,3 +1,5 @@
+-- The loop keeps: what is ahead on the left against what is left on the right answers for the whole. Each element takes
+-- its first partner out, as the definition does.
 use Prim.Native.Nat.{ℕ}
 use Rattle.equivalence.proofs.equivalence.cancels.Reads as cancels
 use Rattle.equivalence.proofs.equivalence.+cancels+equivalent+flattenings_equivalent+partner+rows_equivalent.Lts-cancels as cancels-lts

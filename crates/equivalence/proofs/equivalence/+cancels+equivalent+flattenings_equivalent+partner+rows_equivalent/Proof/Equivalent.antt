@@ -1,3 +1,4 @@
+-- Terms with equal keys have one root; its arguments decide, as flattenings where it is AC and as rows where it is not.
 use Prim.Native.Nat.{ℕ}
 use Rattle.equivalence.proofs.equivalence.equivalent.Reads as equivalent
 use Rattle.equivalence.proofs.equivalence.+cancels+equivalent+flattenings_equivalent+partner+rows_equivalent.Lts-equivalent as equivalent-lts

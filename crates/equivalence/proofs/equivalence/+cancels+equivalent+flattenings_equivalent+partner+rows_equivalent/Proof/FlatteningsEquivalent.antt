@@ -1,3 +1,4 @@
+-- The elements of the right flattening are listed, and those of the left one cancel against them.
 use Prim.Native.Nat.{ℕ}
 use Rattle.equivalence.proofs.equivalence.cancels.Reads as cancels
 use Rattle.equivalence.proofs.equivalence.flattenings_equivalent.Reads as flattenings-equivalent

@@ -1,3 +1,5 @@
+-- The loop keeps: no term at the first k offsets is equivalent. Terms with different keys are not, leaves with equal
+-- keys are.
 use Prim.Native.Nat.{ℕ, _<_}
 use Rattle.equivalence.proofs.equivalence.equivalent.Reads as equivalent
 use Rattle.equivalence.proofs.equivalence.partner.Reads as partner

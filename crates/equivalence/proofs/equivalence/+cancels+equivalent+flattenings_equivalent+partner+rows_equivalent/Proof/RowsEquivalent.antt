@@ -1,3 +1,4 @@
+-- The loop keeps: what is ahead of the two rows answers for the whole.
 use Prim.Native.Nat.{ℕ, _<_}
 use Rattle.equivalence.proofs.equivalence.equivalent.Reads as equivalent
 use Rattle.equivalence.proofs.equivalence.rows_equivalent.Reads as rows-equivalent

@@ -1,3 +1,4 @@
+-- What cancelling leaves decides: nothing at all is equal, something on the left that covers the right is above.
 use Prim.Native.Nat.{ℕ}
 use Rattle.order.proofs.compare.compare.Reads as compare
 use Rattle.order.proofs.compare.+compare+covers+exceeds+flattened+greater+rows_greater.Lts-compare as compare-lts

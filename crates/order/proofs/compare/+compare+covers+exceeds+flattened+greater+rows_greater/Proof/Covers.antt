@@ -1,3 +1,5 @@
+-- The outer loop keeps: each of the first k terms on the right has a greater one. The inner loop keeps: none that was
+-- tried is greater than the term at hand.
 use Prim.Native.Nat.{ℕ, _<_}
 use Rattle.order.proofs.compare.covers.Reads as covers
 use Rattle.order.proofs.compare.+compare+covers+exceeds+flattened+greater+rows_greater.Lts-covers as covers-lts

@@ -1,3 +1,4 @@
+-- The weights decide, then the roots, then the arguments, which have fewer nodes.
 use Prim.Native.Nat.{ℕ}
 use Rattle.order.proofs.compare.exceeds.Reads as exceeds
 use Rattle.order.proofs.compare.+compare+covers+exceeds+flattened+greater+rows_greater.Lts-exceeds as exceeds-lts

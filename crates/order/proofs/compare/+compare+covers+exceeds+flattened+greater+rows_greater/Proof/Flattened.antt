@@ -1,3 +1,4 @@
+-- The parts listed are those of the definition; their outcomes decide, and their nodes are fewer than the term's.
 use Prim.Native.Nat.{ℕ}
 use Rattle.order.proofs.compare.compare.Reads as compare
 use Rattle.order.proofs.compare.flattened.Reads as flattened

@@ -1,3 +1,4 @@
+-- A variable that occurs oftener on the right rules it out; otherwise weights, roots and arguments decide.
 use Prim.Native.Nat.{ℕ}
 use Rattle.order.proofs.compare.exceeds.Reads as exceeds
 use Rattle.order.proofs.compare.greater.Reads as greater

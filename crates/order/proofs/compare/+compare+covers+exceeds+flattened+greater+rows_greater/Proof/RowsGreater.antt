@@ -1,3 +1,4 @@
+-- The loop keeps: what is ahead of the two rows answers for the whole, and has no more nodes.
 use Prim.Native.Nat.{ℕ}
 use Rattle.order.proofs.compare.greater.Reads as greater
 use Rattle.order.proofs.compare.rows_greater.Reads as rows-greater

@@ -27,43 +27,35 @@ use Rattle.operations.specs.Replies.{Reply, Written, _>>=_, _>>_, fromInput, de
 use Rattle.operations.specs.Replies.Reply.{accepted, refused}
 use Rattle.format.specs.Statements.IsRead.{fromBytes}
 use Rattle.operations.specs.Coding.{write, decoded, encoded}
+use Rattle.ackbo.specs.Numbers.{Small, numberOf, countOf}
 use Rattle.format.proofs.Theorems.{readable-well-formed, faults-within}
 use Rattle.operations.specs.Comparing.{comparison, comparedRight, comparedTerms, compared}
 use Rattle.operations.specs.Marking.{summaryOf, marksOf, isDecreasing, decreasingCount, marked}
 use Rattle.marking.proofs.MarkLaws.{fault-small}
 
--- A number of a signed 64-bit value.
-abbrev pub Small : ℕ → Type 0
-Small n = n < 9223372036854775808
-
--- That number of an answer, or the error's offset.
-abbrev pub measure : {A : Type 0} → (A → ℕ) → Reply A → ℕ
-measure m (accepted a) = m a
-measure m (refused e) = e .offset
-
 abbrev nought : {A : Type 0} → A → ℕ
 nought a = 0
 
 module _ {A : Type 0} (m : A → ℕ) where
-  pub value-small : (r : Reply A) → Small (measure m r) → (a : A) → accepted a ≡ r → Small (m a)
+  pub value-small : (r : Reply A) → Small (numberOf m r) → (a : A) → accepted a ≡ r → Small (m a)
   value-small r h a e = rw (sym e) at h
 
-  pub offset-small : (r : Reply A) → Small (measure m r) → (e : Error) → refused e ≡ r → Small (e .offset)
+  pub offset-small : (r : Reply A) → Small (numberOf m r) → (e : Error) → refused e ≡ r → Small (e .offset)
   offset-small r h e d = rw (sym d) at h
 
   read-small : {B : Type 0} (input : ℕ) (r : Reading B) (k : B → Reply A) →
       ((code offset : ℕ) → r ≡ fault code offset → Small offset) →
-      ((b : B) (end : ℕ) → r ≡ got b end → Small (measure m (k b))) → Small (measure m (_>>=_ (fromInput input r) k))
+      ((b : B) (end : ℕ) → r ≡ got b end → Small (numberOf m (k b))) → Small (numberOf m (_>>=_ (fromInput input r) k))
   read-small input (got b end) k h g = g b end refl
   read-small input (fault code offset) k h g = h code offset refl
 
-  demand-small : (ok : Bool) (code input : ℕ) (r : Reply A) → (ok ≡ true → Small (measure m r)) →
-      Small (measure m (_>>_ (demand ok code input) r))
+  demand-small : (ok : Bool) (code input : ℕ) (r : Reply A) → (ok ≡ true → Small (numberOf m r)) →
+      Small (numberOf m (_>>_ (demand ok code input) r))
   demand-small true code input r h = h refl
   demand-small false code input r h = omega arith
 
-  outcome-small : (r : Reply (Written A)) (output : List ℕ) → Small (measure (λ w. m (w .value)) r) →
-      Small (measure m (outcome r output .reply))
+  outcome-small : (r : Reply (Written A)) (output : List ℕ) → Small (numberOf (λ w. m (w .value)) r) →
+      Small (numberOf m (outcome r output .reply))
   outcome-small (accepted w) output h = h
   outcome-small (refused e) output h = h
 
@@ -71,7 +63,7 @@ abbrev count : Written ℕ → ℕ
 count w = w .value
 
 write-small : (code : ℕ) (front output : List ℕ) → Small (length output) →
-    Small (measure count (write code front output))
+    Small (numberOf count (write code front output))
 write-small code front output h =
     demand-small count (leb (length front) (length output)) code 1
     (accepted (record { value = length front; front = front }))
@@ -81,22 +73,22 @@ book-small : (bytes : List ℕ) (code offset : ℕ) → readBytes bytes ≡ faul
 book-small bytes code offset e = omega (arith, fault-small bytes code offset e)
 
 pub decoded-small : (bytes words : List ℕ) → Small (length words) → Small
-    (measure (λ n. n) (decoded bytes words .reply))
+    (numberOf countOf (decoded bytes words .reply))
 unfolding decoded
 decoded-small bytes words h =
     let k : RuleFile → Reply (Written ℕ) = λ file. write wordsTooShort (unpacked file) words in
-    outcome-small (λ n. n) (_>>=_ (fromInput 0 (readBytes bytes)) k) words
+    outcome-small countOf (_>>=_ (fromInput 0 (readBytes bytes)) k) words
     (read-small count 0 (readBytes bytes) k (book-small bytes)
     λ file end e. write-small wordsTooShort (unpacked file) words h)
 
 pub encoded-small : (words bytes : List ℕ) → Small (length words) → Small (length bytes) →
-    Small (measure (λ n. n) (encoded words bytes .reply))
+    Small (numberOf countOf (encoded words bytes .reply))
 unfolding encoded
 encoded-small words bytes h g =
     let last : RuleFile → Reply (Written ℕ) = λ file. write bytesTooShort (packed file) bytes in
     let k : RuleFile → Reply (Written ℕ) =
     λ file. _>>_ (demand (leb (length (packed file)) maxBytes) fileTooLong 0) (last file) in
-    outcome-small (λ n. n) (_>>=_ (fromInput 0 (readWords words)) k) bytes
+    outcome-small countOf (_>>=_ (fromInput 0 (readWords words)) k) bytes
     (read-small count 0 (readWords words) k (λ code offset e. omega (arith, faults-within words code offset .1 e))
     λ file end e. demand-small count (leb (length (packed file)) maxBytes) fileTooLong 0 (last file)
     λ t. write-small bytesTooShort (packed file) bytes g)
@@ -106,7 +98,7 @@ term-small : (σ : Signature) (words : List ℕ) → Small (length words) → (c
 term-small σ words h code offset e = omega (arith, faults-within words code offset .2 σ e)
 
 pub compared-small : (bytes left right : List ℕ) → Small (length left) → Small (length right) →
-    Small (measure nought (compared bytes left right))
+    Small (numberOf nought (compared bytes left right))
 unfolding compared comparedTerms comparedRight
 compared-small bytes left right h g =
     read-small nought 0 (readBytes bytes) (λ file. comparedTerms (file .signature) left right) (book-small bytes)
@@ -118,7 +110,7 @@ compared-small bytes left right h g =
 -- A number of the summary is small if it is for every file of at most 1,023 rules.
 pub marked-small : (bytes marks : List ℕ) (m : Summary → ℕ) →
     ((file : RuleFile) → length (file .rules) < 1024 → Small (m (summaryOf (marksOf (systemOf file))))) →
-    Small (measure m (marked bytes marks .reply))
+    Small (numberOf m (marked bytes marks .reply))
 unfolding marked
 marked-small bytes marks m h =
     let value : Written Summary → ℕ = λ w. m (w .value) in

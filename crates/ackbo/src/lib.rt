@@ -6,6 +6,8 @@ ghost use lib.IntN.{pos};
 ghost use lib.Seq.{sets};
 ghost use Rattle.operations.specs.Coding.{decoded, encoded};
 ghost use Rattle.operations.specs.Comparing.{compared};
+ghost use Rattle.operations.specs.Enums.{countReply};
+ghost use Rattle.ackbo.specs.Numbers.{Small, numberOf, countOf};
 ghost use Rattle.operations.specs.Marking.{marked};
 ghost use Rattle.operations.specs.Boundary.{codeOf, valuesOf};
 ghost use Rattle.operations.specs.Boundary.{countValues, relationValue, comparisonValues, summaryValues};
@@ -51,6 +53,20 @@ fn put_error(reply: &mut [i64; 3], code: u8, input: u8, offset: usize) -> u8
     put_reply(reply, code, input as i64, signed(offset), 0)
 }
 
+// Stores the count of an answer, or the error.
+fn put_count(reply: &mut [i64; 3], answer: CountReply) -> u8
+    requires { ⌜ Small (numberOf countOf (countReply answer)) ⌝ }
+    ensures { λ r. ⌜ r ≡ codeOf (countReply answer) ⌝ }
+    ensures { λ _. ⌜
+        now (reply .exit) ≡ sets (now (reply .entry)) 0 (valuesOf countValues (countReply answer))
+        ⌝ }
+{
+    match answer {
+        CountReply::Accepted(count) => put_counts(reply, count, 0, 0),
+        CountReply::Refused(error) => put_error(reply, error.code, error.input, error.offset),
+    }
+}
+
 fn relation_value(relation: Relation) -> i64
     ensures { λ r. ⌜ r ≡ relationValue relation ⌝ }
 {
@@ -71,10 +87,7 @@ pub extern "C" fn ackbo_decode(book: &[u8], words: &mut [u16], reply: &mut [i64;
         ⌝ }
     ensures { λ _. ⌜ now (words .exit) ≡ decoded (now (book .entry)) (now (words .entry)) .output ⌝ }
 {
-    match decoder::decode(book, words) {
-        CountReply::Accepted(count) => put_counts(reply, count, 0, 0),
-        CountReply::Refused(error) => put_error(reply, error.code, error.input, error.offset),
-    }
+    put_count(reply, decoder::decode(book, words))
 }
 
 #[no_mangle]
@@ -86,10 +99,7 @@ pub extern "C" fn ackbo_encode(words: &[u16], book: &mut [u8], reply: &mut [i64;
         ⌝ }
     ensures { λ _. ⌜ now (book .exit) ≡ encoded (now (words .entry)) (now (book .entry)) .output ⌝ }
 {
-    match encoder::encode::encode(words, book) {
-        CountReply::Accepted(count) => put_counts(reply, count, 0, 0),
-        CountReply::Refused(error) => put_error(reply, error.code, error.input, error.offset),
-    }
+    put_count(reply, encoder::encode::encode(words, book))
 }
 
 #[no_mangle]

@@ -70,11 +70,11 @@ module _ (source : Source) (σ : Signature) (count start : ℕ) (marks₀ : List
     listed-fault h code offset marks' margins' e =
         done-fault source σ count start i at (so .0) (so .1) h code offset e
 
-    pub listed-more : i < count → (n : ℕ) (m : MarkedRule) (margins' : List ℤ) →
+    pub listed-more : i < count → (n : ℕ) (m : MarkedRule) (marks' : List ℕ) (margins' : List ℤ) →
         MarksRead σ sidesThemselves (ruleReader source σ at) (rule.Got m) → n ≡ decreasingCount (m .mark ∷ []) →
-        margins' ≡ set margins i (m .margin) →
-        ListedSoFar (i + 1) (m .next .at) (decreasing + n) (set marks i (m .mark)) margins'
-    listed-more h n m margins' (r, e, x) one put =
+        marks' ≡ set marks i (m .mark) → margins' ≡ set margins i (m .margin) →
+        ListedSoFar (i + 1) (m .next .at) (decreasing + n) marks' margins'
+    listed-more h n m marks' margins' (r, e, x) one mark put =
         let (done, d, l, so') = so in
         let added : map (sidesMark σ) (done ++ (r ∷ [])) ≡ map (sidesMark σ) done ++ (m .mark ∷ []) =
         map-append (sidesMark σ) done (r ∷ []) ∙ rw (x .mark) in (
@@ -83,7 +83,7 @@ module _ (source : Source) (σ : Signature) (count start : ℕ) (marks₀ : List
           omega (arith, length-append done (r ∷ [])),
           record {
             falling = rw (added, decreasing-append (map (sidesMark σ) done) (m .mark ∷ []), ← so' .falling, ← one);
-            marks = stored-more (sidesMark σ) marks₀ marks i (m .mark) done r l (so' .marks) (x .mark);
+            marks = mark ∙ stored-more (sidesMark σ) marks₀ marks i (m .mark) done r l (so' .marks) (x .mark);
             margins = put ∙ stored-more (sidesMargin σ) margins₀ margins i (m .margin) done r l (so' .margins) (x .margin);
           },
         )

@@ -50,6 +50,14 @@ fn decreases(mark: u8) -> usize
     1
 }
 
+// Stores the mark of a rule.
+fn put_mark(marks: &mut [u8], index: usize, mark: u8)
+    requires { ⌜ index < length (now marks) ⌝ }
+    ensures { λ _. ⌜ now (marks .exit) ≡ set (now (marks .entry)) index mark ⌝ }
+{
+    marks[index] = mark;
+}
+
 // Stores a margin, where there is room for it.
 fn put_margin(margins: &mut [i64], index: usize, margin: i64)
     ensures { λ _. ⌜ now (margins .exit) ≡ set (now (margins .entry)) index margin ⌝ }
@@ -90,7 +98,7 @@ fn mark_rules(
         match mark_rule(book, table, arities, adds, here) {
             RuleReading::Fault { code, offset } => return RulesMarked::Fault { code, offset },
             RuleReading::Got(rule) => {
-                marks[i] = rule.mark;
+                put_mark(marks, i, rule.mark);
                 put_margin(margins, i, rule.margin);
                 decreasing += decreases(rule.mark);
                 here = rule.next;

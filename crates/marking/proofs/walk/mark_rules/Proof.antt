@@ -54,17 +54,17 @@ returns c =
 
 loop-again : tie.Need-loop-again Inv-loop μ-loop
 loop-again c =
-    let a = c .before .before .before .before .before .before .before .before .before .before .before .before .before .before .before .args in
-    let l = c .before .before .before .before .before .before .before .before .before .before .before .loop in
-    let within = rw (c .before .before .before .before .before .before .before .rule .given .1) at (c .before .before .before .before .before .before .before .before .before .mark-rule .ensures .1) in (
+    let a = c .before .before .before .before .before .before .before .before .before .before .before .before .before .before .before .before .before .before .before .args in
+    let l = c .before .before .before .before .before .before .before .before .before .before .before .before .before .before .before .loop in
+    let within = rw (c .before .before .before .before .before .before .before .before .before .before .before .rule .given .1) at (c .before .before .before .before .before .before .before .before .before .before .before .before .before .mark-rule .ensures .1) in (
       omega arith,
       omega (arith, c .before .decreases .ensures .1),
-      simp length-set (l .inv .2),
+      ap length (c .before .before .before .before .before .before .before .before .put-mark .ensures) ∙ simp length-set (l .inv .2),
       ap length (c .before .before .before .put-margin .ensures) ∙ simp length-set (l .inv .3),
       within,
       listed-more (bitSource (a .book .now)) (signatureOf (a .table .now)) (a .count) (a .cursor .at) (a .marks .now) (a .margins .now)
-          (l .i) (l .here .at) (l .decreasing) (l .marks) (l .margins) (l .inv .5) (c .before .before .before .before .before .before .before .before .before .before .loop-test .taken) _ (c .before .before .before .before .before .before .before .rule .given .0 .0) _
-          (rw (c .before .before .before .before .before .before .before .rule .given .1) at (c .before .before .before .before .before .before .before .before .before .mark-rule .ensures .0)) (c .before .decreases .ensures .0)
+          (l .i) (l .here .at) (l .decreasing) (l .marks) (l .margins) (l .inv .5) (c .before .before .before .before .before .before .before .before .before .before .before .before .before .before .loop-test .taken) _ (c .before .before .before .before .before .before .before .before .before .before .before .rule .given .0 .0) _ _
+          (rw (c .before .before .before .before .before .before .before .before .before .before .before .rule .given .1) at (c .before .before .before .before .before .before .before .before .before .before .before .before .before .mark-rule .ensures .0)) (c .before .decreases .ensures .0) (c .before .before .before .before .before .before .before .before .put-mark .ensures)
           (c .before .before .before .put-margin .ensures ∙ ap (set (l .margins) (l .i)) (toZ-ofZ w64 _ (record { sfits = c .before .before .before .before .struct-told .given .1 .0 .1 }))),
     )
 
@@ -86,5 +86,5 @@ returns-2 c =
 pub mark-rules-spec : {M : Type 1} → statement M
 mark-rules-spec =
     tie.close (tie.spec Inv-loop μ-loop loop-holds mark-rule-requires (λ c. search needs) same-length same-length-2
-    returns (λ c. search needs) (λ c. search needs) (λ c κs. search needs) (λ c κs. search needs) (λ c. search needs)
-    (λ c. search needs) (λ c. search needs) loop-again same-length-3 same-length-4 returns-2)
+    returns (λ c. search needs) (λ c κs. search needs) (λ c κs. search needs) (λ c κs. search needs)
+    (λ c. search needs) (λ c. search needs) (λ c. search needs) loop-again same-length-3 same-length-4 returns-2)

@@ -1,0 +1,26 @@
+-- An answer and an error cross as their own functions put them.
+use mathlib.Core.Path.{sym, ap, refl}
+use native.Mathlib.Omega.{arith}
+use Rattle.operations.specs.Boundary.{countValues}
+use Rattle.operations.specs.Enums.{countReply}
+use Rattle.ackbo.proofs.ReplyLaws.{accepts, refuses}
+use borrow.Author.Needs.{needs}
+use Rattle.ackbo.proofs.put_count.Statement.{statement}
+use Rattle.ackbo.proofs.put_count.Tie as tie
+
+put-counts-requires : tie.Need-put-counts-requires
+put-counts-requires c κs = (rw (c .before .before .answer .given .1) at (c .before .before .before .before .pre), omega arith, omega arith)
+
+put-error-requires : tie.Need-put-error-requires
+put-error-requires c κs = rw (c .before .before .answer2 .given .1) at (c .before .before .before .before .pre)
+
+returns : tie.Need-returns
+returns c = accepts countValues _ _ (c .before .before .before .before .before .args .reply .now) _ _ (ap countReply (sym (c .before .before .before .answer .given .1))) (c .put-counts .ensures .0) (c .put-counts .ensures .1)
+
+returns-2 : tie.Need-returns-2
+returns-2 c = refuses countValues _ _ (c .before .before .before .before .before .args .reply .now) _ _ _ _ (ap countReply (sym (c .before .before .before .answer2 .given .1))) (c .put-error .ensures .0) (c .put-error .ensures .1)
+
+pub put-count-spec : {M : Type 1} → statement M
+put-count-spec =
+    tie.close (tie.spec (λ c. search needs) put-counts-requires (λ c. search needs) put-error-requires returns
+    returns-2)

@@ -1,0 +1,16 @@
+-- The numbers of a reply that cross the boundary as signed ones.
+use Prim.Native.Nat.{ℕ, _<_}
+use Rattle.operations.specs.Replies.{Reply}
+use Rattle.operations.specs.Replies.Reply.{accepted, refused}
+
+-- A number of a signed 64-bit value.
+abbrev pub Small : ℕ → Type 0
+Small n = n < 9223372036854775808
+
+-- That number of an answer, or the error's offset.
+abbrev pub numberOf : {A : Type 0} → (A → ℕ) → Reply A → ℕ
+numberOf m (accepted a) = m a
+numberOf m (refused e) = e .offset
+
+abbrev pub countOf : ℕ → ℕ
+countOf n = n

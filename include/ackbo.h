@@ -1,13 +1,13 @@
 /* The four operations of libackbo.a, for C. Each is proved, for every input, to reply and to leave the lent memory as
-   its definition says (crates/ackbo/specs/Boundary.antt, over crates/format/specs/Operations.antt,
-   crates/comparing/specs/Comparing.antt and crates/marking/specs/Marking.antt); the caller owes valid pointers and
-   lengths, and nothing else. A pointer is not NULL, even where its length is 0.
+   its definition says (crates/operations/specs: Boundary, over Coding, Comparing and Marking).
 
-   The result is 0, or the number of the refusal, 1 to 16. reply has room for three numbers: of a refusal the input at
-   fault (0 the first), the place (a bit of a book, a word of a sheet or a term, from 0), and 0. A refused call changes
-   no buffer. What is written to overlaps nothing else that is lent.
-   ackbo_decode keeps 105 KB on the stack where a book has more than 2,048 bytes; ackbo_compare and ackbo_mark were
-   measured to take up to 72 KB, where AC symbols nest 63 deep. */
+   The caller owes this, and nothing else: each pointer is valid for its length, aligned, and not NULL even where the
+   length is 0; reply has room for three numbers; what is written to overlaps nothing else that is lent.
+
+   The result is 0, or the number of the refusal, 1 to 16. Of a refusal reply holds the input at fault (0 the first), the
+   place (a bit of a book, a word of a sheet or a term, from 0), and 0. A refused call changes no other buffer.
+
+   Stack: ackbo_decode STACK; ackbo_compare and ackbo_mark up to STACK2, where AC symbols nest 63 deep. */
 #ifndef ACKBO_H
 #define ACKBO_H
 

@@ -84,7 +84,8 @@ module _ (source : Source) (σ : Signature) (count start : ℕ) (marks₀ : List
           record {
             falling = rw (added, decreasing-append (map (sidesMark σ) done) (m .mark ∷ []), ← so' .falling, ← one);
             marks = mark ∙ stored-more (sidesMark σ) marks₀ marks i (m .mark) done r l (so' .marks) (x .mark);
-            margins = put ∙ stored-more (sidesMargin σ) margins₀ margins i (m .margin) done r l (so' .margins) (x .margin);
+            margins = put
+                ∙ stored-more (sidesMargin σ) margins₀ margins i (m .margin) done r l (so' .margins) (x .margin);
           },
         )
 
@@ -96,8 +97,10 @@ module _ (source : Source) (σ : Signature) (count start : ℕ) (marks₀ : List
 -- ---- the file
 
 -- What was stored first stands first.
-pub stored-front : {A : Type 0} (l l₀ l' : List A) (n : ℕ) → length l ≡ n → n ≤ length l₀ → l' ≡ sets l₀ 0 l → take n l' ≡ l
-stored-front l l₀ l' n e room d = rw (d, ← e, sets-eq l l₀ 0 (omega arith)) (take-append-seam l (drop (0 + length l) l₀))
+pub stored-front : {A : Type 0} (l l₀ l' : List A) (n : ℕ) → length l ≡ n → n ≤ length l₀ → l' ≡ sets l₀ 0 l →
+    take n l' ≡ l
+stored-front l l₀ l' n e room d =
+    rw (d, ← e, sets-eq l l₀ 0 (omega arith)) (take-append-seam l (drop (0 + length l) l₀))
 
 sides-map : {A B C : Type 0} (g : B → C) (f : A → B) (l : List A) → map g (map f l) ≡ map (λ (a : A). g (f a)) l
 sides-map g f [] = refl

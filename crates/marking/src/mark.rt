@@ -34,8 +34,8 @@ pub fn score(decreasing: usize, rules: usize) -> usize
     100 * decreasing / rules
 }
 
-// Marks the rules of a packed file, a byte for each at the front of the marks. They are kept elsewhere until no fault is
-// left to find.
+// Marks the rules of a packed file, a byte for each at the front of the marks. They are kept elsewhere until no fault
+// is left to find.
 pub fn mark(book: &[u8], marks: &mut [u8]) -> MarkReply
     ensures { λ r. ⌜ markReply r ≡ marked (now (book .entry)) (now (marks .entry)) .reply ⌝ }
     ensures { λ _. ⌜ now (marks .exit) ≡ marked (now (book .entry)) (now (marks .entry)) .output ⌝ }

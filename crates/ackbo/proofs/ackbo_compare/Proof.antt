@@ -1,3 +1,4 @@
+-- What crosses is what comparing replies, whose numbers are small.
 use mir.Syntax.{w64}
 use mir.ValLaws.{toZ-ofZ}
 use native.Mathlib.Omega.{arith}
@@ -11,19 +12,24 @@ use Rattle.ackbo.proofs.ackbo_compare.Tie as tie
 
 put-error-requires : tie.Need-put-error-requires
 put-error-requires c κs =
-    let a = c .before .before .before .before .before .before .before .before .args in
-    let (left, right) = c .before .before .before .before .before .before .before .before .good .1 in
+    let c4 = c .before .before .before .before in
+    let c8 = c4 .before .before .before .before in
+    let a = c8 .args in
+    let (left, right) = c8 .good .1 in
     let small = compared-small (a .book .now) (a .left .now) (a .right .now)
     (omega (arith, left .1)) (omega (arith, right .0 .1)) in
     offset-small (λ s. 0) _ small _ (rw (c .before .before .error .given .1) at
-    (c .before .before .before .before .compare .ensures))
+    (c4 .compare .ensures))
 
 returns : tie.Need-returns
 returns c =
+    let c5 = c .before .before .before .before .before in
+    let c7 = c5 .before .before in
+    let c11 = c7 .before .before .before .before in
     let entry =
-    c .before .before .before .before .before .before .before .before .before .before .before .args .reply .now in
-    let gave = c .before .before .before .before .before .before .before .compare .ensures in
-    let known = c .before .before .before .before .before .comparison .given in
+    c11 .args .reply .now in
+    let gave = c7 .compare .ensures in
+    let known = c5 .comparison .given in
     let relation = c .before .before .relation-value in
     let margin = toZ-ofZ w64 (known .0 .0 .margin) (record { sfits = c .before .struct-told .given .1 .0 .1 }) in
     accepts comparisonValues _ _ entry _ _ (rw (known .1) at gave) (c .put-reply .ensures .0)
@@ -32,10 +38,13 @@ returns c =
 
 returns-2 : tie.Need-returns-2
 returns-2 c =
-    let entry = c .before .before .before .before .before .before .before .before .before .args .reply .now in
-    let reply = c .before .before .before .before .before .compare .ensures in
+    let c3 = c .before .before .before in
+    let c5 = c3 .before .before in
+    let c9 = c5 .before .before .before .before in
+    let entry = c9 .args .reply .now in
+    let reply = c5 .compare .ensures in
     refuses comparisonValues _ _ entry _ _ _ _
-    (rw (c .before .before .before .error .given .1) at reply) (c .put-error .ensures .0) (c .put-error .ensures .1)
+    (rw (c3 .error .given .1) at reply) (c .put-error .ensures .0) (c .put-error .ensures .1)
 
 pub ackbo-compare-spec : {M : Type 1} → statement M
 ackbo-compare-spec =

@@ -10,13 +10,22 @@ use Rattle.ackbo.proofs.ackbo_decode.Tie as tie
 
 put-count-requires : tie.Need-put-count-requires
 put-count-requires c κs =
-    rw (c .before .before .decode .ensures .0) (decoded-small (c .before .before .before .before .before .before .before .args .book .now) (c .before .before .before .before .before .before .before .args .words .now) (omega (arith, c .before .before .before .before .before .before .before .good .1 .0 .1)))
+    let c7 = c .before .before .before .before .before .before .before in
+    rw (c .before .before .decode .ensures .0) (decoded-small (c7 .args .book .now) (c7 .args .words .now) (omega
+    (arith, c7 .good .1 .0 .1)))
 
 returns : tie.Need-returns
 returns c =
-    let gave = c .before .before .before .decode .ensures in
-    let (code, values) = c .put-count .ensures in
-    (code ∙ ap codeOf (gave .0), (values ∙ ap (λ r. sets (c .before .before .before .before .before .before .before .before .args .reply .now) 0 (valuesOf countValues r)) (gave .0), gave .1))
+    let c3 = c .before .before .before in
+    let c8 = c3 .before .before .before .before .before in
+    let gave = c3 .decode .ensures in
+    let (code, values) = c .put-count .ensures in (
+      code ∙ ap codeOf (gave .0),
+      (
+        values ∙ ap (λ r. sets (c8 .args .reply .now) 0 (valuesOf countValues r)) (gave .0),
+        gave .1,
+      ),
+    )
 
 pub ackbo-decode-spec : {M : Type 1} → statement M
 ackbo-decode-spec =

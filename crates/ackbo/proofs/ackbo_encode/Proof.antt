@@ -10,14 +10,23 @@ use Rattle.ackbo.proofs.ackbo_encode.Tie as tie
 
 put-count-requires : tie.Need-put-count-requires
 put-count-requires c κs =
-    rw (c .before .before .encode .ensures .0) (encoded-small (c .before .before .before .before .before .before .before .args .words .now) (c .before .before .before .before .before .before .before .args .book .now) (omega (arith, c .before .before .before .before .before .before .before .good .0 .1))
-    (omega (arith, c .before .before .before .before .before .before .before .good .1 .0 .1)))
+    let c7 = c .before .before .before .before .before .before .before in
+    rw (c .before .before .encode .ensures .0) (encoded-small (c7 .args .words .now) (c7 .args .book .now) (omega
+    (arith, c7 .good .0 .1))
+    (omega (arith, c7 .good .1 .0 .1)))
 
 returns : tie.Need-returns
 returns c =
-    let gave = c .before .before .before .encode .ensures in
-    let (code, values) = c .put-count .ensures in
-    (code ∙ ap codeOf (gave .0), (values ∙ ap (λ r. sets (c .before .before .before .before .before .before .before .before .args .reply .now) 0 (valuesOf countValues r)) (gave .0), gave .1))
+    let c3 = c .before .before .before in
+    let c8 = c3 .before .before .before .before .before in
+    let gave = c3 .encode .ensures in
+    let (code, values) = c .put-count .ensures in (
+      code ∙ ap codeOf (gave .0),
+      (
+        values ∙ ap (λ r. sets (c8 .args .reply .now) 0 (valuesOf countValues r)) (gave .0),
+        gave .1,
+      ),
+    )
 
 pub ackbo-encode-spec : {M : Type 1} → statement M
 ackbo-encode-spec =

@@ -9,16 +9,28 @@ use Rattle.ackbo.proofs.put_count.Statement.{statement}
 use Rattle.ackbo.proofs.put_count.Tie as tie
 
 put-counts-requires : tie.Need-put-counts-requires
-put-counts-requires c κs = (rw (c .before .before .answer .given .1) at (c .before .before .before .before .pre), omega arith, omega arith)
+put-counts-requires c κs =
+    let c4 = c .before .before .before .before in
+    (rw (c .before .before .answer .given .1) at (c4 .pre), omega arith, omega arith)
 
 put-error-requires : tie.Need-put-error-requires
-put-error-requires c κs = rw (c .before .before .answer2 .given .1) at (c .before .before .before .before .pre)
+put-error-requires c κs =
+    let c4 = c .before .before .before .before in
+    rw (c .before .before .answer2 .given .1) at (c4 .pre)
 
 returns : tie.Need-returns
-returns c = accepts countValues _ _ (c .before .before .before .before .before .args .reply .now) _ _ (ap countReply (sym (c .before .before .before .answer .given .1))) (c .put-counts .ensures .0) (c .put-counts .ensures .1)
+returns c =
+    let c3 = c .before .before .before in
+    let c5 = c3 .before .before in
+    accepts countValues _ _ (c5 .args .reply .now) _ _ (ap countReply (sym (c3 .answer .given .1))) (c .put-counts
+    .ensures .0) (c .put-counts .ensures .1)
 
 returns-2 : tie.Need-returns-2
-returns-2 c = refuses countValues _ _ (c .before .before .before .before .before .args .reply .now) _ _ _ _ (ap countReply (sym (c .before .before .before .answer2 .given .1))) (c .put-error .ensures .0) (c .put-error .ensures .1)
+returns-2 c =
+    let c3 = c .before .before .before in
+    let c5 = c3 .before .before in
+    refuses countValues _ _ (c5 .args .reply .now) _ _ _ _ (ap countReply (sym (c3 .answer2 .given .1))) (c .put-error
+    .ensures .0) (c .put-error .ensures .1)
 
 pub put-count-spec : {M : Type 1} → statement M
 put-count-spec =

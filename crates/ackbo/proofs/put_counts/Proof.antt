@@ -1,3 +1,4 @@
+-- Each count is itself as a signed number.
 use mir.Syntax.{w64}
 use mathlib.Core.Path.{_∙_}
 use mir.ValLaws.{toZ-ofZ}
@@ -7,7 +8,8 @@ use Rattle.ackbo.proofs.put_counts.Tie as tie
 
 returns : tie.Need-returns
 returns c =
-    let first = c .before .before .before .signed in
+    let c3 = c .before .before .before in
+    let first = c3 .signed in
     let second = c .before .before .signed2 in
     let third = c .before .signed3 in
     let first-read = toZ-ofZ w64 (first .result) (record { sfits = first .ok }) in

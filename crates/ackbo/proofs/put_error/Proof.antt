@@ -1,3 +1,4 @@
+-- The error's numbers are not negative, so they are themselves as signed ones.
 use native.Mathlib.Omega.{arith}
 use mir.Syntax.{w64}
 use mathlib.Core.Path.{_∙_}
@@ -8,9 +9,10 @@ use Rattle.ackbo.proofs.put_error.Tie as tie
 
 returns : tie.Need-returns
 returns c =
+    let c3 = c .before .before .before in
     let offset = c .before .signed in
-    let input = toZ-pos w64 (c .before .before .before .args .input)
-    (omega (arith, c .before .before .before .fits .input)) in (
+    let input = toZ-pos w64 (c3 .args .input)
+    (omega (arith, c3 .fits .input)) in (
       c .put-reply .ensures .0,
       c .put-reply .ensures .1 ∙
           rw (toZ-ofZ w64 (offset .result) (record { sfits = offset .ok }), offset .ensures, input),

@@ -1,3 +1,4 @@
+-- Each relation has its number.
 use borrow.Author.Needs.{needs}
 use Rattle.ackbo.proofs.relation_value.Statement.{statement}
 use Rattle.ackbo.proofs.relation_value.Tie as tie

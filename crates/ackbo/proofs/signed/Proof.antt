@@ -1,3 +1,4 @@
+-- A number below 2 to the 63 is itself as a signed one.
 use mir.Syntax.{w64}
 use mir.ValLaws.{toZ-pos}
 use borrow.Author.Needs.{needs}

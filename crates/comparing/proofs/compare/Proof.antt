@@ -1,3 +1,4 @@
+-- The file is refused for its own fault, or its signature is that of the table's front.
 use mathlib.Core.Path.{sym, _∙_}
 use native.Mathlib.Omega.{arith}
 use lib.Seq.{length-take-le}

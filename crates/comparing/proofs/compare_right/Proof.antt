@@ -1,3 +1,4 @@
+-- The right term is refused for its own fault, or it is all of its words and compared.
 use Rattle.symbols.specs.Table.{signatureOf}
 use Rattle.comparing.proofs.CompareLaws.{read-whole, right-fault, right-read}
 use borrow.Author.Needs.{needs}

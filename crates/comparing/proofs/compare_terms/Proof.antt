@@ -1,3 +1,4 @@
+-- The left term is refused for its own fault, or it is all of its words and the right one follows.
 use Rattle.symbols.specs.Table.{signatureOf}
 use Rattle.comparing.proofs.CompareLaws.{read-whole, left-fault, left-read}
 use borrow.Author.Needs.{needs}

@@ -9,13 +9,21 @@ use Rattle.marker.proofs.main.Tie as tie
 
 array-share-prefix-text : tie.Need-array-share-prefix-text
 array-share-prefix-text c =
+    let c3 = c .before .before .before in
     let n = simp length-sets at (ap length (c .report .ensures .1)) in
-    omega (arith, n, c .report .ensures .0 .1, c .before .before .before .large-buffer .ensures)
+    omega (arith, n, c .report .ensures .0 .1, c3 .large-buffer .ensures)
 
 slice-aggregate-write-all : tie.Need-slice-aggregate-write-all
 slice-aggregate-write-all c =
+    let c4 = c .before .before .before .before in
     let n = simp length-sets at (ap length (c .before .report .ensures .1)) in
-    sym (length-take-le _ (c .before .report .last .1 .0) (omega (arith, n, c .before .report .ensures .0 .1, c .before .before .before .before .large-buffer .ensures)))
+    sym (length-take-le _ (c .before .report .last .1 .0) (omega (
+      arith,
+      n,
+      c .before .report .ensures .0 .1,
+      c4
+          .large-buffer .ensures,
+    )))
 
 pub main-spec : {M : Type 1} → statement M
 main-spec =

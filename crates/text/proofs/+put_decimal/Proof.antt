@@ -1,3 +1,4 @@
+-- A number below 10 is one digit; of another the digits before the last are put first.
 use native.Mathlib.Omega.{arith}
 use Rattle.text.proofs.TextLaws.{length-decimal, put-small, put-large}
 use borrow.Author.Needs.{needs}

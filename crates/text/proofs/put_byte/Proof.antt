@@ -1,3 +1,4 @@
+-- A byte past the end leaves the list as it is.
 use mathlib.Core.Path.{refl, sym}
 use lib.Seq.{set-out}
 use borrow.Author.Needs.{needs}

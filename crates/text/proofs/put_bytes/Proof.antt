@@ -1,3 +1,4 @@
+-- The loop keeps: the first `i` bytes are put.
 use native.Mathlib.Omega.{arith}
 use Rattle.text.proofs.TextLaws.{put-next, put-whole, put-length}
 use mathlib.Core.Path.{_≡_, refl}

@@ -1,3 +1,4 @@
+-- The digits are put, and the byte after them; a number below 10 to the 9 has at most nine digits.
 use mathlib.Core.List.{[], _∷_}
 use native.Mathlib.Omega.{arith}
 use Rattle.operations.specs.Text.{decimal}

@@ -12,19 +12,29 @@ use Rattle.text.proofs.put_signed.Tie as tie
 
 returns : tie.Need-returns
 returns c =
-    let a = c .before .before .before .before .before .before .before .before .before .before .before .args in
-    let m : c .before .before .before .magnitude .result ≡ natAbs (a .n) = c .before .before .before .magnitude .ensures ∙ ap natAbs (toZ-ofZ w64 (a .n) (c .before .before .before .before .before .before .before .before .before .before .before .fits .n)) in
-    let few = decimal-few 18 (c .before .before .before .magnitude .result) (omega (arith, m, magnitude-le (a .n) (c .before .before .before .before .before .before .before .before .before .before .before .fits .n))) in
-    let p = put-negative (a .out .now) (a .at) (a .n) (c .before .before .before .before .before .before .before .before .before .before .before .fits .n) (c .before .before .before .before .before .before .before .before .before .if1 .taken) _ m _ _ _ _
-    (c .before .before .before .before .before .before .before .put-byte .ensures) (c .before .before .put-decimal .ensures) in
-    (p .0, (p .1, omega (arith, c .before .before .before .before .before .before .before .put-byte .ensures .0, c .before .before .put-decimal .ensures .0, few)))
+    let c3 = c .before .before .before in
+    let c7 = c3 .before .before .before .before in
+    let c9 = c7 .before .before in
+    let c11 = c9 .before .before in
+    let a = c11 .args in
+    let m : c3 .magnitude .result ≡ natAbs (a .n) = c3 .magnitude .ensures ∙ ap natAbs (toZ-ofZ w64 (a .n) (c11 .fits
+    .n)) in
+    let few = decimal-few 18 (c3 .magnitude .result) (omega (arith, m, magnitude-le (a .n) (c11 .fits .n))) in
+    let p = put-negative (a .out .now) (a .at) (a .n) (c11 .fits .n) (c9 .if1 .taken) _ m _ _ _ _
+    (c7 .put-byte .ensures) (c .before .before .put-decimal .ensures) in
+    (p .0, (p .1, omega (arith, c7 .put-byte .ensures .0, c .before .before .put-decimal .ensures .0, few)))
 
 returns-2 : tie.Need-returns-2
 returns-2 c =
-    let a = c .before .before .before .before .before .before .before .args in
-    let m : c .before .before .before .magnitude2 .result ≡ natAbs (a .n) = c .before .before .before .magnitude2 .ensures ∙ ap natAbs (toZ-ofZ w64 (a .n) (c .before .before .before .before .before .before .before .fits .n)) in
-    let few = decimal-few 18 (c .before .before .before .magnitude2 .result) (omega (arith, m, magnitude-le (a .n) (c .before .before .before .before .before .before .before .fits .n))) in
-    let p = put-rest (a .out .now) (a .at) (a .n) (c .before .before .before .before .before .before .before .fits .n) (c .before .before .before .before .before .if1 .left) _ m _ _ (c .before .before .put-decimal2 .ensures) in
+    let c3 = c .before .before .before in
+    let c5 = c3 .before .before in
+    let c7 = c5 .before .before in
+    let a = c7 .args in
+    let m : c3 .magnitude2 .result ≡ natAbs (a .n) = c3 .magnitude2 .ensures ∙ ap natAbs (toZ-ofZ w64 (a .n) (c7 .fits
+    .n)) in
+    let few = decimal-few 18 (c3 .magnitude2 .result) (omega (arith, m, magnitude-le (a .n) (c7 .fits .n))) in
+    let p = put-rest (a .out .now) (a .at) (a .n) (c7 .fits .n) (c5 .if1 .left) _ m _ _ (c .before .before
+    .put-decimal2 .ensures) in
     (p .0, (p .1, omega (arith, c .before .before .put-decimal2 .ensures .0, few)))
 
 pub put-signed-spec : {M : Type 1} → statement M

@@ -1,3 +1,4 @@
+-- Encoding replies with at most as many bytes as the book has.
 use mathlib.Core.Path.{sym, ap, _∙_}
 use Rattle.operations.specs.Enums.{countReply}
 use Rattle.cases.proofs.CloseLaws.{accepted-counts}
@@ -7,8 +8,10 @@ use Rattle.cases.proofs.print.close.Tie as tie
 
 returns : tie.Need-returns
 returns c =
-    let a = c .before .before .before .before .before .before .before .before .before .args in
-    let r = c .before .before .before .before .before .encode in
+    let c5 = c .before .before .before .before .before in
+    let c9 = c5 .before .before .before .before in
+    let a = c9 .args in
+    let r = c5 .encode in
     accepted-counts (a .sheet .now) (a .book .now) (r .last .1 .0) _
     (sym (r .ensures .0) ∙ ap countReply (c .before .count .given .1)) (r .kept .1 .0)
 

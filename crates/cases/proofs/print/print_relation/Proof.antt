@@ -1,3 +1,4 @@
+-- The line is shorter than its buffer.
 use mathlib.Core.Path.{sym}
 use lib.Seq.{length-take-le}
 use borrow.Author.Needs.{needs}

@@ -14,8 +14,15 @@ array-share-prefix-text c =
 
 slice-aggregate-print : tie.Need-slice-aggregate-print
 slice-aggregate-print c =
+    let c3 = c .before .before .before in
     let n = simp length-sets at (ap length (c .before .report .ensures .1)) in
-    sym (length-take-le _ (c .before .report .last .1 .0) (omega (arith, n, c .before .report .ensures .0 .1, c .before .before .before .large-buffer .ensures)))
+    sym (length-take-le _ (c .before .report .last .1 .0) (omega (
+      arith,
+      n,
+      c .before .report .ensures .0 .1,
+      c3
+          .large-buffer .ensures,
+    )))
 
 pub print-report-spec : {M : Type 1} → statement M
 print-report-spec =

@@ -1,3 +1,4 @@
+-- The line's word and number are put one after another.
 use mathlib.Core.List.{[], _∷_}
 use native.Mathlib.Omega.{arith}
 use Rattle.operations.specs.Text.{decimal}

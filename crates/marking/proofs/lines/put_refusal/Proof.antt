@@ -1,3 +1,4 @@
+-- The line's words are put one after another.
 use native.Mathlib.Omega.{arith}
 use mathlib.Core.List.{[], _∷_}
 use Rattle.operations.specs.Text.{ascii, decimal, line}

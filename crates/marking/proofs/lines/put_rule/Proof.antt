@@ -12,13 +12,30 @@ use Rattle.marking.proofs.lines.put_rule.Tie as tie
 
 returns : tie.Need-returns
 returns c =
-    let a = c .before .before .before .before .before .before .before .before .before .before .before .before .before .before .before .before .before .args in
+    let c6 = c .before .before .before .before .before .before in
+    let c10 = c6 .before .before .before .before in
+    let c14 = c10 .before .before .before .before in
+    let c17 = c14 .before .before .before in
+    let a = c17 .args in
     let d = signedDecimal (a .margin) in
-    let e = rw (toZ-ofZ w64 (a .margin) (c .before .before .before .before .before .before .before .before .before .before .before .before .before .before .before .before .before .fits .margin)) at (c .before .before .before .before .before .before .put-signed .ensures) in
+    let e = rw (toZ-ofZ w64 (a .margin) (c17 .fits .margin)) at (c6 .put-signed .ensures) in
     let t = put-append _ _ d (10 ∷ []) _ _ _ _ (e .0, e .1 .0) (c .before .before .put-byte .ensures) in
     let p = put-line3 (a .out .now) (a .at) (decimal (a .number)) (decimal (a .mark)) d _ _ _ _ _ _
-    (c .before .before .before .before .before .before .before .before .before .before .before .before .before .before .put-number .ensures .0, c .before .before .before .before .before .before .before .before .before .before .before .before .before .before .put-number .ensures .1 .0) (c .before .before .before .before .before .before .before .before .before .before .put-number2 .ensures .0, c .before .before .before .before .before .before .before .before .before .before .put-number2 .ensures .1 .0) t in
-    (p, omega (arith, c .before .before .before .before .before .before .before .before .before .before .before .before .before .before .put-number .ensures .1 .1, c .before .before .before .before .before .before .before .before .before .before .put-number2 .ensures .1 .1, e .1 .1, c .before .before .put-byte .ensures .0))
+    (c14 .put-number .ensures .0, c14 .put-number .ensures .1 .0) (
+      c10 .put-number2 .ensures .0,
+      c10 .put-number2
+          .ensures .1 .0,
+    ) t in (
+      p,
+      omega (
+        arith,
+        c14 .put-number .ensures .1 .1,
+        c10 .put-number2 .ensures .1 .1,
+        e .1 .1,
+        c .before .before
+            .put-byte .ensures .0,
+      ),
+    )
 
 pub put-rule-spec : {M : Type 1} → statement M
 put-rule-spec =

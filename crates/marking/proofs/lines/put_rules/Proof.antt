@@ -27,18 +27,28 @@ loop-holds : tie.Need-loop-holds Inv-loop μ-loop
 loop-holds c = (omega arith, omega arith, refl, (sym (add-zero (c .before .before .args .at)), refl))
 
 put-rule-requires : tie.Need-put-rule-requires Inv-loop μ-loop
-put-rule-requires c κs = (omega (arith, c .before .before .before .before .before .loop .inv .1, c .before .before .before .before .before .before .before .before .pre .0, c .before .before .before .before .before .before .before .before .pre .1), omega arith, omega (arith, c .before .long .ensures .1))
+put-rule-requires c κs =
+    let c5 = c .before .before .before .before .before in
+    let c8 = c5 .before .before .before in
+    (omega (arith, c5 .loop .inv .1, c8 .pre .0, c8 .pre .1), omega arith, omega (arith, c .before .long .ensures .1))
 
 loop-again : tie.Need-loop-again Inv-loop μ-loop
 loop-again c =
-    let a = c .before .before .before .before .before .before .before .before .before .before .before .args in
-    let l = c .before .before .before .before .before .before .before .before .loop in (
+    let c3 = c .before .before .before in
+    let c4 = c3 .before in
+    let c7 = c4 .before .before .before in
+    let c8 = c7 .before in
+    let c11 = c8 .before .before .before in
+    let a = c11 .args in
+    let l = c8 .loop in (
       omega arith,
       omega (arith, c .before .before .put-rule .ensures .1, l .inv .1),
       c .before .before .put-rule .kept .0 ∙ l .inv .2,
-      lines-next (a .out .now) (a .at) (l .i) (a .marks .now) (a .margins .now) _ _ _ _ _ _ (c .before .before .before .before .before .before .before .loop-test .taken) (c .before .before .before .before .before .before .before .before .before .before .before .pre .2)
-          (c .before .before .before .before .long .ensures .0)
-          (toZ-ofZ w64 (getD (a .margins .now) (l .i) (pos 0)) (record { sfits = c .before .before .before .put-rule-arg2 .given })) (l .inv .3) (c .before .before .put-rule .ensures .0),
+      lines-next (a .out .now) (a .at) (l .i) (a .marks .now) (a .margins .now) _ _ _ _ _ _ (c7 .loop-test .taken)
+          (c11 .pre .2)
+          (c4 .long .ensures .0)
+          (toZ-ofZ w64 (getD (a .margins .now) (l .i) (pos 0)) (record { sfits = c3 .put-rule-arg2 .given })) (l .inv
+          .3) (c .before .before .put-rule .ensures .0),
     )
 
 same-length : tie.Need-same-length Inv-loop μ-loop
@@ -46,12 +56,20 @@ same-length c = c .before .loop .inv .2
 
 returns : tie.Need-returns Inv-loop μ-loop
 returns c =
-    let a = c .before .before .before .before .args in
+    let c4 = c .before .before .before .before in
+    let a = c4 .args in
     let l = c .before .loop in
     let n : l .i ≡ length (a .marks .now) = omega (arith, l .inv .0, c .loop-test .left) in
     let h : length (a .marks .now) ≤ length (a .marks .now) = omega arith in
-    let k : length (a .margins .now) ≤ length (a .marks .now) = omega (arith, c .before .before .before .before .pre .2) in
-    (rw (n, take-all (length (a .marks .now)) (a .marks .now) h, take-all (length (a .marks .now)) (a .margins .now) k) at (l .inv .3), omega (arith, l .inv .1))
+    let k : length (a .margins .now) ≤ length (a .marks .now) = omega (arith, c4 .pre .2) in (
+      rw (
+        n,
+        take-all (length (a .marks .now)) (a .marks .now) h,
+        take-all (length (a .marks .now)) (a .margins .now)
+            k,
+      ) at (l .inv .3),
+      omega (arith, l .inv .1),
+    )
 
 pub put-rules-spec : {M : Type 1} → statement M
 put-rules-spec =

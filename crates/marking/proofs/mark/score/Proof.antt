@@ -1,3 +1,4 @@
+-- The score is the definition's, case by case.
 use Prim.Native.Nat.{_*_}
 use native.Mathlib.Omega.{arith}
 use native.Mathlib.Nat.{div-le-self}

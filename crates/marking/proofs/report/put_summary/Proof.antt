@@ -1,3 +1,4 @@
+-- The score's line is put, and the verdict that the counts call for.
 use native.Mathlib.Omega.{arith}
 use borrow.Author.Tests.{eq-eqb, ne-eqb}
 use Rattle.marking.proofs.ReportLaws.{put-verdict}

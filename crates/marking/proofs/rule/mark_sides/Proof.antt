@@ -8,14 +8,19 @@ use Rattle.marking.proofs.rule.mark_sides.Statement.{statement}
 use Rattle.marking.proofs.rule.mark_sides.Tie as tie
 
 total-requires : tie.Need-total-requires
-total-requires c κs = let (T, left, right, N) = c .before .before .before .pre in (N, left)
+total-requires c κs =
+    let c3 = c .before .before .before in
+    let (T, left, right, N) = c3 .pre in (N, left)
 
 total-requires-2 : tie.Need-total-requires-2
-total-requires-2 c κs = let (T, left, right, N) = c .before .before .before .before .pre in (N, right)
+total-requires-2 c κs =
+    let c4 = c .before .before .before .before in
+    let (T, left, right, N) = c4 .pre in (N, right)
 
 mark-requires : tie.Need-mark-requires
 mark-requires c κs =
-    let (T, left, right, N) = c .before .before .before .before .before .pre in
+    let c5 = c .before .before .before .before .before in
+    let (T, left, right, N) = c5 .pre in
     (whole-terms (T .short) (T .admissible) left right, (c .before .total .ensures, c .total2 .ensures, N))
 
 margin-requires : tie.Need-margin-requires
@@ -23,8 +28,17 @@ margin-requires c κs = (c .before .before .total .ensures .small, c .before .to
 
 returns : tie.Need-returns
 returns c =
-    let margin = c .margin .ensures _ _ _ (c .before .before .before .total .ensures) (c .before .before .total2 .ensures) in
-    (record { mark = c .before .mark .ensures; margin = toZ-ofZ w64 (c .margin .result) (record { sfits = c .margin .ok }) ∙ margin }, refl)
+    let c3 = c .before .before .before in
+    let margin = c .margin .ensures _ _ _ (c3 .total .ensures) (c .before .before .total2 .ensures) in (
+      record {
+        mark = c .before .mark .ensures;
+        margin = toZ-ofZ w64 (c .margin .result) (record {
+          sfits = c .margin
+              .ok;
+        }) ∙ margin;
+      },
+      refl,
+    )
 
 pub mark-sides-spec : {M : Type 1} → statement M
 mark-sides-spec =

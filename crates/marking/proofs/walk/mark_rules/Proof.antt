@@ -24,48 +24,76 @@ abbrev μ-loop : tie.MeasureT-loop
 
 loop-holds : tie.Need-loop-holds Inv-loop μ-loop
 loop-holds c =
-    let a = c .before .before .before .args in (
+    let c3 = c .before .before .before in
+    let a = c3 .args in (
       omega arith,
       omega arith,
       refl,
       refl,
-      c .before .before .before .pre .0 .1,
-      listed-none (bitSource (a .book .now)) (signatureOf (a .table .now)) (a .count) (a .cursor .at) (a .marks .now) (a .margins .now),
+      c3 .pre .0 .1,
+      listed-none (bitSource (a .book .now)) (signatureOf (a .table .now)) (a .count) (a .cursor .at) (a .marks .now)
+          (a .margins .now),
     )
 
 mark-rule-requires : tie.Need-mark-rule-requires Inv-loop μ-loop
-mark-rule-requires c κs = ((c .before .before .before .before .before .pre .0 .0, c .before .loop .inv .4), c .before .before .before .before .before .pre .1 .0)
+mark-rule-requires c κs =
+    let c5 = c .before .before .before .before .before in
+    ((c5 .pre .0 .0, c .before .loop .inv .4), c5 .pre .1 .0)
 
 same-length : tie.Need-same-length Inv-loop μ-loop
-same-length c = c .before .before .before .before .before .loop .inv .2
+same-length c =
+    let c5 = c .before .before .before .before .before in
+    c5 .loop .inv .2
 
 same-length-2 : tie.Need-same-length-2 Inv-loop μ-loop
-same-length-2 c = c .before .before .before .before .before .loop .inv .3
+same-length-2 c =
+    let c5 = c .before .before .before .before .before in
+    c5 .loop .inv .3
 
 returns : tie.Need-returns Inv-loop μ-loop
 returns c =
-    let a = c .before .before .before .before .before .before .before .before .before .args in
-    let l = c .before .before .before .before .before .loop in (
-      listed-fault (bitSource (a .book .now)) (signatureOf (a .table .now)) (a .count) (a .cursor .at) (a .marks .now) (a .margins .now)
-          (l .i) (l .here .at) (l .decreasing) (l .marks) (l .margins) (l .inv .5) (c .before .before .before .before .loop-test .taken) _ _ (l .marks) (l .margins)
-          (rw (c .before .code .given .1) at (c .before .before .before .mark-rule .ensures .0)),
+    let c3 = c .before .before .before in
+    let c4 = c3 .before in
+    let c5 = c4 .before in
+    let c9 = c5 .before .before .before .before in
+    let a = c9 .args in
+    let l = c5 .loop in (
+      listed-fault (bitSource (a .book .now)) (signatureOf (a .table .now)) (a .count) (a .cursor .at) (a .marks .now)
+          (a .margins .now)
+          (l .i) (l .here .at) (l .decreasing) (l .marks) (l .margins) (l .inv .5) (c4 .loop-test .taken) _ _ (l
+          .marks) (l .margins)
+          (rw (c .before .code .given .1) at (c3 .mark-rule .ensures .0)),
       tt,
     )
 
 loop-again : tie.Need-loop-again Inv-loop μ-loop
 loop-again c =
-    let a = c .before .before .before .before .before .before .before .before .before .before .before .before .before .before .before .before .before .before .before .args in
-    let l = c .before .before .before .before .before .before .before .before .before .before .before .before .before .before .before .loop in
-    let within = rw (c .before .before .before .before .before .before .before .before .before .before .before .rule .given .1) at (c .before .before .before .before .before .before .before .before .before .before .before .before .before .mark-rule .ensures .1) in (
+    let c3 = c .before .before .before in
+    let c4 = c3 .before in
+    let c8 = c4 .before .before .before .before in
+    let c11 = c8 .before .before .before in
+    let c13 = c11 .before .before in
+    let c14 = c13 .before in
+    let c15 = c14 .before in
+    let c19 = c15 .before .before .before .before in
+    let a = c19 .args in
+    let l = c15 .loop in
+    let within = rw (c11 .rule .given .1) at (c13 .mark-rule .ensures .1) in (
       omega arith,
       omega (arith, c .before .decreases .ensures .1),
-      ap length (c .before .before .before .before .before .before .before .before .put-mark .ensures) ∙ simp length-set (l .inv .2),
-      ap length (c .before .before .before .put-margin .ensures) ∙ simp length-set (l .inv .3),
+      ap length (c8 .put-mark .ensures) ∙ simp length-set (l .inv .2),
+      ap length (c3 .put-margin .ensures) ∙ simp length-set (l .inv .3),
       within,
-      listed-more (bitSource (a .book .now)) (signatureOf (a .table .now)) (a .count) (a .cursor .at) (a .marks .now) (a .margins .now)
-          (l .i) (l .here .at) (l .decreasing) (l .marks) (l .margins) (l .inv .5) (c .before .before .before .before .before .before .before .before .before .before .before .before .before .before .loop-test .taken) _ (c .before .before .before .before .before .before .before .before .before .before .before .rule .given .0 .0) _ _
-          (rw (c .before .before .before .before .before .before .before .before .before .before .before .rule .given .1) at (c .before .before .before .before .before .before .before .before .before .before .before .before .before .mark-rule .ensures .0)) (c .before .decreases .ensures .0) (c .before .before .before .before .before .before .before .before .put-mark .ensures)
-          (c .before .before .before .put-margin .ensures ∙ ap (set (l .margins) (l .i)) (toZ-ofZ w64 _ (record { sfits = c .before .before .before .before .struct-told .given .1 .0 .1 }))),
+      listed-more (bitSource (a .book .now)) (signatureOf (a .table .now)) (a .count) (a .cursor .at) (a .marks .now)
+          (a .margins .now)
+          (l .i) (l .here .at) (l .decreasing) (l .marks) (l .margins) (l .inv .5) (c14 .loop-test .taken) _ (c11
+          .rule .given .0 .0) _ _
+          (rw (c11 .rule .given .1) at (c13 .mark-rule .ensures .0)) (c .before .decreases .ensures .0) (c8 .put-mark
+          .ensures)
+          (c3 .put-margin .ensures ∙ ap (set (l .margins) (l .i)) (toZ-ofZ w64 _ (record {
+            sfits = c4 .struct-told
+                .given .1 .0 .1;
+          }))),
     )
 
 same-length-3 : tie.Need-same-length-3 Inv-loop μ-loop
@@ -76,10 +104,13 @@ same-length-4 c = c .before .loop .inv .3
 
 returns-2 : tie.Need-returns-2 Inv-loop μ-loop
 returns-2 c =
-    let a = c .before .before .before .before .before .args in
+    let c5 = c .before .before .before .before .before in
+    let a = c5 .args in
     let l = c .before .loop in (
-      listed-all (bitSource (a .book .now)) (signatureOf (a .table .now)) (a .count) (a .cursor .at) (a .marks .now) (a .margins .now)
-          (l .i) (l .here .at) (l .decreasing) (l .marks) (l .margins) (l .inv .5) (c .loop-test .left) (l .here) refl,
+      listed-all (bitSource (a .book .now)) (signatureOf (a .table .now)) (a .count) (a .cursor .at) (a .marks .now)
+          (a .margins .now)
+          (l .i) (l .here .at) (l .decreasing) (l .marks) (l .margins) (l .inv .5) (c .loop-test .left) (l .here)
+          refl,
       (omega arith, l .inv .4),
     )
 

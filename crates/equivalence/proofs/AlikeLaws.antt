@@ -104,17 +104,17 @@ ac-small table h f a =
 
 -- ---- the ends
 
-module _ {table s leftKeys t rightKeys : List ℕ} (S : BothPrepared table s leftKeys t rightKeys) where
+module _ {table s skeys t tkeys : List ℕ} (S : BothPrepared table s skeys t tkeys) where
   module _ (i j : ℕ) (h : i < length s) (k : j < length t) where
-    pub keys-roots : getD leftKeys i 0 ≡ getD rightKeys j 0 → getD s i 0 ≡ getD t j 0
+    pub keys-roots : getD skeys i 0 ≡ getD tkeys j 0 → getD s i 0 ≡ getD t j 0
     keys-roots e =
         let σ = signatureOf table in
         let few = few-at table (S .small) in
-        sym (keyed-root σ s (S .left .complete) i h leftKeys (S .left .keyed i (omega arith) h) (S .left .short) few)
+        sym (keyed-root σ s (S .left .complete) i h skeys (S .left .keyed i (omega arith) h) (S .left .short) few)
         ∙ ap (λ (key : ℕ). key / 256 % 65536) e
-        ∙ keyed-root σ t (S .right .complete) j k rightKeys (S .right .keyed j (omega arith) k) (S .right .short) few
+        ∙ keyed-root σ t (S .right .complete) j k tkeys (S .right .keyed j (omega arith) k) (S .right .short) few
 
-    pub equivalent-keys : (getD leftKeys i 0 ≡ getD rightKeys j 0 → ⊥) → false ≡ alikeAt table s i t j
+    pub equivalent-keys : (getD skeys i 0 ≡ getD tkeys j 0 → ⊥) → false ≡ alikeAt table s i t j
     equivalent-keys d =
         let σ = signatureOf table in
         let few = few-at table (S .small) in
@@ -125,7 +125,7 @@ module _ {table s leftKeys t rightKeys : List ℕ} (S : BothPrepared table s lef
         ∙ sym (S .right .keyed j (omega arith) k))))
         λ e. e)
 
-    pub equivalent-leaves : sizeIn leftKeys i ≡ 1 → getD leftKeys i 0 ≡ getD rightKeys j 0 →
+    pub equivalent-leaves : sizeIn skeys i ≡ 1 → getD skeys i 0 ≡ getD tkeys j 0 →
         true ≡ alikeAt table s i t j
     equivalent-leaves one e =
         let σ = signatureOf table in
@@ -176,8 +176,8 @@ module _ {table s leftKeys t rightKeys : List ℕ} (S : BothPrepared table s lef
     pub rows-unlike : 0 < n → false ≡ alikeAt table s i t j → false ≡ rowsAlike table s i t j n
     rows-unlike p e = rw (rows-step p, ← e)
 
-    pub rows-more : {w v : ℕ} {r : Bool} → 0 < n → true ≡ alikeAt table s i t j → w ≡ sizeIn leftKeys i →
-        v ≡ sizeIn rightKeys j →
+    pub rows-more : {w v : ℕ} {r : Bool} → 0 < n → true ≡ alikeAt table s i t j → w ≡ sizeIn skeys i →
+        v ≡ sizeIn tkeys j →
         r ≡ rowsAlike table s (i + w) t (j + v) (n - 1) → r ≡ rowsAlike table s i t j n
     rows-more p e d g h =
         (rw (d, g, prepared-size (S .left) i (omega arith), prepared-size (S .right) j (omega arith)) at h)
@@ -211,7 +211,7 @@ module _ {table s leftKeys t rightKeys : List ℕ} (S : BothPrepared table s lef
           (sym (equal-absent (isEquivalent σ) _ _ _ (removed-none table (partAt σ s i) P F q)))
 
       pub cancelled-more : (k ≡ m → ⊥) → (out : List ℕ) → take (m - 1) out ≡ deleted k (take m offsets) →
-          {w : ℕ} {r : Bool} → w ≡ sizeIn leftKeys i →
+          {w : ℕ} {r : Bool} → w ≡ sizeIn skeys i →
           r ≡ elementsAlike table f s (i + w) (n - 1) (termsAt table t out (m - 1)) →
           r ≡ elementsAlike table f s i n (termsAt table t offsets m)
       cancelled-more q out o d h =

@@ -56,11 +56,11 @@ module _ (σ : Signature) where
     pub keyed : KeyedFrom ws keys 0
 
 -- What both sides of a comparison are.
-pub record BothPrepared (table s leftKeys t rightKeys : List ℕ) : Type 0 where
+pub record BothPrepared (table s skeys t tkeys : List ℕ) : Type 0 where
   pub small : length table ≤ 1025
   pub binary : AcBinary (signatureOf table)
-  pub left : Prepared (signatureOf table) s leftKeys
-  pub right : Prepared (signatureOf table) t rightKeys
+  pub left : Prepared (signatureOf table) s skeys
+  pub right : Prepared (signatureOf table) t tkeys
 
 -- The size of the term at an offset, by its key.
 abbrev pub sizeIn : List ℕ → ℕ → ℕ

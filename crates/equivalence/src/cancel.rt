@@ -17,15 +17,15 @@ pub struct Uncancelled {
 pub fn cancel(
     table: &&[u16],
     s: &&[u16],
-    left_keys: &[u64; MAX_NODES],
+    skeys: &[u64; MAX_NODES],
     ps: &mut [u8; MAX_ELEMENTS],
     n: usize,
     t: &&[u16],
-    right_keys: &[u64; MAX_NODES],
+    tkeys: &[u64; MAX_NODES],
     qs: &mut [u8; MAX_ELEMENTS],
     m: usize,
 ) -> Uncancelled
-    requires { ⌜ BothPrepared (now (now table)) (now (now s)) (now «left_keys») (now (now t)) (now «right_keys») ⌝ }
+    requires { ⌜ BothPrepared (now (now table)) (now (now s)) (now skeys) (now (now t)) (now tkeys) ⌝ }
     requires { ⌜ OffsetsIn (now (now table)) (now (now s)) (now ps) n ⌝ }
     requires { ⌜ OffsetsIn (now (now table)) (now (now t)) (now qs) m ⌝ }
     ensures { λ r. ⌜
@@ -44,7 +44,7 @@ pub fn cancel(
     let mut right = m;
     while k < n {
         let p = ps[k];
-        let r = partner(table, s, left_keys, wide_byte(p), t, right_keys, qs, right);
+        let r = partner(table, s, skeys, wide_byte(p), t, tkeys, qs, right);
         if r == right {
             ps[left] = p;
             left += 1;

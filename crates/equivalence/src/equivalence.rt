@@ -19,39 +19,39 @@ ghost use Rattle.equivalence.specs.Offsets.{OffsetsIn, First, alikeAt, r
 pub fn equivalent(
     table: &&[u16],
     s: &&[u16],
-    left_keys: &[u64; MAX_NODES],
+    skeys: &[u64; MAX_NODES],
     i: usize,
     t: &&[u16],
-    right_keys: &[u64; MAX_NODES],
+    tkeys: &[u64; MAX_NODES],
     j: usize,
 ) -> bool
-    requires { ⌜ BothPrepared (now (now table)) (now (now s)) (now «left_keys») (now (now t)) (now «right_keys») ⌝ }
+    requires { ⌜ BothPrepared (now (now table)) (now (now s)) (now skeys) (now (now t)) (now tkeys) ⌝ }
     requires { ⌜ (i < length (now (now s))) × (j < length (now (now t))) ⌝ }
     ensures { λ r. ⌜ r ≡ alikeAt (now (now (table .entry))) (now (now (s .entry))) i (now (now (t .entry))) j ⌝ }
 {
-    if left_keys[i] != right_keys[j] {
+    if skeys[i] != tkeys[j] {
         return false;
     }
     let f = s[i];
     let n = arity(*table, f);
     if is_ac(*table, f) {
-        return flattenings_equivalent(table, s, left_keys, i + 1, t, right_keys, j + 1, f, n);
+        return flattenings_equivalent(table, s, skeys, i + 1, t, tkeys, j + 1, f, n);
     }
-    rows_equivalent(table, s, left_keys, i + 1, t, right_keys, j + 1, n)
+    rows_equivalent(table, s, skeys, i + 1, t, tkeys, j + 1, n)
 }
 
 // Are the n terms at i and j equivalent in their order?
 fn rows_equivalent(
     table: &&[u16],
     s: &&[u16],
-    left_keys: &[u64; MAX_NODES],
+    skeys: &[u64; MAX_NODES],
     i: usize,
     t: &&[u16],
-    right_keys: &[u64; MAX_NODES],
+    tkeys: &[u64; MAX_NODES],
     j: usize,
     n: usize,
 ) -> bool
-    requires { ⌜ BothPrepared (now (now table)) (now (now s)) (now «left_keys») (now (now t)) (now «right_keys») ⌝ }
+    requires { ⌜ BothPrepared (now (now table)) (now (now s)) (now skeys) (now (now t)) (now tkeys) ⌝ }
     requires { ⌜
         Stands (signatureOf (now (now table))) (now (now s)) i n
         × Stands (signatureOf (now (now table))) (now (now t)) j n
@@ -65,30 +65,30 @@ fn rows_equivalent(
     let mut to = j;
     let mut left = n;
     while left > 1 {
-        if equivalent(table, s, left_keys, at, t, right_keys, to) {
-            at += size_at(left_keys, at);
-            to += size_at(right_keys, to);
+        if equivalent(table, s, skeys, at, t, tkeys, to) {
+            at += size_at(skeys, at);
+            to += size_at(tkeys, to);
             left -= 1;
         } else {
             return false;
         }
     }
-    equivalent(table, s, left_keys, at, t, right_keys, to)
+    equivalent(table, s, skeys, at, t, tkeys, to)
 }
 
 // Are the flattenings for f of the n terms at i and of those at j equivalent as multisets?
 fn flattenings_equivalent(
     table: &&[u16],
     s: &&[u16],
-    left_keys: &[u64; MAX_NODES],
+    skeys: &[u64; MAX_NODES],
     i: usize,
     t: &&[u16],
-    right_keys: &[u64; MAX_NODES],
+    tkeys: &[u64; MAX_NODES],
     j: usize,
     f: u16,
     n: usize,
 ) -> bool
-    requires { ⌜ BothPrepared (now (now table)) (now (now s)) (now «left_keys») (now (now t)) (now «right_keys») ⌝ }
+    requires { ⌜ BothPrepared (now (now table)) (now (now s)) (now skeys) (now (now t)) (now tkeys) ⌝ }
     requires { ⌜
         Stands (signatureOf (now (now table))) (now (now s)) i n
         × Stands (signatureOf (now (now table))) (now (now t)) j n
@@ -101,24 +101,24 @@ fn flattenings_equivalent(
         ⌝ }
 {
     let mut offsets = [0u8; MAX_ELEMENTS];
-    let m = elements(table, f, t, right_keys, j, n, &mut offsets);
-    cancels(table, s, left_keys, i, t, right_keys, f, n, &mut offsets, m)
+    let m = elements(table, f, t, tkeys, j, n, &mut offsets);
+    cancels(table, s, skeys, i, t, tkeys, f, n, &mut offsets, m)
 }
 
 // Does the flattening for f of the n terms at i cancel against the terms at the first m offsets?
 fn cancels(
     table: &&[u16],
     s: &&[u16],
-    left_keys: &[u64; MAX_NODES],
+    skeys: &[u64; MAX_NODES],
     i: usize,
     t: &&[u16],
-    right_keys: &[u64; MAX_NODES],
+    tkeys: &[u64; MAX_NODES],
     f: u16,
     n: usize,
     offsets: &mut [u8; MAX_ELEMENTS],
     m: usize,
 ) -> bool
-    requires { ⌜ BothPrepared (now (now table)) (now (now s)) (now «left_keys») (now (now t)) (now «right_keys») ⌝ }
+    requires { ⌜ BothPrepared (now (now table)) (now (now s)) (now skeys) (now (now t)) (now tkeys) ⌝ }
     requires { ⌜ Stands (signatureOf (now (now table))) (now (now s)) i n ⌝ }
     requires { ⌜ f < 256 ⌝ }
     requires { ⌜ OffsetsIn (now (now table)) (now (now t)) (now offsets) m ⌝ }
@@ -136,12 +136,12 @@ fn cancels(
             owed = arity(*table, f) + (owed - 1);
             at += 1;
         } else {
-            let k = partner(table, s, left_keys, at, t, right_keys, offsets, left);
+            let k = partner(table, s, skeys, at, t, tkeys, offsets, left);
             if k == left {
                 return false;
             }
             delete(offsets, k, left);
-            at += size_at(left_keys, at);
+            at += size_at(skeys, at);
             owed -= 1;
             left -= 1;
         }
@@ -154,14 +154,14 @@ fn cancels(
 pub fn partner(
     table: &&[u16],
     s: &&[u16],
-    left_keys: &[u64; MAX_NODES],
+    skeys: &[u64; MAX_NODES],
     i: usize,
     t: &&[u16],
-    right_keys: &[u64; MAX_NODES],
+    tkeys: &[u64; MAX_NODES],
     offsets: &[u8; MAX_ELEMENTS],
     m: usize,
 ) -> usize
-    requires { ⌜ BothPrepared (now (now table)) (now (now s)) (now «left_keys») (now (now t)) (now «right_keys») ⌝ }
+    requires { ⌜ BothPrepared (now (now table)) (now (now s)) (now skeys) (now (now t)) (now tkeys) ⌝ }
     requires { ⌜ i < length (now (now s)) ⌝ }
     requires { ⌜ OffsetsIn (now (now table)) (now (now t)) (now offsets) m ⌝ }
     ensures { λ r. ⌜
@@ -169,16 +169,16 @@ pub fn partner(
         (getD (now (offsets .entry)) k 0)) m r
         ⌝ }
 {
-    let key = left_keys[i];
-    let leaf = size_at(left_keys, i) == 1;
+    let key = skeys[i];
+    let leaf = size_at(skeys, i) == 1;
     let mut k = 0;
     while k < m {
         let j = wide_byte(offsets[k]);
-        if right_keys[j] != key {
+        if tkeys[j] != key {
             k += 1;
         } else if leaf {
             return k;
-        } else if equivalent(table, s, left_keys, i, t, right_keys, j) {
+        } else if equivalent(table, s, skeys, i, t, tkeys, j) {
             return k;
         } else {
             k += 1;
@@ -191,18 +191,18 @@ pub fn partner(
 pub fn equivalent_by_keys(
     table: &&[u16],
     s: &&[u16],
-    left_keys: &[u64; MAX_NODES],
+    skeys: &[u64; MAX_NODES],
     i: usize,
     t: &&[u16],
-    right_keys: &[u64; MAX_NODES],
+    tkeys: &[u64; MAX_NODES],
     j: usize,
 ) -> bool
-    requires { ⌜ BothPrepared (now (now table)) (now (now s)) (now «left_keys») (now (now t)) (now «right_keys») ⌝ }
+    requires { ⌜ BothPrepared (now (now table)) (now (now s)) (now skeys) (now (now t)) (now tkeys) ⌝ }
     requires { ⌜ (i < length (now (now s))) × (j < length (now (now t))) ⌝ }
     ensures { λ r. ⌜ r ≡ alikeAt (now (now (table .entry))) (now (now (s .entry))) i (now (now (t .entry))) j ⌝ }
 {
-    if left_keys[i] == right_keys[j] {
-        return equivalent(table, s, left_keys, i, t, right_keys, j);
+    if skeys[i] == tkeys[j] {
+        return equivalent(table, s, skeys, i, t, tkeys, j);
     }
     false
 }

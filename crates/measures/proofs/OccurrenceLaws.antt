@@ -6,7 +6,7 @@
 use mathlib.Core.List.{List}
 use mathlib.Core.Path.{_≡_, refl}
 use mathlib.Core.Bool.{Bool, true, cond, _&&_, and-eq-true-iff as both}
-use Prim.Native.Nat.{ℕ, suc, zero, _+_, _-_, _*_, _/_, _%_, _≤_, _<_}
+use Prim.Native.Nat.{ℕ, suc, zero, _+_, _*_, _/_, _%_, _≤_, _<_}
 use native.Mathlib.Omega.{arith}
 use lib.Dec.{eqb, leb}
 use lib.ListN.{length}
@@ -125,8 +125,8 @@ pub totals-none-oftener : {σ : Signature} {s t : List ℕ} {a b : Totals} → T
 totals-none-oftener {σ} {s} {t} A B =
     rw (A .low, B .low, A .high, B .high) (halves-none (termOf σ s) (termOf σ t) (A .short) (B .short))
 
-module _ {table s leftKeys leftSums t rightKeys rightSums : List ℕ}
-    (W : Scales table s leftKeys leftSums t rightKeys rightSums) {i j : ℕ} (h : i < length s) (k : j < length t) where
+module _ {table s skeys ssums t tkeys tsums : List ℕ}
+    (W : Scales table s skeys ssums t tkeys tsums) {i j : ℕ} (h : i < length s) (k : j < length t) where
   abbrev left : Term
   left = partAt (signatureOf table) s i
 

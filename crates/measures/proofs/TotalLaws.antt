@@ -2,8 +2,8 @@
 --     totals-none, totals-more, sums-within-more     the sums, node by node from the right
 --     term-nodes, totalled                           those of a whole term
 --     stored-room, stored-from                       storing them
-use mathlib.Core.List.{List, []}
-use mathlib.Core.Path.{_≡_, ap, _∙_}
+use mathlib.Core.List.{List}
+use mathlib.Core.Path.{_≡_, _∙_}
 use Prim.Native.Nat.{ℕ, suc, zero, _+_, _-_, _*_, _≤_, _<_}
 use native.Mathlib.Omega.{arith}
 use native.Mathlib.Numerals.{add-one}

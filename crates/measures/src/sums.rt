@@ -22,9 +22,7 @@ ghost use Rattle.measures.specs.Sums.{SummedUp, Scales};
 // Stores the sums for an offset.
 fn put_sums(sums: &mut [u64; SUMS], i: usize, here: Totals)
     requires { ⌜ i < 129 ⌝ }
-    ensures { λ _. ⌜
-        now (sums .exit) ≡ triple (now (sums .entry)) i (here .weight) (here .low) (here .high)
-        ⌝ }
+    ensures { λ _. ⌜ now (sums .exit) ≡ triple (now (sums .entry)) i (here .weight) (here .low) (here .high) ⌝ }
 {
     sums[3 * i] = here.weight;
     sums[3 * i + 1] = here.low;
@@ -105,18 +103,15 @@ pub fn weight_at(
 pub fn none_oftener_at(
     table: &[u16],
     s: &[u16],
-    left_keys: &[u64; MAX_NODES],
-    left_sums: &[u64; SUMS],
+    skeys: &[u64; MAX_NODES],
+    ssums: &[u64; SUMS],
     i: usize,
     t: &[u16],
-    right_keys: &[u64; MAX_NODES],
-    right_sums: &[u64; SUMS],
+    tkeys: &[u64; MAX_NODES],
+    tsums: &[u64; SUMS],
     j: usize,
 ) -> bool
-    requires { ⌜
-        Scales (now table) (now s) (now «left_keys») (now «left_sums») (now t) (now «right_keys»)
-        (now «right_sums»)
-        ⌝ }
+    requires { ⌜ Scales (now table) (now s) (now skeys) (now ssums) (now t) (now tkeys) (now tsums) ⌝ }
     requires { ⌜ (i < length (now s)) × (j < length (now t)) ⌝ }
     ensures { λ r. ⌜
         r
@@ -124,10 +119,10 @@ pub fn none_oftener_at(
         (partAt (signatureOf (now (table .entry))) (now (t .entry)) j)
         ⌝ }
 {
-    let a = sum_at(table, 1, s, left_keys, left_sums, i);
-    let b = sum_at(table, 1, t, right_keys, right_sums, j);
-    let c = sum_at(table, 2, s, left_keys, left_sums, i);
-    let d = sum_at(table, 2, t, right_keys, right_sums, j);
+    let a = sum_at(table, 1, s, skeys, ssums, i);
+    let b = sum_at(table, 1, t, tkeys, tsums, j);
+    let c = sum_at(table, 2, s, skeys, ssums, i);
+    let d = sum_at(table, 2, t, tkeys, tsums, j);
     let low = digits_within(a, b);
     let high = digits_within(c, d);
     if low { high } else { false }

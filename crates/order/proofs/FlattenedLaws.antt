@@ -122,35 +122,35 @@ module _ {σ : Signature} {f : ℕ} {ws : List ℕ} {ts : List Term} {above belo
   parted-few = omega (arith, offsets-length (B .high), offsets-length (B .vars), above-variables σ f ts)
 
 module _ (table : List ℕ) {f : ℕ} {s t : List ℕ} {ss ts : List Term}
-    {leftHigh leftLow leftVariables rightHigh rightLow rightVariables : List ℕ}
+    {sabove sbelow svars tabove tbelow tvars : List ℕ}
     {a b v m a' b' v' m' : ℕ}
-    (A : Parted (signatureOf table) f s ss leftHigh leftLow leftVariables a b v m)
-    (B : Parted (signatureOf table) f t ts rightHigh rightLow rightVariables a' b' v' m') where
+    (A : Parted (signatureOf table) f s ss sabove sbelow svars a b v m)
+    (B : Parted (signatureOf table) f t ts tabove tbelow tvars a' b' v' m') where
   -- The high part of the right with the variables that the left does not cancel.
   pub joined-offsets : {out : List ℕ} {r : ℕ} →
-      Offsets (signatureOf table) t out r (termsAt table t rightHigh a' ++ leftAt table s leftVariables v t
-      rightVariables v' .right) →
+      Offsets (signatureOf table) t out r (termsAt table t tabove a' ++ leftAt table s svars v t
+      tvars v' .right) →
       Offsets (signatureOf table) t out r (joinedHigh (signatureOf table) (isEquivalent (signatureOf table)) f ss ts)
   joined-offsets h = rw (A .vars .there, B .vars .there, B .high .there) at h
 
   module _ {out : List ℕ} {r : ℕ}
       (J : Offsets (signatureOf table) t out r (joinedHigh (signatureOf table) (isEquivalent (signatureOf table)) f ss
       ts)) where
-    high-of : {c : ℕ} → c ≡ outcome table (termsAt table s leftHigh a) (termsAt table t out r) → c ≡ highOutcome table f
+    high-of : {c : ℕ} → c ≡ outcome table (termsAt table s sabove a) (termsAt table t out r) → c ≡ highOutcome table f
         ss ts
     high-of h = h ∙ ap₂ (outcome table) (A .high .there) (J .there)
 
-    pub high-nodes : sum size (termsAt table s leftHigh a) + sum size (termsAt table t out r) ≤ sum size ss + sum size
+    pub high-nodes : sum size (termsAt table s sabove a) + sum size (termsAt table t out r) ≤ sum size ss + sum size
         ts
     high-nodes =
         rw (A .high .there, J .there)
         (omega (arith, choose-sum size (rootAbove (signatureOf table) f) ss, joined-sum (signatureOf table) f ss ts))
 
-  low-of : {c : ℕ} → c ≡ outcome table (termsAt table s leftLow b) (termsAt table t rightLow b') →
+  low-of : {c : ℕ} → c ≡ outcome table (termsAt table s sbelow b) (termsAt table t tbelow b') →
       c ≡ lowOutcome table f ss ts
   low-of h = h ∙ ap₂ (outcome table) (A .low .there) (B .low .there)
 
-  pub low-nodes : sum size (termsAt table s leftLow b) + sum size (termsAt table t rightLow b') ≤ sum size ss + sum
+  pub low-nodes : sum size (termsAt table s sbelow b) + sum size (termsAt table t tbelow b') ≤ sum size ss + sum
       size ts
   low-nodes =
       rw (A .low .there, B .low .there)
@@ -163,13 +163,13 @@ module _ (table : List ℕ) {f : ℕ} {s t : List ℕ} {ss ts : List Term}
 -- ---- each way that the mark is decided, by the offsets
 
 module _ (table : List ℕ) {f : ℕ} {s t : List ℕ} {ss ts : List Term}
-    {leftHigh leftLow leftVariables rightHigh rightLow rightVariables : List ℕ}
+    {sabove sbelow svars tabove tbelow tvars : List ℕ}
     {a b v m a' b' v' m' : ℕ}
-    (A : Parted (signatureOf table) f s ss leftHigh leftLow leftVariables a b v m)
-    (B : Parted (signatureOf table) f t ts rightHigh rightLow rightVariables a' b' v' m') {out : List ℕ} {r : ℕ}
-    (J : Offsets (signatureOf table) t out r (termsAt table t rightHigh a' ++ leftAt table s leftVariables v t
-    rightVariables v' .right))
-    {c : ℕ} (h : c ≡ outcome table (termsAt table s leftHigh a) (termsAt table t out r)) where
+    (A : Parted (signatureOf table) f s ss sabove sbelow svars a b v m)
+    (B : Parted (signatureOf table) f t ts tabove tbelow tvars a' b' v' m') {out : List ℕ} {r : ℕ}
+    (J : Offsets (signatureOf table) t out r (termsAt table t tabove a' ++ leftAt table s svars v t
+    tvars v' .right))
+    {c : ℕ} (h : c ≡ outcome table (termsAt table s sabove a) (termsAt table t out r)) where
   high : c ≡ highOutcome table f ss ts
   high = high-of table A B (joined-offsets table A B J) h
 
@@ -188,8 +188,8 @@ module _ (table : List ℕ) {f : ℕ} {s t : List ℕ} {ss ts : List Term}
     parts-fewer l =
         flat-fewer table f ss ts (λ z. p (high ∙ z)) (λ z. q (high ∙ z)) (omega (arith, A .whole, B .whole))
 
-    module _ (l : m ≤ m') (k : m' ≤ m) {d : ℕ} (e : d ≡ outcome table (termsAt table s leftLow b)
-        (termsAt table t rightLow b'))
+    module _ (l : m ≤ m') (k : m' ≤ m) {d : ℕ} (e : d ≡ outcome table (termsAt table s sbelow b)
+        (termsAt table t tbelow b'))
       where
         pub parts-six : d ≡ 2 → 6 ≡ flat table f ss ts
         parts-six g =

@@ -47,8 +47,8 @@ module _ (σ : Signature) (s t : Term) where
 
 -- ---- the terms at two offsets
 
-module _ {table s leftKeys leftSums t rightKeys rightSums : List ℕ}
-    (S : Scales table s leftKeys leftSums t rightKeys rightSums) (i j : ℕ)
+module _ {table s skeys ssums t tkeys tsums : List ℕ}
+    (S : Scales table s skeys ssums t tkeys tsums) (i j : ℕ)
     (few : true ≡ noneOftenerAt table s i t j) {x y : ℕ} (p : x ≡ weightAt table s i) (q : y ≡ weightAt table t j) where
   level : x ≡ y → {r : Bool} → r ≡ ltb 0 (rootAt table s i t j) → r ≡ greaterAt table s i t j
   level = greater-level (signatureOf table) (partAt (signatureOf table) s i) (partAt (signatureOf table) t j) few p q

@@ -1,10 +1,10 @@
 -- The laws that the functions' proofs cite, in reading order.
-pub mod MeasureLaws
-pub mod CoverLaws
-pub mod SplitLaws
-pub mod FlattenedLaws
-pub mod RootLaws
-pub mod GreaterLaws
-pub mod EquivalentLaws
-pub mod MarkLaws
+mod MeasureLaws
+mod CoverLaws
+mod SplitLaws
+mod FlattenedLaws
+mod RootLaws
+mod GreaterLaws
+mod EquivalentLaws
+mod MarkLaws
 pub mod WholeLaws

@@ -162,7 +162,7 @@ module _ (table s t : List ℕ) where
   offsetNodes ps n qs m = sum size (termsAt table s ps n) + sum size (termsAt table t qs m)
 
 -- The arguments of two terms with the same root.
-module _ {table s leftKeys t rightKeys : List ℕ} (S : BothPrepared table s leftKeys t rightKeys) (i j : ℕ)
+module _ {table s skeys t tkeys : List ℕ} (S : BothPrepared table s skeys t tkeys) (i j : ℕ)
     (h : i < length s) (k : j < length t)
     (e : getD s i 0 ≡ getD t j 0) {n : ℕ} (d : n ≡ symbolOf (signatureOf table) (getD s i 0) .arity) where
   pub inner-rows : Stands (signatureOf table) s (i + 1) n × Stands (signatureOf table) t (j + 1) n

@@ -28,7 +28,7 @@ use Rattle.order.specs.Compared.{isHigher, greaterAt, rootAt, rowsGreate
 
 -- ---- rows
 
-module _ {table s leftKeys t rightKeys : List ℕ} (S : BothPrepared table s leftKeys t rightKeys) {i j n : ℕ}
+module _ {table s skeys t tkeys : List ℕ} (S : BothPrepared table s skeys t tkeys) {i j n : ℕ}
     (a : Stands (signatureOf table) s i n)
     (b : Stands (signatureOf table) t j n) where
   pub lex-none : n ≡ 0 → false ≡ rowsGreater table s i t j n
@@ -48,8 +48,8 @@ module _ {table s leftKeys t rightKeys : List ℕ} (S : BothPrepared table s lef
       table s i t j n
   lex-here p e h = h ∙ rw (lex-step p, ← e)
 
-  pub lex-more : {w v : ℕ} {r : Bool} → 0 < n → true ≡ alikeAt table s i t j → w ≡ sizeIn leftKeys i →
-      v ≡ sizeIn rightKeys j →
+  pub lex-more : {w v : ℕ} {r : Bool} → 0 < n → true ≡ alikeAt table s i t j → w ≡ sizeIn skeys i →
+      v ≡ sizeIn tkeys j →
       r ≡ rowsGreater table s (i + w) t (j + v) (n - 1) → r ≡ rowsGreater table s i t j n
   lex-more p e d g h =
       (rw (d, g, prepared-size (S .left) i (omega arith), prepared-size (S .right) j (omega arith)) at h)

@@ -4,7 +4,7 @@
 use mathlib.Core.List.{List, [], _∷_, _++_, map, append-assoc, append-nil, map-append}
 use mathlib.Core.Path.{_≡_, refl, sym, ap, _∙_}
 use mathlib.Core.Bool.{Bool, true, false, cond}
-use Prim.Native.Nat.{ℕ, _+_, _-_, _≤_, _<_}
+use Prim.Native.Nat.{ℕ, _+_, _≤_, _<_}
 use native.Mathlib.Omega.{arith}
 use native.Mathlib.Numerals.{add-one}
 use native.Mathlib.Nat.{add-zero}
@@ -187,14 +187,14 @@ module _ (table t ps₀ qs : List ℕ) (k : ℕ) where
       rw (d, e, ← append-assoc) (offset-added σ t ps (k + x) (getD qs x 0) _ (h l g) c b)
 
 -- What is left is no more than what was there.
-pub surplus-few : (table s leftVariables : List ℕ) (a : ℕ) {t rightVariables out : List ℕ} {b r : ℕ} →
-    Offsets (signatureOf table) t rightVariables b (termsAt table t rightVariables b) →
-    Offsets (signatureOf table) t out r (leftAt table s leftVariables a t rightVariables b .right) → r ≤ b
-surplus-few table s leftVariables a {t} {rightVariables} {out} {b} P Q =
+pub surplus-few : (table s svars : List ℕ) (a : ℕ) {t tvars out : List ℕ} {b r : ℕ} →
+    Offsets (signatureOf table) t tvars b (termsAt table t tvars b) →
+    Offsets (signatureOf table) t out r (leftAt table s svars a t tvars b .right) → r ≤ b
+surplus-few table s svars a {t} {tvars} {out} {b} P Q =
     omega (
       arith,
       offsets-length P,
       offsets-length Q,
-      cancel-length (isEquivalent (signatureOf table)) (termsAt table s leftVariables a)
-          (termsAt table t rightVariables b),
+      cancel-length (isEquivalent (signatureOf table)) (termsAt table s svars a)
+          (termsAt table t tvars b),
     )

@@ -36,13 +36,13 @@ module _ {table s t : List ℕ} (S : Whole table s t) where
   pub turned : Whole table t s
   turned = record { small = S .small; binary = S .binary; left = S .right; right = S .left }
 
-  module _ {leftKeys rightKeys : List ℕ} (P : Prepared (signatureOf table) s leftKeys)
-      (Q : Prepared (signatureOf table) t rightKeys) where
-    pub whole-sides : BothPrepared table s leftKeys t rightKeys
+  module _ {skeys tkeys : List ℕ} (P : Prepared (signatureOf table) s skeys)
+      (Q : Prepared (signatureOf table) t tkeys) where
+    pub whole-sides : BothPrepared table s skeys t tkeys
     whole-sides = record { small = S .small; binary = S .binary; left = P; right = Q }
 
-pub scales-turned : {table s leftKeys leftSums t rightKeys rightSums : List ℕ} →
-    Scales table s leftKeys leftSums t rightKeys rightSums → Scales table t rightKeys rightSums s leftKeys leftSums
+pub scales-turned : {table s skeys ssums t tkeys tsums : List ℕ} →
+    Scales table s skeys ssums t tkeys tsums → Scales table t tkeys tsums s skeys ssums
 scales-turned W =
     let S = W .sides in
     record {

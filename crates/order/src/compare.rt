@@ -42,43 +42,22 @@ pub fn higher(table: &[u16], f: u16, g: u16) -> bool
 fn greater(
     table: &&[u16],
     s: &&[u16],
-    left_keys: &[u64; MAX_NODES],
-    left_sums: &[u64; SUMS],
+    skeys: &[u64; MAX_NODES],
+    ssums: &[u64; SUMS],
     i: usize,
     t: &&[u16],
-    right_keys: &[u64; MAX_NODES],
-    right_sums: &[u64; SUMS],
+    tkeys: &[u64; MAX_NODES],
+    tsums: &[u64; SUMS],
     j: usize,
 ) -> bool
     requires { ⌜
-        Scales (now (now table)) (now (now s)) (now «left_keys») (now «left_sums») (now (now t)) (now «right_keys»)
-        (now «right_sums»)
+        Scales (now (now table)) (now (now s)) (now skeys) (now ssums) (now (now t)) (now tkeys) (now tsums)
         ⌝ }
     requires { ⌜ (i < length (now (now s))) × (j < length (now (now t))) ⌝ }
     ensures { λ r. ⌜ r ≡ greaterAt (now (now (table .entry))) (now (now (s .entry))) i (now (now (t .entry))) j ⌝ }
 {
-    if none_oftener_at(
-        *table,
-        *s,
-        left_keys,
-        left_sums,
-        i,
-        *t,
-        right_keys,
-        right_sums,
-        j,
-    ) {
-        return exceeds(
-            table,
-            s,
-            left_keys,
-            left_sums,
-            i,
-            t,
-            right_keys,
-            right_sums,
-            j,
-        );
+    if none_oftener_at(*table, *s, skeys, ssums, i, *t, tkeys, tsums, j) {
+        return exceeds(table, s, skeys, ssums, i, t, tkeys, tsums, j);
     }
     false
 }
@@ -87,17 +66,16 @@ fn greater(
 fn exceeds(
     table: &&[u16],
     s: &&[u16],
-    left_keys: &[u64; MAX_NODES],
-    left_sums: &[u64; SUMS],
+    skeys: &[u64; MAX_NODES],
+    ssums: &[u64; SUMS],
     i: usize,
     t: &&[u16],
-    right_keys: &[u64; MAX_NODES],
-    right_sums: &[u64; SUMS],
+    tkeys: &[u64; MAX_NODES],
+    tsums: &[u64; SUMS],
     j: usize,
 ) -> bool
     requires { ⌜
-        Scales (now (now table)) (now (now s)) (now «left_keys») (now «left_sums») (now (now t)) (now «right_keys»)
-        (now «right_sums»)
+        Scales (now (now table)) (now (now s)) (now skeys) (now ssums) (now (now t)) (now tkeys) (now tsums)
         ⌝ }
     requires { ⌜
         (i < length (now (now s))) × (j < length (now (now t)))
@@ -105,8 +83,8 @@ fn exceeds(
         ⌝ }
     ensures { λ r. ⌜ r ≡ greaterAt (now (now (table .entry))) (now (now (s .entry))) i (now (now (t .entry))) j ⌝ }
 {
-    let x = weight_at(*table, *s, left_keys, left_sums, i);
-    let y = weight_at(*table, *t, right_keys, right_sums, j);
+    let x = weight_at(*table, *s, skeys, ssums, i);
+    let y = weight_at(*table, *t, tkeys, tsums, j);
     if x != y {
         return y < x;
     }
@@ -120,51 +98,26 @@ fn exceeds(
     }
     let n = arity(*table, f);
     if is_ac(*table, f) {
-        return flattened(
-            table,
-            s,
-            left_keys,
-            left_sums,
-            i + 1,
-            t,
-            right_keys,
-            right_sums,
-            j + 1,
-            f,
-            n,
-        )
-            > 0;
+        return flattened(table, s, skeys, ssums, i + 1, t, tkeys, tsums, j + 1, f, n) > 0;
     }
-    rows_greater(
-        table,
-        s,
-        left_keys,
-        left_sums,
-        i + 1,
-        t,
-        right_keys,
-        right_sums,
-        j + 1,
-        n,
-    )
+    rows_greater(table, s, skeys, ssums, i + 1, t, tkeys, tsums, j + 1, n)
 }
 
 // Are the n terms at i greater than those at j, at the first where they are not equivalent?
 pub fn rows_greater(
     table: &&[u16],
     s: &&[u16],
-    left_keys: &[u64; MAX_NODES],
-    left_sums: &[u64; SUMS],
+    skeys: &[u64; MAX_NODES],
+    ssums: &[u64; SUMS],
     i: usize,
     t: &&[u16],
-    right_keys: &[u64; MAX_NODES],
-    right_sums: &[u64; SUMS],
+    tkeys: &[u64; MAX_NODES],
+    tsums: &[u64; SUMS],
     j: usize,
     n: usize,
 ) -> bool
     requires { ⌜
-        Scales (now (now table)) (now (now s)) (now «left_keys») (now «left_sums») (now (now t)) (now «right_keys»)
-        (now «right_sums»)
+        Scales (now (now table)) (now (now s)) (now skeys) (now ssums) (now (now t)) (now tkeys) (now tsums)
         ⌝ }
     requires { ⌜
         Stands (signatureOf (now (now table))) (now (now s)) i n
@@ -176,22 +129,12 @@ pub fn rows_greater(
     let mut to = j;
     let mut left = n;
     while left > 0 {
-        if equivalent_by_keys(table, s, left_keys, at, t, right_keys, to) {
-            at += size_at(left_keys, at);
-            to += size_at(right_keys, to);
+        if equivalent_by_keys(table, s, skeys, at, t, tkeys, to) {
+            at += size_at(skeys, at);
+            to += size_at(tkeys, to);
             left -= 1;
         } else {
-            return greater(
-                table,
-                s,
-                left_keys,
-                left_sums,
-                at,
-                t,
-                right_keys,
-                right_sums,
-                to,
-            );
+            return greater(table, s, skeys, ssums, at, t, tkeys, tsums, to);
         }
     }
     false
@@ -201,19 +144,18 @@ pub fn rows_greater(
 pub fn flattened(
     table: &&[u16],
     s: &&[u16],
-    left_keys: &[u64; MAX_NODES],
-    left_sums: &[u64; SUMS],
+    skeys: &[u64; MAX_NODES],
+    ssums: &[u64; SUMS],
     i: usize,
     t: &&[u16],
-    right_keys: &[u64; MAX_NODES],
-    right_sums: &[u64; SUMS],
+    tkeys: &[u64; MAX_NODES],
+    tsums: &[u64; SUMS],
     j: usize,
     f: u16,
     n: usize,
 ) -> u8
     requires { ⌜
-        Scales (now (now table)) (now (now s)) (now «left_keys») (now «left_sums») (now (now t)) (now «right_keys»)
-        (now «right_sums»)
+        Scales (now (now table)) (now (now s)) (now skeys) (now ssums) (now (now t)) (now tkeys) (now tsums)
         ⌝ }
     requires { ⌜
         Stands (signatureOf (now (now table))) (now (now s)) i n
@@ -227,58 +169,58 @@ pub fn flattened(
         r ≡ flattenedAt (now (now (table .entry))) f (now (now (s .entry))) i (now (now (t .entry))) j n
         ⌝ }
 {
-    let mut left_high = [0u8; MAX_ELEMENTS];
-    let mut left_low = [0u8; MAX_ELEMENTS];
-    let mut left_variables = [0u8; MAX_ELEMENTS];
-    let mut right_high = [0u8; MAX_ELEMENTS];
-    let mut right_low = [0u8; MAX_ELEMENTS];
-    let mut right_variables = [0u8; MAX_ELEMENTS];
+    let mut sabove = [0u8; MAX_ELEMENTS];
+    let mut sbelow = [0u8; MAX_ELEMENTS];
+    let mut svars = [0u8; MAX_ELEMENTS];
+    let mut tabove = [0u8; MAX_ELEMENTS];
+    let mut tbelow = [0u8; MAX_ELEMENTS];
+    let mut tvars = [0u8; MAX_ELEMENTS];
     let left = parts(
         table,
         f,
         s,
-        left_keys,
+        skeys,
         i,
         n,
-        &mut left_high,
-        &mut left_low,
-        &mut left_variables,
+        &mut sabove,
+        &mut sbelow,
+        &mut svars,
     );
     let right = parts(
         table,
         f,
         t,
-        right_keys,
+        tkeys,
         j,
         n,
-        &mut right_high,
-        &mut right_low,
-        &mut right_variables,
+        &mut tabove,
+        &mut tbelow,
+        &mut tvars,
     );
     let m = join_surplus(
         table,
         s,
-        left_keys,
-        &mut left_variables,
+        skeys,
+        &mut svars,
         left.variables,
         t,
-        right_keys,
-        &mut right_variables,
+        tkeys,
+        &mut tvars,
         right.variables,
-        &mut right_high,
+        &mut tabove,
         right.above,
     );
     let high = compare(
         table,
         s,
-        left_keys,
-        left_sums,
-        &mut left_high,
+        skeys,
+        ssums,
+        &mut sabove,
         left.above,
         t,
-        right_keys,
-        right_sums,
-        &mut right_high,
+        tkeys,
+        tsums,
+        &mut tabove,
         m,
     );
     if high == 2 {
@@ -298,14 +240,14 @@ pub fn flattened(
     let low = compare(
         table,
         s,
-        left_keys,
-        left_sums,
-        &mut left_low,
+        skeys,
+        ssums,
+        &mut sbelow,
         left.below,
         t,
-        right_keys,
-        right_sums,
-        &mut right_low,
+        tkeys,
+        tsums,
+        &mut tbelow,
         right.below,
     );
     if low == 2 {
@@ -318,19 +260,18 @@ pub fn flattened(
 fn compare(
     table: &&[u16],
     s: &&[u16],
-    left_keys: &[u64; MAX_NODES],
-    left_sums: &[u64; SUMS],
+    skeys: &[u64; MAX_NODES],
+    ssums: &[u64; SUMS],
     ps: &mut [u8; MAX_ELEMENTS],
     n: usize,
     t: &&[u16],
-    right_keys: &[u64; MAX_NODES],
-    right_sums: &[u64; SUMS],
+    tkeys: &[u64; MAX_NODES],
+    tsums: &[u64; SUMS],
     qs: &mut [u8; MAX_ELEMENTS],
     m: usize,
 ) -> u8
     requires { ⌜
-        Scales (now (now table)) (now (now s)) (now «left_keys») (now «left_sums») (now (now t)) (now «right_keys»)
-        (now «right_sums»)
+        Scales (now (now table)) (now (now s)) (now skeys) (now ssums) (now (now t)) (now tkeys) (now tsums)
         ⌝ }
     requires { ⌜ OffsetsIn (now (now table)) (now (now s)) (now ps) n ⌝ }
     requires { ⌜ OffsetsIn (now (now table)) (now (now t)) (now qs) m ⌝ }
@@ -341,7 +282,7 @@ fn compare(
         (termsAt (now (now (table .entry))) (now (now (t .entry))) (now (qs .entry)) m)
         ⌝ }
 {
-    let rest = cancel(table, s, left_keys, ps, n, t, right_keys, qs, m);
+    let rest = cancel(table, s, skeys, ps, n, t, tkeys, qs, m);
     let a = rest.left;
     let b = rest.right;
     if a == 0 {
@@ -350,19 +291,7 @@ fn compare(
         }
         return 0;
     }
-    if covers(
-        table,
-        s,
-        left_keys,
-        left_sums,
-        ps,
-        a,
-        t,
-        right_keys,
-        right_sums,
-        qs,
-        b,
-    ) {
+    if covers(table, s, skeys, ssums, ps, a, t, tkeys, tsums, qs, b) {
         return 2;
     }
     0
@@ -381,19 +310,18 @@ fn past(next: usize, first: usize) -> usize
 fn covers(
     table: &&[u16],
     s: &&[u16],
-    left_keys: &[u64; MAX_NODES],
-    left_sums: &[u64; SUMS],
+    skeys: &[u64; MAX_NODES],
+    ssums: &[u64; SUMS],
     ps: &[u8; MAX_ELEMENTS],
     n: usize,
     t: &&[u16],
-    right_keys: &[u64; MAX_NODES],
-    right_sums: &[u64; SUMS],
+    tkeys: &[u64; MAX_NODES],
+    tsums: &[u64; SUMS],
     qs: &[u8; MAX_ELEMENTS],
     m: usize,
 ) -> bool
     requires { ⌜
-        Scales (now (now table)) (now (now s)) (now «left_keys») (now «left_sums») (now (now t)) (now «right_keys»)
-        (now «right_sums»)
+        Scales (now (now table)) (now (now s)) (now skeys) (now ssums) (now (now t)) (now tkeys) (now tsums)
         ⌝ }
     requires { ⌜ OffsetsIn (now (now table)) (now (now s)) (now ps) n × (0 < n) ⌝ }
     requires { ⌜ OffsetsIn (now (now table)) (now (now t)) (now qs) m ⌝ }
@@ -415,17 +343,7 @@ fn covers(
                 return false;
             }
             let i = wide_byte(ps[x]);
-            if greater(
-                table,
-                s,
-                left_keys,
-                left_sums,
-                i,
-                t,
-                right_keys,
-                right_sums,
-                j,
-            ) {
+            if greater(table, s, skeys, ssums, i, t, tkeys, tsums, j) {
                 break 'left;
             }
             x = past(next, first);

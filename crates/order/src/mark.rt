@@ -30,48 +30,22 @@ ghost use Rattle.order.specs.Compared.{Whole, SameRoot, noneOftenerAt, w
 pub fn arguments_mark(
     table: &[u16],
     s: &[u16],
-    left_keys: &[u64; MAX_NODES],
-    left_sums: &[u64; SUMS],
+    skeys: &[u64; MAX_NODES],
+    ssums: &[u64; SUMS],
     t: &[u16],
-    right_keys: &[u64; MAX_NODES],
-    right_sums: &[u64; SUMS],
+    tkeys: &[u64; MAX_NODES],
+    tsums: &[u64; SUMS],
 ) -> u8
-    requires { ⌜
-        Scales (now table) (now s) (now «left_keys») (now «left_sums») (now t) (now «right_keys»)
-        (now «right_sums»)
-        ⌝ }
+    requires { ⌜ Scales (now table) (now s) (now skeys) (now ssums) (now t) (now tkeys) (now tsums) ⌝ }
     requires { ⌜ (0 < length (now s)) × (0 < length (now t)) × (getD (now s) 0 0 ≡ getD (now t) 0 0) ⌝ }
     ensures { λ r. ⌜ r ≡ rootAt (now (table .entry)) (now (s .entry)) 0 (now (t .entry)) 0 ⌝ }
 {
     let f = s[0];
     let n = arity(table, f);
     if is_ac(table, f) {
-        return flattened(
-            &table,
-            &s,
-            left_keys,
-            left_sums,
-            1,
-            &t,
-            right_keys,
-            right_sums,
-            1,
-            f,
-            n,
-        );
+        return flattened(&table, &s, skeys, ssums, 1, &t, tkeys, tsums, 1, f, n);
     }
-    if rows_greater(
-        &table,
-        &s,
-        left_keys,
-        left_sums,
-        1,
-        &t,
-        right_keys,
-        right_sums,
-        1,
-        n,
-    ) {
+    if rows_greater(&table, &s, skeys, ssums, 1, &t, tkeys, tsums, 1, n) {
         return 3;
     }
     0
@@ -83,16 +57,16 @@ fn mark_unlike(
     table: &[u16],
     adds: &[u64; NODE_SUMS],
     s: &[u16],
-    left_keys: &[u64; MAX_NODES],
+    skeys: &[u64; MAX_NODES],
     t: &[u16],
-    right_keys: &[u64; MAX_NODES],
+    tkeys: &[u64; MAX_NODES],
 ) -> u8
     requires { ⌜
         Whole (now table) (now s) (now t) × SameRoot (now table) (now s) (now t)
         × NodeSums (signatureOf (now table)) (now adds)
         ⌝ }
     requires { ⌜
-        BothPrepared (now table) (now s) (now «left_keys») (now t) (now «right_keys»)
+        BothPrepared (now table) (now s) (now skeys) (now t) (now tkeys)
         × (false ≡ alikeAt (now table) (now s) 0 (now t) 0)
         ⌝ }
     ensures { λ r. ⌜
@@ -101,11 +75,11 @@ fn mark_unlike(
         (termOf (signatureOf (now (table .entry))) (now (t .entry)))
         ⌝ }
 {
-    let mut left_sums = [0u64; SUMS];
-    let mut right_sums = [0u64; SUMS];
-    sum_up(table, adds, s, &mut left_sums);
-    sum_up(table, adds, t, &mut right_sums);
-    let m = arguments_mark(table, s, left_keys, &left_sums, t, right_keys, &right_sums);
+    let mut ssums = [0u64; SUMS];
+    let mut tsums = [0u64; SUMS];
+    sum_up(table, adds, s, &mut ssums);
+    sum_up(table, adds, t, &mut tsums);
+    let m = arguments_mark(table, s, skeys, &ssums, t, tkeys, &tsums);
     if m > 0 {
         return m;
     }
@@ -116,21 +90,21 @@ fn mark_unlike(
 pub fn prepare_both(
     table: &[u16],
     s: &[u16],
-    left_keys: &mut [u64; MAX_NODES],
+    skeys: &mut [u64; MAX_NODES],
     t: &[u16],
-    right_keys: &mut [u64; MAX_NODES],
+    tkeys: &mut [u64; MAX_NODES],
 ) -> bool
     requires { ⌜ Whole (now table) (now s) (now t) ⌝ }
-    requires { ⌜ (length (now «left_keys») ≡ 128) × (length (now «right_keys») ≡ 128) ⌝ }
+    requires { ⌜ (length (now skeys) ≡ 128) × (length (now tkeys) ≡ 128) ⌝ }
     ensures { λ r. ⌜ r ≡ alikeAt (now (table .entry)) (now (s .entry)) 0 (now (t .entry)) 0 ⌝ }
     ensures { λ _. ⌜
-        BothPrepared (now (table .entry)) (now (s .entry)) (now («left_keys» .exit)) (now (t .entry))
-        (now («right_keys» .exit))
+        BothPrepared (now (table .entry)) (now (s .entry)) (now (skeys .exit)) (now (t .entry))
+        (now (tkeys .exit))
         ⌝ }
 {
-    prepare(table, s, left_keys);
-    prepare(table, t, right_keys);
-    equivalent(&table, &s, left_keys, 0, &t, right_keys, 0)
+    prepare(table, s, skeys);
+    prepare(table, t, tkeys);
+    equivalent(&table, &s, skeys, 0, &t, tkeys, 0)
 }
 
 // The mark of two terms of equal weight with the same root, where no variable occurs oftener in the right one.
@@ -145,12 +119,12 @@ fn mark_prepared(table: &[u16], adds: &[u64; NODE_SUMS], s: &[u16], t: &[u16]) -
         (termOf (signatureOf (now (table .entry))) (now (t .entry)))
         ⌝ }
 {
-    let mut left_keys = [0u64; MAX_NODES];
-    let mut right_keys = [0u64; MAX_NODES];
-    if prepare_both(table, s, &mut left_keys, t, &mut right_keys) {
+    let mut skeys = [0u64; MAX_NODES];
+    let mut tkeys = [0u64; MAX_NODES];
+    if prepare_both(table, s, &mut skeys, t, &mut tkeys) {
         return 9;
     }
-    mark_unlike(table, adds, s, &left_keys, t, &right_keys)
+    mark_unlike(table, adds, s, &skeys, t, &tkeys)
 }
 
 // The mark of two terms of equal weight, where no variable occurs oftener in the right one.
@@ -183,14 +157,14 @@ pub fn mark(
     table: &[u16],
     adds: &[u64; NODE_SUMS],
     s: &[u16],
-    left_totals: Totals,
+    stotal: Totals,
     t: &[u16],
-    right_totals: Totals,
+    ttotal: Totals,
 ) -> u8
     requires { ⌜ Whole (now table) (now s) (now t) ⌝ }
     requires { ⌜
-        Totalled (signatureOf (now table)) (now s) «left_totals»
-        × Totalled (signatureOf (now table)) (now t) «right_totals»
+        Totalled (signatureOf (now table)) (now s) stotal
+        × Totalled (signatureOf (now table)) (now t) ttotal
         × NodeSums (signatureOf (now table)) (now adds)
         ⌝ }
     ensures { λ r. ⌜
@@ -199,9 +173,9 @@ pub fn mark(
         (termOf (signatureOf (now (table .entry))) (now (t .entry)))
         ⌝ }
 {
-    let x = left_totals.weight;
-    let y = right_totals.weight;
-    if none_oftener(left_totals, right_totals) {
+    let x = stotal.weight;
+    let y = ttotal.weight;
+    if none_oftener(stotal, ttotal) {
         if y < x {
             return 1;
         }

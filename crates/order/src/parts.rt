@@ -133,40 +133,30 @@ fn join(
 pub fn join_surplus(
     table: &&[u16],
     s: &&[u16],
-    left_keys: &[u64; MAX_NODES],
-    left_variables: &mut [u8; MAX_ELEMENTS],
+    skeys: &[u64; MAX_NODES],
+    svars: &mut [u8; MAX_ELEMENTS],
     a: usize,
     t: &&[u16],
-    right_keys: &[u64; MAX_NODES],
-    right_variables: &mut [u8; MAX_ELEMENTS],
+    tkeys: &[u64; MAX_NODES],
+    tvars: &mut [u8; MAX_ELEMENTS],
     b: usize,
-    right_high: &mut [u8; MAX_ELEMENTS],
+    tabove: &mut [u8; MAX_ELEMENTS],
     k: usize,
 ) -> usize
-    requires { ⌜ BothPrepared (now (now table)) (now (now s)) (now «left_keys») (now (now t)) (now «right_keys») ⌝ }
-    requires { ⌜ OffsetsIn (now (now table)) (now (now s)) (now «left_variables») a ⌝ }
-    requires { ⌜ OffsetsIn (now (now table)) (now (now t)) (now «right_variables») b ⌝ }
-    requires { ⌜ OffsetsIn (now (now table)) (now (now t)) (now «right_high») k ⌝ }
+    requires { ⌜ BothPrepared (now (now table)) (now (now s)) (now skeys) (now (now t)) (now tkeys) ⌝ }
+    requires { ⌜ OffsetsIn (now (now table)) (now (now s)) (now svars) a ⌝ }
+    requires { ⌜ OffsetsIn (now (now table)) (now (now t)) (now tvars) b ⌝ }
+    requires { ⌜ OffsetsIn (now (now table)) (now (now t)) (now tabove) k ⌝ }
     requires { ⌜ k + b ≤ 64 ⌝ }
     ensures { λ r. ⌜
-        Offsets (signatureOf (now (now (table .entry)))) (now (now (t .entry))) (now («right_high» .exit)) r
-        (termsAt (now (now (table .entry))) (now (now (t .entry))) (now («right_high» .entry)) k
-        ++ leftAt (now (now (table .entry))) (now (now (s .entry))) (now («left_variables» .entry)) a
-        (now (now (t .entry))) (now («right_variables» .entry)) b .right)
+        Offsets (signatureOf (now (now (table .entry)))) (now (now (t .entry))) (now (tabove .exit)) r
+        (termsAt (now (now (table .entry))) (now (now (t .entry))) (now (tabove .entry)) k
+        ++ leftAt (now (now (table .entry))) (now (now (s .entry))) (now (svars .entry)) a
+        (now (now (t .entry))) (now (tvars .entry)) b .right)
         ⌝ }
 {
-    let rest = cancel(
-        table,
-        s,
-        left_keys,
-        left_variables,
-        a,
-        t,
-        right_keys,
-        right_variables,
-        b,
-    );
+    let rest = cancel(table, s, skeys, svars, a, t, tkeys, tvars, b);
     let m = rest.right;
-    join(*table, *t, right_high, k, right_variables, m);
+    join(*table, *t, tabove, k, tvars, m);
     k + m
 }

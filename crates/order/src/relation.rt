@@ -24,28 +24,25 @@ ghost use Rattle.order.specs.Compared.{Whole, greaterAt};
 fn greater_level(
     table: &[u16],
     s: &[u16],
-    left_totals: Totals,
-    left_keys: &[u64; MAX_NODES],
-    left_sums: &[u64; SUMS],
+    stotal: Totals,
+    skeys: &[u64; MAX_NODES],
+    ssums: &[u64; SUMS],
     t: &[u16],
-    right_totals: Totals,
-    right_keys: &[u64; MAX_NODES],
-    right_sums: &[u64; SUMS],
+    ttotal: Totals,
+    tkeys: &[u64; MAX_NODES],
+    tsums: &[u64; SUMS],
 ) -> bool
     requires { ⌜ Whole (now table) (now s) (now t) ⌝ }
+    requires { ⌜ Scales (now table) (now s) (now skeys) (now ssums) (now t) (now tkeys) (now tsums) ⌝ }
     requires { ⌜
-        Scales (now table) (now s) (now «left_keys») (now «left_sums») (now t) (now «right_keys»)
-        (now «right_sums»)
-        ⌝ }
-    requires { ⌜
-        Totalled (signatureOf (now table)) (now s) «left_totals»
-        × Totalled (signatureOf (now table)) (now t) «right_totals»
-        × («left_totals» .weight ≡ «right_totals» .weight) × (getD (now s) 0 0 ≡ getD (now t) 0 0)
+        Totalled (signatureOf (now table)) (now s) stotal
+        × Totalled (signatureOf (now table)) (now t) ttotal
+        × (stotal .weight ≡ ttotal .weight) × (getD (now s) 0 0 ≡ getD (now t) 0 0)
         ⌝ }
     ensures { λ r. ⌜ r ≡ greaterAt (now (table .entry)) (now (s .entry)) 0 (now (t .entry)) 0 ⌝ }
 {
-    if none_oftener(left_totals, right_totals) {
-        return arguments_mark(table, s, left_keys, left_sums, t, right_keys, right_sums) > 0;
+    if none_oftener(stotal, ttotal) {
+        return arguments_mark(table, s, skeys, ssums, t, tkeys, tsums) > 0;
     }
     false
 }
@@ -54,23 +51,20 @@ fn greater_level(
 fn relation_unlike(
     table: &[u16],
     s: &[u16],
-    left_totals: Totals,
-    left_keys: &[u64; MAX_NODES],
-    left_sums: &[u64; SUMS],
+    stotal: Totals,
+    skeys: &[u64; MAX_NODES],
+    ssums: &[u64; SUMS],
     t: &[u16],
-    right_totals: Totals,
-    right_keys: &[u64; MAX_NODES],
-    right_sums: &[u64; SUMS],
+    ttotal: Totals,
+    tkeys: &[u64; MAX_NODES],
+    tsums: &[u64; SUMS],
 ) -> Relation
     requires { ⌜ Whole (now table) (now s) (now t) ⌝ }
+    requires { ⌜ Scales (now table) (now s) (now skeys) (now ssums) (now t) (now tkeys) (now tsums) ⌝ }
     requires { ⌜
-        Scales (now table) (now s) (now «left_keys») (now «left_sums») (now t) (now «right_keys»)
-        (now «right_sums»)
-        ⌝ }
-    requires { ⌜
-        Totalled (signatureOf (now table)) (now s) «left_totals»
-        × Totalled (signatureOf (now table)) (now t) «right_totals»
-        × («left_totals» .weight ≡ «right_totals» .weight) × (getD (now s) 0 0 ≡ getD (now t) 0 0)
+        Totalled (signatureOf (now table)) (now s) stotal
+        × Totalled (signatureOf (now table)) (now t) ttotal
+        × (stotal .weight ≡ ttotal .weight) × (getD (now s) 0 0 ≡ getD (now t) 0 0)
         × (false ≡ alikeAt (now table) (now s) 0 (now t) 0)
         ⌝ }
     ensures { λ r. ⌜
@@ -79,30 +73,10 @@ fn relation_unlike(
         (termOf (signatureOf (now (table .entry))) (now (t .entry)))
         ⌝ }
 {
-    if greater_level(
-        table,
-        s,
-        left_totals,
-        left_keys,
-        left_sums,
-        t,
-        right_totals,
-        right_keys,
-        right_sums,
-    ) {
+    if greater_level(table, s, stotal, skeys, ssums, t, ttotal, tkeys, tsums) {
         return Relation::Greater;
     }
-    if greater_level(
-        table,
-        t,
-        right_totals,
-        right_keys,
-        right_sums,
-        s,
-        left_totals,
-        left_keys,
-        left_sums,
-    ) {
+    if greater_level(table, t, ttotal, tkeys, tsums, s, stotal, skeys, ssums) {
         return Relation::Less;
     }
     Relation::Unrelated
@@ -112,21 +86,21 @@ fn relation_unlike(
 fn relation_prepared(
     table: &[u16],
     s: &[u16],
-    left_totals: Totals,
-    left_sums: &[u64; SUMS],
+    stotal: Totals,
+    ssums: &[u64; SUMS],
     t: &[u16],
-    right_totals: Totals,
-    right_sums: &[u64; SUMS],
+    ttotal: Totals,
+    tsums: &[u64; SUMS],
 ) -> Relation
     requires { ⌜ Whole (now table) (now s) (now t) ⌝ }
     requires { ⌜
-        SummedUp (signatureOf (now table)) (now s) (now «left_sums»)
-        × SummedUp (signatureOf (now table)) (now t) (now «right_sums»)
+        SummedUp (signatureOf (now table)) (now s) (now ssums)
+        × SummedUp (signatureOf (now table)) (now t) (now tsums)
         ⌝ }
     requires { ⌜
-        Totalled (signatureOf (now table)) (now s) «left_totals»
-        × Totalled (signatureOf (now table)) (now t) «right_totals»
-        × («left_totals» .weight ≡ «right_totals» .weight) × (getD (now s) 0 0 ≡ getD (now t) 0 0)
+        Totalled (signatureOf (now table)) (now s) stotal
+        × Totalled (signatureOf (now table)) (now t) ttotal
+        × (stotal .weight ≡ ttotal .weight) × (getD (now s) 0 0 ≡ getD (now t) 0 0)
         ⌝ }
     ensures { λ r. ⌜
         r
@@ -134,22 +108,12 @@ fn relation_prepared(
         (termOf (signatureOf (now (table .entry))) (now (t .entry)))
         ⌝ }
 {
-    let mut left_keys = [0u64; MAX_NODES];
-    let mut right_keys = [0u64; MAX_NODES];
-    if prepare_both(table, s, &mut left_keys, t, &mut right_keys) {
+    let mut skeys = [0u64; MAX_NODES];
+    let mut tkeys = [0u64; MAX_NODES];
+    if prepare_both(table, s, &mut skeys, t, &mut tkeys) {
         return Relation::Equivalent;
     }
-    relation_unlike(
-        table,
-        s,
-        left_totals,
-        &left_keys,
-        left_sums,
-        t,
-        right_totals,
-        &right_keys,
-        right_sums,
-    )
+    relation_unlike(table, s, stotal, &skeys, ssums, t, ttotal, &tkeys, tsums)
 }
 
 // How two terms with these totals are related, by their marks both ways.
@@ -157,14 +121,14 @@ fn relation_marked(
     table: &[u16],
     adds: &[u64; NODE_SUMS],
     s: &[u16],
-    left_totals: Totals,
+    stotal: Totals,
     t: &[u16],
-    right_totals: Totals,
+    ttotal: Totals,
 ) -> Relation
     requires { ⌜ Whole (now table) (now s) (now t) ⌝ }
     requires { ⌜
-        Totalled (signatureOf (now table)) (now s) «left_totals»
-        × Totalled (signatureOf (now table)) (now t) «right_totals»
+        Totalled (signatureOf (now table)) (now s) stotal
+        × Totalled (signatureOf (now table)) (now t) ttotal
         × NodeSums (signatureOf (now table)) (now adds)
         ⌝ }
     ensures { λ r. ⌜
@@ -173,14 +137,14 @@ fn relation_marked(
         (termOf (signatureOf (now (table .entry))) (now (t .entry)))
         ⌝ }
 {
-    let m = mark(table, adds, s, left_totals, t, right_totals);
+    let m = mark(table, adds, s, stotal, t, ttotal);
     if m <= 6 {
         return Relation::Greater;
     }
     if m == 9 {
         return Relation::Equivalent;
     }
-    let n = mark(table, adds, t, right_totals, s, left_totals);
+    let n = mark(table, adds, t, ttotal, s, stotal);
     if n <= 6 {
         return Relation::Less;
     }
@@ -192,21 +156,21 @@ pub fn relation(
     table: &[u16],
     adds: &[u64; NODE_SUMS],
     s: &[u16],
-    left_totals: Totals,
-    left_sums: &[u64; SUMS],
+    stotal: Totals,
+    ssums: &[u64; SUMS],
     t: &[u16],
-    right_totals: Totals,
-    right_sums: &[u64; SUMS],
+    ttotal: Totals,
+    tsums: &[u64; SUMS],
 ) -> Relation
     requires { ⌜ Whole (now table) (now s) (now t) ⌝ }
     requires { ⌜
-        Totalled (signatureOf (now table)) (now s) «left_totals»
-        × Totalled (signatureOf (now table)) (now t) «right_totals»
+        Totalled (signatureOf (now table)) (now s) stotal
+        × Totalled (signatureOf (now table)) (now t) ttotal
         × NodeSums (signatureOf (now table)) (now adds)
         ⌝ }
     requires { ⌜
-        SummedUp (signatureOf (now table)) (now s) (now «left_sums»)
-        × SummedUp (signatureOf (now table)) (now t) (now «right_sums»)
+        SummedUp (signatureOf (now table)) (now s) (now ssums)
+        × SummedUp (signatureOf (now table)) (now t) (now tsums)
         ⌝ }
     ensures { λ r. ⌜
         r
@@ -214,18 +178,10 @@ pub fn relation(
         (termOf (signatureOf (now (table .entry))) (now (t .entry)))
         ⌝ }
 {
-    if left_totals.weight == right_totals.weight {
+    if stotal.weight == ttotal.weight {
         if s[0] == t[0] {
-            return relation_prepared(
-                table,
-                s,
-                left_totals,
-                left_sums,
-                t,
-                right_totals,
-                right_sums,
-            );
+            return relation_prepared(table, s, stotal, ssums, t, ttotal, tsums);
         }
     }
-    relation_marked(table, adds, s, left_totals, t, right_totals)
+    relation_marked(table, adds, s, stotal, t, ttotal)
 }

@@ -1,5 +1,5 @@
 -- Both terms are summed up; the order's relation and the margin are those of the terms.
-use mathlib.Core.Path.{refl, _∙_}
+use mathlib.Core.Path.{refl}
 use mir.Syntax.{w64}
 use mir.ValLaws.{toZ-ofZ}
 use Rattle.symbols.specs.Table.{signatureOf}
@@ -43,5 +43,5 @@ returns c =
 
 pub compare-read-spec : {M : Type 1} → statement M
 compare-read-spec =
-    tie.close (tie.spec (λ c κs. search needs) sum-up-requires sum-up-requires-2 relation-requires (λ c κs. search needs)
-    returns)
+    tie.close (tie.spec (λ c κs. search needs) sum-up-requires sum-up-requires-2 relation-requires
+    (λ c κs. search needs) returns)

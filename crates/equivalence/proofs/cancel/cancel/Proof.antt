@@ -8,11 +8,11 @@ use Rattle.equivalence.proofs.cancel.cancel.Statement.{statement}
 use Rattle.equivalence.proofs.cancel.cancel.Tie as tie
 
 abbrev Inv-loop : tie.InvT-loop
-Inv-loop table s leftKeys ps₀ n t rightKeys qs₀ m k₀ left₀ right₀ ps qs k left right =
+Inv-loop table s skeys ps₀ n t tkeys qs₀ m k₀ left₀ right₀ ps qs k left right =
     Cancelling (table .now) (s .now) (t .now) ps₀ n qs₀ m ps qs k right left
 
 abbrev μ-loop : tie.MeasureT-loop
-μ-loop table s leftKeys ps₀ n t rightKeys qs₀ m k₀ left₀ right₀ ps qs k left right = n - k
+μ-loop table s skeys ps₀ n t tkeys qs₀ m k₀ left₀ right₀ ps qs k left right = n - k
 
 loop-holds : tie.Need-loop-holds Inv-loop μ-loop
 loop-holds c = cancelling-start _ _ _ _ _ _ _ (c .pre .1 .0)

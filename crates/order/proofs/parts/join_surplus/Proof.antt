@@ -12,7 +12,7 @@ join-requires c κs =
     let a = c .before .before .before .before .before .before .before .args in
     let e = c .before .before .before .before .cancel .ensures .1 in
     let T = a .table .now .now in
-    let few = surplus-few T (a .s .now .now) (a .left-variables .now) (a .a)
+    let few = surplus-few T (a .s .now .now) (a .svars .now) (a .a)
     (c .before .before .before .before .before .before .before .pre .1 .1 .0) e in
     (omega (arith, few), offsets-own (signatureOf T) (a .t .now .now) _ _ _ e)
 

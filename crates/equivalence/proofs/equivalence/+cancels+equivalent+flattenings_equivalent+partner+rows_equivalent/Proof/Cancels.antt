@@ -34,11 +34,11 @@ cancels-claims t = (
 )
 
 abbrev cancels-Inv-loop : cancels-lts.InvT-loop
-cancels-Inv-loop table s leftKeys i t rightKeys f n offsets₀ m at₀ owed₀ left₀ offsets at owed left =
+cancels-Inv-loop table s skeys i t tkeys f n offsets₀ m at₀ owed₀ left₀ offsets at owed left =
     Going (table .now) f (s .now) (t .now) i n offsets₀ m offsets at owed left
 
 abbrev cancels-μ-loop : cancels-lts.MeasureT-loop
-cancels-μ-loop table s leftKeys i t rightKeys f n offsets₀ m at₀ owed₀ left₀ offsets at owed left = length (s .now) - at
+cancels-μ-loop table s skeys i t tkeys f n offsets₀ m at₀ owed₀ left₀ offsets at owed left = length (s .now) - at
 
 cancels-loop-holds : (t : ℕ) → cancels-lts.Need-loop-holds (cancels-claims t) (cancels-at t) cancels.Post
     cancels-Inv-loop cancels-μ-loop

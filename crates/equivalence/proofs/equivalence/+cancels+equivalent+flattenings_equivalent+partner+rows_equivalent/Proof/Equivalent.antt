@@ -8,7 +8,6 @@ use Rattle.symbols.proofs.arity.Reads as arity-reads
 use Rattle.symbols.proofs.is_ac.Reads as is-ac-reads
 use native.Mathlib.Omega.{arith}
 use mathlib.Core.Path.{sym, _∙_}
-use Prim.Native.Nat.{_-_}
 use borrow.Author.Needs.{needs}
 use Rattle.equivalence.proofs.ElementLaws.{elements-few}
 use Rattle.equivalence.proofs.AlikeLaws.{equivalent-keys, keys-roots, equivalent-elements}

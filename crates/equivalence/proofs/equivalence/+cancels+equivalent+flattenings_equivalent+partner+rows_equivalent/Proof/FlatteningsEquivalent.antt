@@ -6,7 +6,6 @@ use Rattle.equivalence.proofs.equivalence.+cancels+equivalent+flattenin
 use Rattle.equivalence.proofs.flatten.elements.Reads as elements-reads
 use native.Mathlib.Omega.{arith}
 use mathlib.Core.Path.{refl, ap, _∙_}
-use Prim.Native.Nat.{_-_}
 use Rattle.symbols.specs.Table.{signatureOf}
 use Rattle.equivalence.specs.Offsets.{elementsAlike}
 use Rattle.equivalence.proofs.OffsetLaws.{offsets-own}

@@ -32,11 +32,11 @@ partner-claims t = (
 )
 
 abbrev partner-Inv-loop : partner-lts.InvT-loop
-partner-Inv-loop table s leftKeys i t rightKeys offsets m key leaf k₀ k =
+partner-Inv-loop table s skeys i t tkeys offsets m key leaf k₀ k =
     (k ≤ m) × ((x : ℕ) → x < k → alikeAt (table .now) (s .now) i (t .now) (getD offsets x 0) ≡ false)
 
 abbrev partner-μ-loop : partner-lts.MeasureT-loop
-partner-μ-loop table s leftKeys i t rightKeys offsets m key leaf k₀ k = m - k
+partner-μ-loop table s skeys i t tkeys offsets m key leaf k₀ k = m - k
 
 partner-loop-holds : (t : ℕ) → partner-lts.Need-loop-holds (partner-claims t) (partner-at t) partner.Post
     partner-Inv-loop partner-μ-loop

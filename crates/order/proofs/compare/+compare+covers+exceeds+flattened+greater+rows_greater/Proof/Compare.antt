@@ -6,7 +6,6 @@ use Rattle.order.proofs.compare.covers.Reads as covers
 use Rattle.equivalence.proofs.cancel.cancel.Reads as cancel-reads
 use native.Mathlib.Omega.{arith}
 use mathlib.Core.Path.{sym, _∙_}
-use Prim.Native.Nat.{_-_}
 use Rattle.symbols.specs.Table.{signatureOf}
 use Rattle.equivalence.specs.Offsets.{termsAt}
 use Rattle.equivalence.proofs.OffsetLaws.{offsets-own}

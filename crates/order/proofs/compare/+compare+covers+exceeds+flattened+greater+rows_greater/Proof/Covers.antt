@@ -33,18 +33,18 @@ covers-claims t = (
 )
 
 abbrev covers-Inv-left : covers-lts.InvT-left
-covers-Inv-left table s leftKeys leftSums ps n t rightKeys rightSums qs m k x₀ j first next₀ x next =
+covers-Inv-left table s skeys ssums ps n t tkeys tsums qs m k x₀ j first next₀ x next =
     Search (λ (y : ℕ). greaterAt (table .now) (s .now) (getD ps y 0) (t .now) j) first x next
 
 abbrev covers-μ-left : covers-lts.MeasureT-left
-covers-μ-left table s leftKeys leftSums ps n t rightKeys rightSums qs m k x₀ j first next₀ x next = n + 1 - next
+covers-μ-left table s skeys ssums ps n t tkeys tsums qs m k x₀ j first next₀ x next = n + 1 - next
 
 abbrev covers-Inv-right : covers-lts.InvT-right
-covers-Inv-right table s leftKeys leftSums ps n t rightKeys rightSums qs m k₀ x₀ k x =
+covers-Inv-right table s skeys ssums ps n t tkeys tsums qs m k₀ x₀ k x =
     (k ≤ m) × (x < n) × ((y : ℕ) → y < k → someAbove (table .now) (s .now) ps n (t .now) (getD qs y 0) ≡ true)
 
 abbrev covers-μ-right : covers-lts.MeasureT-right
-covers-μ-right table s leftKeys leftSums ps n t rightKeys rightSums qs m k₀ x₀ k x = m - k
+covers-μ-right table s skeys ssums ps n t tkeys tsums qs m k₀ x₀ k x = m - k
 
 covers-right-holds : (t : ℕ) → covers-lts.Need-right-holds (covers-claims t) (covers-at t) covers.Post covers-Inv-left
     covers-μ-left covers-Inv-right covers-μ-right

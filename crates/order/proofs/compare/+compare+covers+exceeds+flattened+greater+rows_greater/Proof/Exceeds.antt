@@ -10,7 +10,6 @@ use Rattle.symbols.proofs.arity.Reads as arity-reads
 use Rattle.symbols.proofs.is_ac.Reads as is-ac-reads
 use native.Mathlib.Omega.{arith}
 use mathlib.Core.Path.{sym, _∙_}
-use Prim.Native.Nat.{_-_}
 use borrow.Author.Needs.{needs}
 use Rattle.order.proofs.MeasureLaws.{inner-rows, inner-nodes, inner-elements}
 use Rattle.order.proofs.GreaterLaws.{at-weight, at-differing, at-variable, at-elements, at-rows}

@@ -7,7 +7,6 @@ use Rattle.order.proofs.parts.join_surplus.Reads as join-surplus-reads
 use Rattle.order.proofs.parts.parts.Reads as parts-reads
 use native.Mathlib.Omega.{arith}
 use mathlib.Core.Path.{refl}
-use Prim.Native.Nat.{_-_}
 use Rattle.symbols.specs.Table.{signatureOf}
 use Rattle.equivalence.proofs.OffsetLaws.{offsets-own}
 use Rattle.order.proofs.MeasureLaws.{elements-sum}

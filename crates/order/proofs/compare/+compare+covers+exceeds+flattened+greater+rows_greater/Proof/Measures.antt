@@ -14,7 +14,7 @@ use Rattle.order.proofs.compare.greater.Reads as greater
 use Rattle.order.proofs.compare.greater.Kinds as greater-kinds
 use Rattle.order.proofs.compare.rows_greater.Reads as rows-greater
 use Rattle.order.proofs.compare.rows_greater.Kinds as rows-greater-kinds
-use Prim.Native.Nat.{_+_, _-_, _*_}
+use Prim.Native.Nat.{_+_, _*_}
 use Rattle.order.proofs.MeasureLaws.{partNodes, rowNodes, offsetNodes}
 
 abbrev pub μ-compare : Measures 12 compare-kinds.ps ℕ

@@ -7,7 +7,6 @@ use Rattle.equivalence.proofs.equivalence.equivalent_by_keys.Reads as equivalen
 use Rattle.equivalence.proofs.keys.size_at.Reads as size-at-reads
 use native.Mathlib.Omega.{arith}
 use mathlib.Core.Path.{refl, sym, _∙_}
-use Prim.Native.Nat.{_-_}
 use borrow.Author.Needs.{needs}
 use Rattle.equivalence.proofs.StepLaws.{step-next}
 use Rattle.order.proofs.MeasureLaws.{next-total}
@@ -28,11 +27,11 @@ rows-greater-claims t = (
 )
 
 abbrev rows-greater-Inv-loop : rows-greater-lts.InvT-loop
-rows-greater-Inv-loop table s leftKeys leftSums i t rightKeys rightSums j n at₀ to₀ left₀ at to left =
+rows-greater-Inv-loop table s skeys ssums i t tkeys tsums j n at₀ to₀ left₀ at to left =
     RowsGoing (table .now) (s .now) (t .now) i j n at to left
 
 abbrev rows-greater-μ-loop : rows-greater-lts.MeasureT-loop
-rows-greater-μ-loop table s leftKeys leftSums i t rightKeys rightSums j n at₀ to₀ left₀ at to left = left
+rows-greater-μ-loop table s skeys ssums i t tkeys tsums j n at₀ to₀ left₀ at to left = left
 
 rows-greater-loop-holds : (t : ℕ) → rows-greater-lts.Need-loop-holds (rows-greater-claims t) (rows-greater-at t)
     rows-greater.Post rows-greater-Inv-loop rows-greater-μ-loop

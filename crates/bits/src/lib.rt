@@ -1,27 +1,18 @@
-// The bit cursor: fields of a packed file, each with the cursor past it.
+// The bit cursor: fields and nodes of a packed file, each with the offset past it.
 ghost use mathlib.Core.Path.{_≡_};
-ghost use Prim.Native.Nat.{_+_, _*_, _/_, _^_, _<_, _≤_};
+ghost use Prim.Native.Nat.{ℕ, _+_, _*_, _/_, _^_, _<_, _≤_};
 ghost use lib.ListN.{length, getD};
 ghost use Rattle.format.specs.Layout.{maxBytes, tagWidth};
 ghost use Rattle.format.specs.Reading.{bitField, isPadding, bitSource};
 ghost use Rattle.format.specs.Reading.Reading.{got};
-ghost use Rattle.bits.specs.Cursor.{fieldReading, nodeReading, WordFits, nodeWidth, nodeWord};
+ghost use Rattle.answers.specs.Answer.{readingOf, Fits};
+ghost use Rattle.bits.specs.Cursor.{nodeReading, nodeWords, nodeWidth, nodeWord};
+use answers::Answer;
+use format::FIELD_MISSING;
 
 // An offset in bits.
 pub struct BitCursor {
     pub at: usize,
-}
-
-// A field's value and the cursor past it, or too few bits for it.
-pub enum Field {
-    Got(u16, BitCursor),
-    Missing,
-}
-
-// The word of a node and the cursor past it, or the offset of the node's field that does not fit.
-pub enum Node {
-    Got(u16, BitCursor),
-    Missing(usize),
 }
 
 // The byte at an index, and 0 past the end.
@@ -61,60 +52,71 @@ fn node_width(nine: u32) -> usize
 
 // The node at an offset that begins with these nine bits, the first of which is its tag. A variable leaves the last
 // four unused. There is no branch, since none could foresee which of the two a node is.
-fn node_of(nine: u32, tag: u32, at: usize) -> Node
+fn node_of(nine: u32, tag: u32, at: usize) -> Answer
     requires { ⌜ (nine < 512) × (tag ≡ nine / 256) × (at < 2 ^ 62) ⌝ }
     ensures { λ r. ⌜
         nodeReading at r ≡ got (record { word = nodeWord nine; offset = at + tagWidth }) (at + nodeWidth nine)
         ⌝ }
-    ensures { λ r. ⌜ WordFits r ⌝ }
+    ensures { λ r. ⌜ Fits nodeWords r ⌝ }
 {
     let unused = 4 * tag;
-    Node::Got(
-        ((nine >> unused) + 240 * tag) as u16,
-        BitCursor {
-            at: at + 9 - unused as usize,
-        },
-    )
+    Answer::Got {
+        value: ((nine >> unused) + 240 * tag) as usize,
+        next: at + 9 - unused as usize,
+    }
 }
 
 impl BitCursor {
     // The field of that width here.
-    pub fn field(self, book: &[u8], width: usize) -> Field
+    pub fn field(self, book: &[u8], width: usize) -> Answer
         requires { ⌜ (length (now book) ≤ maxBytes) × (width ≤ 16) ⌝ }
-        ensures { λ r. ⌜ fieldReading (self .at) r ≡ bitField (now (book .entry)) width (self .at) ⌝ }
+        ensures { λ r. ⌜ readingOf (λ (v : ℕ). v) r ≡ bitField (now (book .entry)) width (self .at) ⌝ }
+        ensures { λ r. ⌜ Fits (2 ^ width) r ⌝ }
     {
         let at = self.at;
         let index = at / 8;
         let skip = at % 8;
         if book.len() < index + (skip + width + 7) / 8 {
-            return Field::Missing;
+            return Answer::Fault {
+                code: FIELD_MISSING,
+                offset: at,
+            };
         }
         let value = (gather(book, index) >> (24 - skip - width)) % (1u32 << width);
-        Field::Got(value as u16, BitCursor { at: at + width })
+        Answer::Got {
+            value: value as usize,
+            next: at + width,
+        }
     }
     // The node here, in the last byte or past it.
-    fn late_node(self, book: &[u8]) -> Node
+    fn late_node(self, book: &[u8]) -> Answer
         requires { ⌜ (length (now book) ≤ maxBytes) × (length (now book) ≤ self .at / 8 + 1) ⌝ }
         ensures { λ r. ⌜ nodeReading (self .at) r ≡ bitSource (now (book .entry)) .node (self .at) ⌝ }
-        ensures { λ r. ⌜ WordFits r ⌝ }
+        ensures { λ r. ⌜ Fits nodeWords r ⌝ }
     {
         let at = self.at;
         let end = 8 * book.len();
         if end <= at {
-            return Node::Missing(at);
+            return Answer::Fault {
+                code: FIELD_MISSING,
+                offset: at,
+            };
         }
         let nine = ((byte_at(book, at / 8) * 256) >> (7 - at % 8)) % 512;
         if end - at < node_width(nine) {
-            return Node::Missing(at + 1);
+            return Answer::Fault {
+                code: FIELD_MISSING,
+                offset: at + 1,
+            };
         }
         node_of(nine, nine / 256, at)
     }
 
     // The node here. Before the last byte its bits lie in two bytes, whatever it is.
-    pub fn node(self, book: &[u8]) -> Node
+    pub fn node(self, book: &[u8]) -> Answer
         requires { ⌜ length (now book) ≤ maxBytes ⌝ }
         ensures { λ r. ⌜ nodeReading (self .at) r ≡ bitSource (now (book .entry)) .node (self .at) ⌝ }
-        ensures { λ r. ⌜ WordFits r ⌝ }
+        ensures { λ r. ⌜ Fits nodeWords r ⌝ }
     {
         let at = self.at;
         let index = at / 8;

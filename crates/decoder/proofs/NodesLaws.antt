@@ -25,7 +25,7 @@ use Rattle.format.proofs.ForestLaws.{
   variable-read,
   symbol-read,
 }
-use Rattle.reader.specs.Rule.{sideWords, rulesWords}
+use Rattle.sides.specs.Side.{sideWords, rulesWords}
 use Rattle.bits.proofs.NodeLaws.{field-next}
 use Rattle.reader.proofs.RuleLaws.{rules-step}
 

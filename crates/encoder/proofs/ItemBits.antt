@@ -16,9 +16,8 @@ use borrow.Author.Tests.{lt-ltb, le-ltb}
 use Rattle.multisets.proofs.Relations.{byTest, byOrder}
 use Rattle.format.specs.Packing.{bitsOf, itemBits}
 use Rattle.format.specs.Packing.Item.{node}
-use Rattle.files.proofs.ItemsLaws.{flat-append, items-add}
-use Rattle.files.specs.Items.{fieldWidth, itemAt, itemsFrom}
-use Rattle.encoder.specs.Items.{bitsTo}
+use Rattle.encoder.specs.Items.{fieldWidth, itemAt, itemsFrom, bitsTo}
+use Rattle.encoder.proofs.ItemsLaws.{flat-append, items-add}
 use Rattle.writer.proofs.BitsLaws.{length-bits, bits-add, bits-same}
 
 pub flat-nil : {A B : Type 0} (f : A → List B) → flatMap f [] ≡ []

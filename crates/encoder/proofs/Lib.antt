@@ -1,3 +1,4 @@
 -- Laws of encoding.
+mod ItemsLaws
 mod ItemBits
 mod EncodeLaws

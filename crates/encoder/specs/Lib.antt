@@ -1,2 +1,2 @@
--- The bits of words.
+-- The items of a file's words, and their bits.
 pub mod Items

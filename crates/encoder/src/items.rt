@@ -7,8 +7,15 @@ ghost use lib.Seq.{sets};
 ghost use Rattle.format.specs.Packing.{bitsOf, itemBits, bytesOf};
 ghost use Rattle.format.specs.Packing.Item.{node};
 ghost use Rattle.writer.specs.Writer.{Writes};
-ghost use Rattle.files.specs.Items.{fieldWidth};
-ghost use Rattle.encoder.specs.Items.{bitsTo};
+ghost use Rattle.encoder.specs.Items.{fieldWidth, bitsTo};
+use format::AC_WIDTH;
+use format::ARITY_WIDTH;
+use format::FIRST_VARIABLE;
+use format::FORM_WIDTH;
+use format::RANK_WIDTH;
+use format::RULE_COUNT_WIDTH;
+use format::SYMBOL_COUNT_WIDTH;
+use format::WEIGHT_WIDTH;
 use writer::BitWriter;
 use writer::last_bits;
 
@@ -25,17 +32,17 @@ fn field_width(i: usize) -> usize
 {
     if i < 4 {
         match i {
-            0 => 4,
-            1 => 8,
-            2 => 16,
-            _ => 10,
+            0 => FORM_WIDTH,
+            1 => SYMBOL_COUNT_WIDTH,
+            2 => WEIGHT_WIDTH,
+            _ => RULE_COUNT_WIDTH,
         }
     } else {
         match i % 4 {
-            0 => 3,
-            1 => 1,
-            2 => 16,
-            _ => 8,
+            0 => ARITY_WIDTH,
+            1 => AC_WIDTH,
+            2 => WEIGHT_WIDTH,
+            _ => RANK_WIDTH,
         }
     }
 }
@@ -44,7 +51,7 @@ fn field_width(i: usize) -> usize
 fn tag(word: u16) -> u32
     ensures { λ r. ⌜ (length (itemBits (node word)) + 4 * r ≡ 9) × (r ≤ 1) ⌝ }
 {
-    if word < 256 { 0 } else { 1 }
+    if word < FIRST_VARIABLE { 0 } else { 1 }
 }
 
 // How many bits a node takes.
@@ -60,17 +67,14 @@ fn node_value(word: u16) -> u16
         (bitsOf (length (itemBits (node word))) r ≡ itemBits (node word)) × (r < 2 ^ length (itemBits (node word)))
         ⌝ }
 {
-    if word < 256 { word } else { 16 + word % 16 }
+    if word < FIRST_VARIABLE { word } else { 16 + word % 16 }
 }
 
-// How many bits the items of all words take, where there are so many symbols.
-pub fn packed_bits(words: &[u16], symbols: usize) -> usize
-    requires { ⌜ (4 + 4 * symbols ≤ length (now words)) × (length (now words) < 2 ^ 32) ⌝ }
-    ensures { λ r. ⌜
-        r ≡ length (bitsTo (now (words .entry)) (4 + 4 * symbols) (length (now (words .entry))))
-        ⌝ }
+// How many bits the items of all words take, where there are so many symbols and the nodes begin at word `nodes`.
+pub fn packed_bits(words: &[u16], symbols: usize, nodes: usize) -> usize
+    requires { ⌜ (nodes ≡ 4 + 4 * symbols) × (nodes ≤ length (now words)) × (length (now words) < 2 ^ 32) ⌝ }
+    ensures { λ r. ⌜ r ≡ length (bitsTo (now (words .entry)) nodes (length (now (words .entry)))) ⌝ }
 {
-    let nodes = 4 + 4 * symbols;
     let mut variables = 0u32;
     let mut i = nodes;
     while i < words.len() {

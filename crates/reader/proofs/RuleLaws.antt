@@ -1,79 +1,28 @@
 -- What the code that reads the rules has to show at each of its ends.
---     words-more                 words stored one by one
---     side-stored                a side that was read
---     stored-wider               a wider bound
---     left-fault, right-read     a rule
 --     Done                       what a loop over the rules has read: done-none, done-fault, done-more, done-all
 --     SoFar                      and stored: so-far-none, so-far-fault, so-far-more, so-far-done
+--     rule-ends, rule-end        a rule among words
+--     end-fault, end-got         a reading whose end is told
+--     words-kept                 rules of which nothing is stored
 use mathlib.Core.Path.{_≡_, refl, sym, ap, _∙_}
 use mathlib.Core.List.{List, [], _∷_, _++_, append-assoc, append-nil}
 use Prim.Native.Nat.{ℕ, suc, _+_, _-_, _≤_, _<_}
 use native.Mathlib.Nat.{add-zero, sub-zero}
-use native.Mathlib.Numerals.{add-one}
 use native.Mathlib.Omega.{arith}
-use lib.ListN.{length, length-append, getD, set, take}
-use lib.Seq.{sets, take-suc, length-take-le}
+use lib.ListN.{length, length-append}
+use lib.Seq.{sets}
 use Rattle.multisets.proofs.ListLaws.{sets-append}
 use Rattle.terms.specs.Signature.{Signature}
 use Rattle.format.specs.Layout.{maxNodes}
-use Rattle.format.specs.Reading.{Reading, andThen, give, Source}
+use Rattle.format.specs.Reading.{Reading, andThen, give, Source, wordSource}
 use Rattle.format.specs.Reading.Reading.{got, fault}
 use Rattle.format.specs.Format.{Sides, forestReader, ruleReader, rulesReader}
 use Rattle.format.proofs.ReadingLaws.{andThen-give, andThen-assoc, andThen-same}
-use Rattle.bits.specs.declared.BitCursor.{BitCursor}
-use Rattle.reader.specs.declared.rule.Stored.{Stored}
-use Rattle.reader.specs.declared.rule.Stored.the-variants.{Past, Fault}
-use Rattle.reader.specs.Rule.{WordsRead, StoredWithin, sideWords, rulesWords}
-
-abbrev pub itself : List ℕ → List ℕ
-itself nodes = nodes
-
--- Words stored one by one.
-pub words-more : (words nodes : List ℕ) (index i : ℕ) → i < length nodes →
-    set (sets words index (take i nodes)) (index + i) (getD nodes i 0) ≡ sets words index (take (i + 1) nodes)
-words-more words nodes index i h =
-    let long : length (take i nodes) ≡ i = length-take-le i nodes (omega arith) in
-    rw (add-one i, take-suc nodes i 0 h, sets-append words index (take i nodes) (getD nodes i 0 ∷ []), long)
-
-pub side-stored : (reading : Reading (List ℕ)) (index : ℕ) (words nodes after : List ℕ) (end : ℕ) (next : BitCursor) →
-    got nodes (next .at) ≡ reading → end ≡ index + length nodes →
-    (index + length nodes ≤ length words → after ≡ sets words index nodes) →
-    WordsRead itself reading index words (Past end next) after
-side-stored reading index words nodes after end next read long stored = (
-  nodes,
-  sym read,
-  long,
-  λ room. stored (omega
-      arith),
-)
-
-pub stored-wider : (last wider limit : ℕ) → last ≤ wider → (r : Stored) → StoredWithin last limit r →
-    StoredWithin wider limit r
-stored-wider last wider limit h (Past end next) (e, n) = (omega arith, n)
-stored-wider last wider limit h (Fault code offset) w = tt
-
-module _ (source : Source) (σ : Signature) (at index : ℕ) (words : List ℕ) where
-  pub left-fault : (code offset : ℕ) (after : List ℕ) → forestReader source σ maxNodes 1 at ≡ fault code offset →
-      WordsRead sideWords (ruleReader source σ at) index words (Fault code offset) after
-  unfolding ruleReader
-  left-fault code offset after e = rw e
-
-  pub right-read : (middle : ℕ) (next : BitCursor) (between : List ℕ) → length between ≡ length words →
-      WordsRead itself (forestReader source σ maxNodes 1 at) index words (Past middle next) between →
-      (r : Stored) (after : List ℕ) →
-      WordsRead itself (forestReader source σ maxNodes 1 (next .at)) middle between r after →
-      WordsRead sideWords (ruleReader source σ at) index words r after
-  unfolding ruleReader
-  right-read middle next between same (left, read, length-left, stored) (Past end last) after
-      (right, read', length-right, stored') = (
-        record { left = left; right = right },
-        rw (read, read'),
-        simp length-append (omega arith),
-        λ room. stored' (omega arith) ∙
-            rw (length-left, stored (omega arith)) (sym (sets-append words index left right)),
-      )
-  right-read middle next between same (left, read, length-left, stored) (Fault code offset) after read' =
-      rw (read, read')
+use Rattle.answers.specs.declared.Answer.{Answer}
+use Rattle.answers.specs.declared.Answer.the-variants.{Got, Fault}
+use Rattle.answers.specs.Answer.{endOf}
+use Rattle.words.proofs.TermLaws.{terms-end}
+use Rattle.sides.specs.Side.{WordsRead, sideWords, rulesWords}
 
 -- ---- so many rules
 
@@ -138,22 +87,73 @@ module _ (source : Source) (σ : Signature) (count start index₀ : ℕ) (words�
         WordsRead rulesWords (rulesReader source σ count start) index₀ words₀ (Fault code offset) after
     so-far-fault code offset after e = done-fault source σ count start number at (so .0) (so .1) more code offset e
 
-    pub so-far-more : (end : ℕ) (next : BitCursor) (after : List ℕ) → length words ≡ length words₀ →
-        WordsRead sideWords (ruleReader source σ at) index words (Past end next) after →
-        SoFar source σ count (number + 1) start (next .at) index₀ end words₀ after
+    pub so-far-more : (end next : ℕ) (after : List ℕ) → length words ≡ length words₀ →
+        WordsRead sideWords (ruleReader source σ at) index words (Got end next) after →
+        SoFar source σ count (number + 1) start next index₀ end words₀ after
     so-far-more end next after same (r, read, long, stored) =
         let (done, d, i, put) = so in
         let all : length (rulesWords (done ++ (r ∷ []))) ≡ length (rulesWords done) + length (sideWords r) =
         ap length (rulesWords-snoc done r) ∙ length-append (rulesWords done) (sideWords r) in (
           done ++ (r ∷ []),
-          done-more source σ count start number at done d more r (next .at) read,
+          done-more source σ count start number at done d more r next read,
           omega arith,
           λ room. stored (omega arith) ∙ rw (i, put (omega arith), rulesWords-snoc done r)
               (sym (sets-append words₀ index₀ (rulesWords done) (sideWords r))),
         )
 
-  pub so-far-done : (index : ℕ) (cursor : BitCursor) (words : List ℕ) (number : ℕ) → number ≡ count →
-      SoFar source σ count number start (cursor .at) index₀ index words₀ words →
-      WordsRead rulesWords (rulesReader source σ count start) index₀ words₀ (Past index cursor) words
+  pub so-far-done : (index cursor : ℕ) (words : List ℕ) (number : ℕ) → number ≡ count →
+      SoFar source σ count number start cursor index₀ index words₀ words →
+      WordsRead rulesWords (rulesReader source σ count start) index₀ words₀ (Got index cursor) words
   so-far-done index cursor words number h (done, d, i, put) =
-      (done, done-all source σ count start number (cursor .at) done d (omega arith), i, put)
+      (done, done-all source σ count start number cursor done d (omega arith), i, put)
+
+-- ---- among words
+
+pub end-fault : {A : Type 0} (r : Reading A) (code offset : ℕ) → endOf r ≡ Fault code offset → r ≡ fault code offset
+end-fault (got a at) code offset e = let z : _≡_ {A = ℕ} 0 1 = cc in absurd (omega arith)
+end-fault (fault k o) code offset e = cc
+
+pub end-got : {A : Type 0} (r : Reading A) (value next : ℕ) → endOf r ≡ Got value next →
+    (a : A) × (r ≡ got a next)
+end-got (got a at) value next e = (a, cc)
+end-got (fault k o) value next e = let z : _≡_ {A = ℕ} 0 1 = cc in absurd (omega arith)
+
+module _ (words : List ℕ) (σ : Signature) (at : ℕ) where
+  abbrev side : ℕ → Answer
+  side n = endOf (forestReader (wordSource words) σ maxNodes 1 n)
+
+  abbrev rule : Answer
+  rule = endOf (ruleReader (wordSource words) σ at)
+
+  pub rule-unread : (code offset : ℕ) → side at ≡ Fault code offset → rule ≡ Fault code offset
+  unfolding ruleReader
+  rule-unread code offset e = rw (end-fault (forestReader (wordSource words) σ maxNodes 1 at) code offset e)
+
+  pub rule-sides : (value next : ℕ) → side at ≡ Got value next → rule ≡ side next
+  unfolding ruleReader
+  rule-sides value next e =
+      let (left, read) = end-got (forestReader (wordSource words) σ maxNodes 1 at) value next e in
+      rw read (go (forestReader (wordSource words) σ maxNodes 1 next) left)
+    where
+      go : (r : Reading (List ℕ)) (left : List ℕ) →
+          endOf {A = Sides} (andThen r (λ right. give (record { left = left; right = right }))) ≡ endOf r
+      go (got right last) left = refl
+      go (fault code offset) left = refl
+
+  pub rule-end : (value end : ℕ) → rule ≡ Got value end → end ≤ at + 256
+  rule-end value end e = go (side at) refl
+    where
+      go : (r : Answer) → side at ≡ r → end ≤ at + 256
+      go (Got v middle) s =
+          omega (
+            arith,
+            terms-end words σ maxNodes 1 at v middle s,
+            terms-end words σ maxNodes 1 middle value end (sym (rule-sides v middle s) ∙ e),
+          )
+      go (Fault code offset) s = let z : _≡_ {A = ℕ} 0 1 = cc (rule-unread code offset s) in absurd (omega arith)
+
+-- Nothing is stored of rules among words.
+pub words-kept : (reading : Reading (List Sides)) (words : List ℕ) →
+    WordsRead (λ (rules : List Sides). []) reading 0 words (endOf reading) words
+words-kept (got rules next) words = (rules, refl, omega arith, λ room. refl)
+words-kept (fault code offset) words = refl

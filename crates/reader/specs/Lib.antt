@@ -1,5 +1,4 @@
--- What the answers of the reader stand for.
+-- What reading from either source gives back.
+pub mod Source
 pub mod Symbol
-pub mod Term
-pub mod Rule
 pub mod File

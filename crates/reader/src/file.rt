@@ -1,139 +1,198 @@
-// Reading a whole packed file: its symbol table, its counts and its rules, or its first fault.
-ghost use Prim.Native.Nat.{_+_, _*_, _≤_, _<_};
+// Reading a whole file: its symbol table, its counts and its rules, or its first fault.
+ghost use Prim.Native.Nat.{ℕ, _^_, _≤_, _<_};
 ghost use lib.ListN.{length};
 ghost use Rattle.format.specs.Layout.{maxBytes};
-ghost use Rattle.format.specs.Files.{readBytes};
-ghost use Rattle.symbols.specs.Table.{signatureOf};
-ghost use Rattle.reader.specs.File.{restOfFile, HeadRead, RestRead, FileRead};
-use crate::rule::Stored;
-use crate::rule::put_rules;
-use crate::symbol::Step;
+ghost use Rattle.symbols.specs.Table.{signatureOf, tableWords, maxTableWords};
+ghost use Rattle.reader.specs.Source.{Reached, readSource};
+ghost use Rattle.reader.specs.File.{tableReader, countsReader, HeadRead, RestRead, FileRead};
+use answers::Answer;
+use crate::field::end;
+use crate::field::field;
+use crate::field::field_at_least;
+use crate::rule::read_rules;
 use crate::symbol::read_symbols;
-use bits::BitCursor;
-use bits::Field;
+use format::FILE_TOO_LONG;
+use format::FORM;
+use format::FORM_WIDTH;
+use format::MAX_BYTES;
+use format::NO_SYMBOLS;
+use format::RULE_COUNT_WIDTH;
+use format::SYMBOL_COUNT_WIDTH;
+use format::VARIABLE_WEIGHTLESS;
+use format::WEIGHT_WIDTH;
+use format::WRONG_FORM;
 
-// How many words a symbol table may have: w0, and four for each of 255 symbols.
-pub const TABLE_WORDS: usize = 1021;
-
-const MAX_BYTES: usize = 32768;
-
-// A file's counts of symbols and of rules and the cursor at its rules, or an error's code and offset.
+// A file's counts of symbols and of rules and the offset of its rules, or an error's code and offset.
 pub enum Head {
-    Read(usize, usize, BitCursor),
-    Fault(u8, usize),
+    Read {
+        symbols: usize,
+        rules: usize,
+        next: usize,
+    },
+    Fault {
+        code: u8,
+        offset: usize,
+    },
 }
 
-// A file's counts of symbols, rules and nodes and the cursor at its rules, or an error's code and offset.
+// A file's counts of symbols and of rules, how many words of rules were stored, and the offset of its rules, or an
+// error's code and offset.
 pub enum File {
-    Read(usize, usize, usize, BitCursor),
-    Fault(u8, usize),
+    Read {
+        symbols: usize,
+        rules: usize,
+        nodes: usize,
+        start: usize,
+    },
+    Fault {
+        code: u8,
+        offset: usize,
+    },
 }
 
 // Reads the symbols that follow a header.
 fn read_table(
     book: &[u8],
+    sheet: &[u16],
+    packed: bool,
     table: &mut [u16],
     w0: u16,
     symbols: usize,
     rules: usize,
-    cursor: BitCursor,
+    at: usize,
 ) -> Head
-    requires { ⌜ (length (now book) ≤ maxBytes) × (cursor .at ≤ 8 * length (now book)) ⌝ }
-    requires { ⌜ (4 * symbols < length (now table)) × (symbols < 256) × (rules < 1024) × (0 < w0) ⌝ }
+    requires { ⌜ (length (now book) ≤ maxBytes) × Reached packed (now book) (now sheet) 4 at ⌝ }
+    requires { ⌜ (maxTableWords ≤ length (now table)) × (symbols < 256) × (rules < 1024) × (0 < w0) ⌝ }
     ensures { λ r. ⌜
-        HeadRead (now (book .entry)) (restOfFile (now (book .entry)) w0 symbols rules (cursor .at)) r
-        (now (table .exit))
+        HeadRead packed (now (book .entry)) (now (sheet .entry))
+        (tableReader packed (now (book .entry)) (now (sheet .entry)) w0 symbols rules at) r (now (table .exit))
         ⌝ }
 {
-    match read_symbols(book, table, w0, symbols, cursor) {
-        Step::Fault(code, offset) => Head::Fault(code, offset),
-        Step::Past(start) => Head::Read(symbols, rules, start),
+    match read_symbols(book, sheet, packed, table, w0, symbols, at) {
+        Answer::Fault { code, offset } => Head::Fault { code, offset },
+        Answer::Got { value, next } => Head::Read {
+            symbols,
+            rules,
+            next,
+        },
     }
 }
 
-// Reads the header and the symbols of a packed file, the symbols into the table.
-pub fn read_head(book: &[u8], table: &mut [u16]) -> Head
-    requires { ⌜ 1021 ≤ length (now table) ⌝ }
-    ensures { λ r. ⌜ HeadRead (now (book .entry)) (readBytes (now (book .entry))) r (now (table .exit)) ⌝ }
-{
-    if MAX_BYTES < book.len() {
-        return Head::Fault(1, 0);
-    }
-    let start = BitCursor { at: 0 };
-    let Field::Got(form, count_cursor) = start.field(book, 4) else {
-        return Head::Fault(2, 0);
-    };
-    if form != 1 {
-        return Head::Fault(3, 0);
-    }
-    let Field::Got(count, w0_cursor) = count_cursor.field(book, 8) else {
-        return Head::Fault(2, count_cursor.at);
-    };
-    if count == 0 {
-        return Head::Fault(4, count_cursor.at);
-    }
-    let Field::Got(w0, rules_cursor) = w0_cursor.field(book, 16) else {
-        return Head::Fault(2, w0_cursor.at);
-    };
-    if w0 == 0 {
-        return Head::Fault(5, w0_cursor.at);
-    }
-    let Field::Got(rules, body_cursor) = rules_cursor.field(book, 10) else {
-        return Head::Fault(2, rules_cursor.at);
-    };
-    read_table(
-        book,
-        table,
-        w0,
-        symbols::wide(count),
-        symbols::wide(rules),
-        body_cursor,
-    )
-}
-
-// Reads the rules under a symbol table and what follows them, their words stored at the front.
-fn read_rest(
+// Reads the counts that follow a form, and the symbols.
+fn read_counts(
     book: &[u8],
-    table: &[u16],
-    words: &mut [u16],
-    count: usize,
-    cursor: BitCursor,
-) -> Stored
-    requires { ⌜ (length (now book) ≤ maxBytes) × (cursor .at ≤ 8 * length (now book)) ⌝ }
-    requires { ⌜ (length (now table) ≤ 1025) × (count < 1024) ⌝ }
+    sheet: &[u16],
+    packed: bool,
+    table: &mut [u16],
+    at: usize,
+) -> Head
+    requires { ⌜ (length (now book) ≤ maxBytes) × Reached packed (now book) (now sheet) 1 at ⌝ }
+    requires { ⌜ maxTableWords ≤ length (now table) ⌝ }
     ensures { λ r. ⌜
-        RestRead (now (book .entry)) (signatureOf (now (table .entry))) count (cursor .at) r
-        (now (words .entry)) (now (words .exit))
+        HeadRead packed (now (book .entry)) (now (sheet .entry))
+        (countsReader packed (now (book .entry)) (now (sheet .entry)) at) r (now (table .exit))
         ⌝ }
 {
-    let arities = symbols::arities(table);
-    match put_rules(book, &arities, words, 0, count, cursor) {
-        Stored::Fault(code, offset) => Stored::Fault(code, offset),
-        Stored::Past(end, next) => {
-            if next.is_padding(book) {
-                Stored::Past(end, next)
-            } else {
-                Stored::Fault(11, next.at)
+    match field_at_least(book, sheet, packed, at, SYMBOL_COUNT_WIDTH, 1, NO_SYMBOLS) {
+        Answer::Fault { code, offset } => Head::Fault { code, offset },
+        Answer::Got { value: symbols, next: w0_at } => {
+            match field_at_least(book, sheet, packed, w0_at, WEIGHT_WIDTH, 1, VARIABLE_WEIGHTLESS) {
+                Answer::Fault { code, offset } => Head::Fault { code, offset },
+                Answer::Got { value: w0, next: rules_at } => {
+                    match field(book, sheet, packed, rules_at, RULE_COUNT_WIDTH) {
+                        Answer::Fault { code, offset } => Head::Fault { code, offset },
+                        Answer::Got { value: rules, next } => {
+                            read_table(book, sheet, packed, table, w0 as u16, symbols, rules, next)
+                        }
+                    }
+                }
             }
         }
     }
 }
 
-// Reads a packed file, its symbols into the table and its rules into the front of the words.
-pub fn read_file(book: &[u8], table: &mut [u16], words: &mut [u16]) -> File
-    requires { ⌜ 1021 ≤ length (now table) ⌝ }
+// Reads the header and the symbols of a file, the symbols into the table.
+pub fn read_head(book: &[u8], sheet: &[u16], packed: bool, table: &mut [u16]) -> Head
+    requires { ⌜ maxTableWords ≤ length (now table) ⌝ }
     ensures { λ r. ⌜
-        FileRead (now (book .entry)) (readBytes (now (book .entry))) r (now (table .exit))
+        HeadRead packed (now (book .entry)) (now (sheet .entry))
+        (readSource packed (now (book .entry)) (now (sheet .entry))) r (now (table .exit))
+        ⌝ }
+{
+    if MAX_BYTES < book.len() {
+        return Head::Fault {
+            code: FILE_TOO_LONG,
+            offset: 0,
+        };
+    }
+    match field(book, sheet, packed, 0, FORM_WIDTH) {
+        Answer::Fault { code, offset } => Head::Fault { code, offset },
+        Answer::Got { value, next } => {
+            if value != FORM as usize {
+                return Head::Fault {
+                    code: WRONG_FORM,
+                    offset: 0,
+                };
+            }
+            read_counts(book, sheet, packed, table, next)
+        }
+    }
+}
+
+// Reads the rules under a symbol table and what follows them, their words stored at the front.
+fn read_rest(
+    book: &[u8],
+    sheet: &[u16],
+    packed: bool,
+    table: &[u16],
+    words: &mut [u16],
+    count: usize,
+    at: usize,
+) -> Answer
+    requires { ⌜ (length (now book) ≤ maxBytes) × (length (now table) ≤ maxTableWords) × (count < 1024) ⌝ }
+    requires { ⌜ ((fields : ℕ) × (fields ≤ 2 ^ 16) × Reached packed (now book) (now sheet) fields at) ⌝ }
+    ensures { λ r. ⌜
+        RestRead packed (now (book .entry)) (now (sheet .entry)) (signatureOf (now (table .entry))) count at r
         (now (words .entry)) (now (words .exit))
         ⌝ }
 {
-    match read_head(book, table) {
-        Head::Fault(code, offset) => File::Fault(code, offset),
-        Head::Read(symbols, rules, start) => {
-            let front = 1 + 4 * symbols;
-            match read_rest(book, &table[..front], words, rules, start) {
-                Stored::Fault(code, offset) => File::Fault(code, offset),
-                Stored::Past(nodes, next) => File::Read(symbols, rules, nodes, start),
+    let arities = symbols::arities(table);
+    match read_rules(book, sheet, packed, &arities, words, count, at) {
+        Answer::Fault { code, offset } => Answer::Fault { code, offset },
+        Answer::Got { value, next } => match end(book, sheet, packed, next) {
+            Answer::Fault { code, offset } => Answer::Fault { code, offset },
+            Answer::Got { value: none, next: last } => Answer::Got { value, next },
+        },
+    }
+}
+
+// Reads a file, its symbols into the table and the rules of a packed one into the front of the words.
+pub fn read_file(
+    book: &[u8],
+    sheet: &[u16],
+    packed: bool,
+    table: &mut [u16],
+    words: &mut [u16],
+) -> File
+    requires { ⌜ maxTableWords ≤ length (now table) ⌝ }
+    ensures { λ r. ⌜
+        FileRead packed (now (book .entry)) (now (sheet .entry))
+        (readSource packed (now (book .entry)) (now (sheet .entry))) r (now (table .exit))
+        (now (words .entry)) (now (words .exit))
+        ⌝ }
+{
+    match read_head(book, sheet, packed, table) {
+        Head::Fault { code, offset } => File::Fault { code, offset },
+        Head::Read { symbols, rules, next } => {
+            let front = symbols::front(symbols);
+            match read_rest(book, sheet, packed, &table[..front], words, rules, next) {
+                Answer::Fault { code, offset } => File::Fault { code, offset },
+                Answer::Got { value, next: last } => File::Read {
+                    symbols,
+                    rules,
+                    nodes: value,
+                    start: next,
+                },
             }
         }
     }

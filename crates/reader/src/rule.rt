@@ -1,126 +1,121 @@
-// Reading the rules of a packed file, their words stored one after the other.
+// Reading the rules of a file: those of a packed one are stored one after the other, those among words stay there.
 ghost use mathlib.Core.Path.{_≡_};
-ghost use mathlib.Core.List.{List};
-ghost use Prim.Native.Nat.{ℕ, _+_, _*_, _^_, _≤_, _<_};
+ghost use Prim.Native.Nat.{ℕ, _*_, _^_, _≤_, _<_};
 ghost use lib.ListN.{length};
-ghost use lib.Seq.{sets};
 ghost use Rattle.terms.specs.Signature.{Signature};
-ghost use Rattle.format.specs.Layout.{maxBytes, maxNodes};
-ghost use Rattle.format.specs.Reading.{bitSource};
-ghost use Rattle.format.specs.Format.{forestReader, ruleReader, rulesReader};
+ghost use Rattle.format.specs.Layout.{maxBytes};
+ghost use Rattle.format.specs.Reading.{bitSource, wordSource};
+ghost use Rattle.format.specs.Format.{ruleReader, rulesReader};
 ghost use Rattle.symbols.specs.Arities.{Arities};
-ghost use Rattle.reader.specs.Rule.{WordsRead, StoredWithin, sideWords, rulesWords};
-use crate::term::Side;
-use crate::term::read_side;
-use bits::BitCursor;
+ghost use Rattle.answers.specs.Answer.{endOf};
+ghost use Rattle.sides.specs.Side.{WordsRead, rulesWords};
+ghost use Rattle.reader.specs.Source.{sourceOf, Reached};
+ghost use Rattle.reader.specs.File.{storedWords};
+use answers::Answer;
+use format::NODE_WORDS;
+use sides::read_rule_into;
+use words::term;
 
-// The index past the words that were stored and the cursor past what was read, or an error's code and offset.
-pub enum Stored {
-    Past(usize, BitCursor),
-    Fault(u8, usize),
-}
-
-// Stores words from an index on, where there is room for all of them, and none where there is not.
-pub fn put_words(words: &mut [u16], index: usize, nodes: &[u16])
-    requires { ⌜ index + length (now nodes) < 2 ^ 63 ⌝ }
-    ensures { λ _. ⌜
-        (index + length (now (nodes .entry)) ≤ length (now (words .entry)) →
-        now (words .exit) ≡ sets (now (words .entry)) index (now (nodes .entry)))
-        ⌝ }
-    ensures { λ _. ⌜
-        (length (now (words .entry)) < index + length (now (nodes .entry)) → now (words .exit) ≡ now (words .entry))
-        ⌝ }
-{
-    if words.len() < index + nodes.len() {
-        return;
-    }
-    let mut i = 0;
-    while i < nodes.len() {
-        words[index + i] = nodes[i];
-        i += 1;
-    }
-}
-
-// Reads a side, its words stored from an index on.
-fn put_side(
+// Reads that many rules from bits, their words stored at the front; the value is how many words there are.
+fn read_packed_rules(
     book: &[u8],
-    arities: &[u32; 272],
+    arities: &[u32; NODE_WORDS],
     words: &mut [u16],
-    index: usize,
-    cursor: BitCursor,
-) -> Stored
-    requires { ⌜ (length (now book) ≤ maxBytes) × (cursor .at ≤ 8 * length (now book)) × (index < 2 ^ 32) ⌝ }
-    ensures { λ r. ⌜
-        ((σ : Signature) → Arities σ (now (arities .entry)) →
-        WordsRead (λ (nodes : List ℕ). nodes)
-        (forestReader (bitSource (now (book .entry))) σ maxNodes 1 (cursor .at))
-        index (now (words .entry)) r (now (words .exit)))
-        ⌝ }
-    ensures { λ r. ⌜ StoredWithin (index + 128) (8 * length (now (book .entry))) r ⌝ }
-{
-    let mut side = [0u16; 128];
-    match read_side(book, arities, &mut side, cursor) {
-        Side::Fault(code, offset) => Stored::Fault(code, offset),
-        Side::Read(count, next) => {
-            put_words(words, index, &side[..count]);
-            Stored::Past(index + count, next)
-        }
-    }
-}
-
-// Reads a rule's two sides.
-fn put_rule(
-    book: &[u8],
-    arities: &[u32; 272],
-    words: &mut [u16],
-    index: usize,
-    cursor: BitCursor,
-) -> Stored
-    requires { ⌜ (length (now book) ≤ maxBytes) × (cursor .at ≤ 8 * length (now book)) × (index + 128 < 2 ^ 32) ⌝ }
-    ensures { λ r. ⌜
-        ((σ : Signature) → Arities σ (now (arities .entry)) →
-        WordsRead sideWords (ruleReader (bitSource (now (book .entry))) σ (cursor .at))
-        index (now (words .entry)) r (now (words .exit)))
-        ⌝ }
-    ensures { λ r. ⌜ StoredWithin (index + 256) (8 * length (now (book .entry))) r ⌝ }
-{
-    match put_side(book, arities, words, index, cursor) {
-        Stored::Fault(code, offset) => Stored::Fault(code, offset),
-        Stored::Past(middle, right) => put_side(book, arities, words, middle, right),
-    }
-}
-
-// Reads that many rules.
-pub fn put_rules(
-    book: &[u8],
-    arities: &[u32; 272],
-    words: &mut [u16],
-    index: usize,
     count: usize,
-    cursor: BitCursor,
-) -> Stored
-    requires { ⌜
-        (length (now book) ≤ maxBytes) × (cursor .at ≤ 8 * length (now book)) × (index + 256 * count < 2 ^ 32)
-        ⌝ }
+    at: usize,
+) -> Answer
+    requires { ⌜ (length (now book) ≤ maxBytes) × (at ≤ 8 * length (now book)) × (count < 1024) ⌝ }
     ensures { λ r. ⌜
         ((σ : Signature) → Arities σ (now (arities .entry)) →
-        WordsRead rulesWords (rulesReader (bitSource (now (book .entry))) σ count (cursor .at))
-        index (now (words .entry)) r (now (words .exit)))
+        WordsRead rulesWords (rulesReader (bitSource (now (book .entry))) σ count at)
+        0 (now (words .entry)) r (now (words .exit)))
         ⌝ }
-    ensures { λ r. ⌜ StoredWithin (index + 256 * count) (8 * length (now (book .entry))) r ⌝ }
 {
-    let mut end = index;
-    let mut here = cursor;
+    let mut end = 0;
+    let mut here = at;
     let mut number = 0;
     while number < count {
-        match put_rule(book, arities, words, end, here) {
-            Stored::Fault(code, offset) => return Stored::Fault(code, offset),
-            Stored::Past(next_end, next) => {
-                end = next_end;
+        match read_rule_into(book, arities, words, end, here) {
+            Answer::Fault { code, offset } => return Answer::Fault { code, offset },
+            Answer::Got { value, next } => {
+                end = value;
                 here = next;
             }
         }
         number += 1;
     }
-    Stored::Past(end, here)
+    Answer::Got {
+        value: end,
+        next: here,
+    }
+}
+
+// Reads a rule's two sides from words.
+fn read_word_rule(arities: &[u32; NODE_WORDS], sheet: &[u16], at: usize) -> Answer
+    requires { ⌜ at ≤ 2 ^ 19 ⌝ }
+    requires { ⌜ ((σ : Signature) × Arities σ (now arities)) ⌝ }
+    ensures { λ r. ⌜
+        ((σ : Signature) → Arities σ (now (arities .entry)) →
+        r ≡ endOf (ruleReader (wordSource (now (sheet .entry))) σ at))
+        ⌝ }
+{
+    match term(arities, sheet, at) {
+        Answer::Fault { code, offset } => Answer::Fault { code, offset },
+        Answer::Got { value, next } => term(arities, sheet, next),
+    }
+}
+
+// Reads that many rules from words.
+fn read_word_rules(
+    arities: &[u32; NODE_WORDS],
+    sheet: &[u16],
+    count: usize,
+    at: usize,
+) -> Answer
+    requires { ⌜ (at ≤ 2 ^ 16) × (count < 1024) ⌝ }
+    requires { ⌜ ((σ : Signature) × Arities σ (now arities)) ⌝ }
+    ensures { λ r. ⌜
+        ((σ : Signature) → Arities σ (now (arities .entry)) →
+        r ≡ endOf (rulesReader (wordSource (now (sheet .entry))) σ count at))
+        ⌝ }
+{
+    let mut here = at;
+    let mut number = 0;
+    while number < count {
+        match read_word_rule(arities, sheet, here) {
+            Answer::Fault { code, offset } => return Answer::Fault { code, offset },
+            Answer::Got { value, next } => here = next,
+        }
+        number += 1;
+    }
+    Answer::Got {
+        value: 0,
+        next: here,
+    }
+}
+
+// Reads that many rules; the value is how many words are stored.
+pub fn read_rules(
+    book: &[u8],
+    sheet: &[u16],
+    packed: bool,
+    arities: &[u32; NODE_WORDS],
+    words: &mut [u16],
+    count: usize,
+    at: usize,
+) -> Answer
+    requires { ⌜ (length (now book) ≤ maxBytes) × (count < 1024) ⌝ }
+    requires { ⌜ ((fields : ℕ) × (fields ≤ 2 ^ 16) × Reached packed (now book) (now sheet) fields at) ⌝ }
+    requires { ⌜ ((σ : Signature) × Arities σ (now arities)) ⌝ }
+    ensures { λ r. ⌜
+        ((σ : Signature) → Arities σ (now (arities .entry)) →
+        WordsRead (storedWords packed)
+        (rulesReader (sourceOf packed (now (book .entry)) (now (sheet .entry))) σ count at)
+        0 (now (words .entry)) r (now (words .exit)))
+        ⌝ }
+{
+    if packed {
+        return read_packed_rules(book, arities, words, count, at);
+    }
+    read_word_rules(arities, sheet, count, at)
 }

@@ -1,127 +1,142 @@
-// The symbol table of a packed file: a symbol's entry, and all of them into a table.
+// The symbol table of a rule file: a symbol's entry, and all of them into a table.
 ghost use mathlib.Core.Path.{_≡_};
 ghost use mathlib.Core.List.{List, []};
-ghost use Prim.Native.Nat.{ℕ, suc, _+_, _*_, _<_, _≤_};
-ghost use lib.ListN.{length, getD};
+ghost use mathlib.Core.Bool.{not};
+ghost use Prim.Native.Nat.{ℕ, _+_, _≤_, _<_};
+ghost use lib.ListN.{length};
 ghost use Rattle.terms.specs.Signature.{Symbol};
-ghost use Rattle.format.specs.Layout.{maxBytes};
-ghost use Rattle.format.specs.Reading.{bitSource, give};
-ghost use Rattle.format.specs.Format.{symbolReader, symbolsReader};
-ghost use Rattle.symbols.specs.Table.{symbolsAt};
-ghost use Rattle.reader.specs.Symbol.{entryReading, RankFits, onward, TakenBy, TakenPast};
-use bits::BitCursor;
-use bits::Field;
+ghost use Rattle.format.specs.Errors.{rankTaken};
+ghost use Rattle.format.specs.Layout.{maxBytes, rankWidth};
+ghost use Rattle.format.specs.Format.{heldBy, symbolReader, symbolsReader};
+ghost use Rattle.symbols.specs.Table.{symbolsAt, tableWords};
+ghost use Rattle.answers.specs.Answer.{readingOf, Fits};
+ghost use Rattle.reader.specs.Source.{sourceOf, tested};
+ghost use Rattle.reader.specs.Symbol.{TakenBy, SymbolPut, SymbolsPut};
+use answers::Answer;
+use crate::field::field;
+use crate::field::field_at_least;
+use format::AC_NOT_BINARY;
+use format::AC_WIDTH;
+use format::ARITY_WIDTH;
+use format::RANKS;
+use format::RANK_TAKEN;
+use format::RANK_WIDTH;
+use format::WEIGHT_INADMISSIBLE;
+use format::WEIGHT_WIDTH;
 
-// A symbol's arity, AC mark, weight and rank and the cursor past it, or an error's code and offset.
-pub enum Entry {
-    Got(u16, u16, u16, u16, BitCursor),
-    Fault(u8, usize),
-}
-
-// The cursor past what was read, or an error's code and offset.
-pub enum Step {
-    Past(BitCursor),
-    Fault(u8, usize),
-}
-
-// The symbol here, after symbols whose ranks are taken.
-fn read_symbol(book: &[u8], w0: u16, taken: &[bool], cursor: BitCursor) -> Entry
-    requires { ⌜ (length (now book) ≤ maxBytes) × (length (now taken) ≡ 256) ⌝ }
+// The rank here, which is to be none of those taken.
+fn read_rank(
+    book: &[u8],
+    sheet: &[u16],
+    packed: bool,
+    taken: &[bool; RANKS],
+    at: usize,
+) -> Answer
+    requires { ⌜ length (now book) ≤ maxBytes ⌝ }
     ensures { λ r. ⌜
-        ((earlier : List Symbol)
-        → TakenBy earlier (now (taken .entry))
-        → entryReading r ≡ symbolReader (bitSource (now (book .entry))) w0 earlier (cursor .at))
+        ((earlier : List Symbol) → TakenBy earlier (now (taken .entry)) →
+        readingOf (λ (v : ℕ). v) r
+        ≡ tested (sourceOf packed (now (book .entry)) (now (sheet .entry))) rankWidth
+        (λ (rank : ℕ). not (heldBy earlier rank)) rankTaken at)
         ⌝ }
-    ensures { λ r. ⌜ RankFits r ⌝ }
+    ensures { λ r. ⌜ Fits 256 r ⌝ }
 {
-    let Field::Got(arity, ac_cursor) = cursor.field(book, 3) else {
-        return Entry::Fault(2, cursor.at);
-    };
-    let Field::Got(ac, weight_cursor) = ac_cursor.field(book, 1) else {
-        return Entry::Fault(2, ac_cursor.at);
-    };
-    if !symbols::binary_if_ac(arity, ac) {
-        return Entry::Fault(6, cursor.at);
+    match field(book, sheet, packed, at, RANK_WIDTH) {
+        Answer::Fault { code, offset } => Answer::Fault { code, offset },
+        Answer::Got { value, next } => {
+            if taken[value] {
+                return Answer::Fault {
+                    code: RANK_TAKEN,
+                    offset: at,
+                };
+            }
+            Answer::Got { value, next }
+        }
     }
-    let Field::Got(weight, rank_cursor) = weight_cursor.field(book, 16) else {
-        return Entry::Fault(2, weight_cursor.at);
-    };
-    if weight < symbols::least_weight(w0, arity) {
-        return Entry::Fault(7, weight_cursor.at);
-    }
-    let Field::Got(rank, next) = rank_cursor.field(book, 8) else {
-        return Entry::Fault(2, rank_cursor.at);
-    };
-    if taken[symbols::wide(rank)] {
-        return Entry::Fault(8, rank_cursor.at);
-    }
-    Entry::Got(arity, ac, weight, rank, next)
 }
 
 // Reads the symbol of that number into the table, after those before it, and marks its rank.
-fn next_symbol(
+fn read_symbol(
     book: &[u8],
+    sheet: &[u16],
+    packed: bool,
     table: &mut [u16],
-    taken: &mut [bool],
+    taken: &mut [bool; RANKS],
+    w0: u16,
     number: usize,
-    cursor: BitCursor,
-) -> Step
-    requires { ⌜
-        (length (now book) ≤ maxBytes)
-        × (4 * number + 4 < length (now table))
-        × (length (now taken) ≡ 256)
-        × TakenBy (symbolsAt (now table) 0 number) (now taken)
-        ⌝ }
+    at: usize,
+) -> Answer
+    requires { ⌜ (length (now book) ≤ maxBytes) × (number < 256) × (tableWords (number + 1) ≤ length (now table)) ⌝ }
+    requires { ⌜ TakenBy (symbolsAt (now table) 0 number) (now taken) × (length (now taken) ≡ 256) ⌝ }
     ensures { λ r. ⌜
-        ((n : ℕ)
-        → symbolsReader (bitSource (now (book .entry))) (getD (now (table .entry)) 0 0) (suc n)
-        (symbolsAt (now (table .entry)) 0 number) (cursor .at)
-        ≡ onward r
-        (symbolsReader (bitSource (now (book .entry))) (getD (now (table .entry)) 0 0) n
-        (symbolsAt (now (table .exit)) 0 (number + 1))))
+        SymbolPut
+        (symbolReader (sourceOf packed (now (book .entry)) (now (sheet .entry))) w0
+        (symbolsAt (now (table .entry)) 0 number) at)
+        (symbolsAt (now (table .entry)) 0 number) r (symbolsAt (now (table .exit)) 0 (number + 1)) (now (taken .exit))
         ⌝ }
-    ensures { λ r. ⌜ getD (now (table .exit)) 0 0 ≡ getD (now (table .entry)) 0 0 ⌝ }
-    ensures { λ r. ⌜ TakenPast r (symbolsAt (now (table .exit)) 0 (number + 1)) (now (taken .exit)) ⌝ }
+    ensures { λ r. ⌜ length (now (taken .exit)) ≡ 256 ⌝ }
 {
-    let w0 = table[0];
-    match read_symbol(book, w0, taken, cursor) {
-        Entry::Fault(code, offset) => Step::Fault(code, offset),
-        Entry::Got(arity, ac, weight, rank, next) => {
-            table[4 * number + 1] = arity;
-            table[4 * number + 2] = ac;
-            table[4 * number + 3] = weight;
-            table[4 * number + 4] = rank;
-            taken[symbols::wide(rank)] = true;
-            Step::Past(next)
-        }
+    let arity_read = field(book, sheet, packed, at, ARITY_WIDTH);
+    let Answer::Got { value, next: ac_at } = arity_read else {
+        return arity_read;
+    };
+    let arity = value as u16;
+    let ac_read = field(book, sheet, packed, ac_at, AC_WIDTH);
+    let Answer::Got { value, next: weight_at } = ac_read else {
+        return ac_read;
+    };
+    let ac = value as u16;
+    if !symbols::binary_if_ac(arity, ac) {
+        return Answer::Fault {
+            code: AC_NOT_BINARY,
+            offset: at,
+        };
     }
+    let least = symbols::wide(symbols::least_weight(w0, arity));
+    let weight_read =
+        field_at_least(book, sheet, packed, weight_at, WEIGHT_WIDTH, least, WEIGHT_INADMISSIBLE);
+    let Answer::Got { value, next: rank_at } = weight_read else {
+        return weight_read;
+    };
+    let weight = value as u16;
+    let rank_read = read_rank(book, sheet, packed, taken, rank_at);
+    let Answer::Got { value: rank, next: _ } = rank_read else {
+        return rank_read;
+    };
+    symbols::put_symbol(table, number, arity, ac, weight, rank as u16);
+    taken[rank] = true;
+    rank_read
 }
 
-// Reads that many symbols into the table, after w0.
+// Reads that many symbols into the table, with w0.
 pub fn read_symbols(
     book: &[u8],
+    sheet: &[u16],
+    packed: bool,
     table: &mut [u16],
     w0: u16,
     count: usize,
-    cursor: BitCursor,
-) -> Step
-    requires { ⌜ (length (now book) ≤ maxBytes) × (4 * count < length (now table)) ⌝ }
+    at: usize,
+) -> Answer
+    requires { ⌜ (length (now book) ≤ maxBytes) × (count < 256) × (tableWords count ≤ length (now table)) ⌝ }
     ensures { λ r. ⌜
-        symbolsReader (bitSource (now (book .entry))) w0 count [] (cursor .at)
-        ≡ onward r (give (symbolsAt (now (table .exit)) 0 count))
+        SymbolsPut w0 count
+        (symbolsReader (sourceOf packed (now (book .entry)) (now (sheet .entry))) w0 count [] at) r (now (table .exit))
         ⌝ }
-    ensures { λ r. ⌜ getD (now (table .exit)) 0 0 ≡ w0 ⌝ }
 {
-    table[0] = w0;
-    let mut taken = [false; 256];
-    let mut here = cursor;
+    let mut taken = [false; RANKS];
+    let mut here = at;
     let mut number = 0;
     while number < count {
-        match next_symbol(book, table, &mut taken, number, here) {
-            Step::Fault(code, offset) => return Step::Fault(code, offset),
-            Step::Past(next) => here = next,
+        match read_symbol(book, sheet, packed, table, &mut taken, w0, number, here) {
+            Answer::Fault { code, offset } => return Answer::Fault { code, offset },
+            Answer::Got { value, next } => here = next,
         }
         number += 1;
     }
-    Step::Past(here)
+    symbols::put_variable_weight(table, w0);
+    Answer::Got {
+        value: 0,
+        next: here,
+    }
 }

@@ -1,6 +1,4 @@
 -- How many arguments the nodes call for, by their words, as a reader looks it up.
--- Renders: 01, "Book layout": "A side is read node by node, each symbol calling for its arguments"; "a node is one
--- word, the symbol number or 256 plus the variable number"; "Reading a book", 9.
 use mathlib.Core.Path.{_≡_}
 use mathlib.Core.List.{List}
 use mathlib.Core.Bool.{cond}

@@ -1,11 +1,10 @@
 -- The symbol table as words, and the signature that it means.
--- Renders: 01, "Book layout": "K symbols, numbered from 0: arity 3 bits, AC mark 1 bit, weight 16 bits, rank 8 bits",
--- after w0, one word each.
-use mathlib.Core.List.{List, [], _∷_}
+use mathlib.Core.List.{List, [], _∷_, _++_, map}
 use Prim.Native.Nat.{ℕ, suc, zero, _+_, _*_, _/_}
 use lib.Dec.{eqb}
 use lib.ListN.{length, getD}
 use Rattle.terms.specs.Signature.{Symbol, Signature}
+use Rattle.format.specs.Packing.{itemWord, symbolItems}
 
 -- The symbol of number f; words past the end are zeros.
 abbrev pub symbolAt : List ℕ → ℕ → Symbol
@@ -21,6 +20,26 @@ abbrev pub symbolsAt : List ℕ → ℕ → ℕ → List Symbol
 symbolsAt table f zero = []
 symbolsAt table f (suc n) = symbolAt table f ∷ symbolsAt table (suc f) n
 
+-- The weight of a variable.
+abbrev pub weightOf : List ℕ → ℕ
+weightOf table = getD table 0 0
+
 -- w0 is the first word; the last symbol's words may be fewer than four.
 unfoldable pub signatureOf : List ℕ → Signature
-signatureOf table = record { w0 = getD table 0 0; symbols = symbolsAt table 0 ((length table + 2) / 4) }
+signatureOf table = record { w0 = weightOf table; symbols = symbolsAt table 0 ((length table + 2) / 4) }
+
+-- How many words the entries of so many symbols take.
+unfoldable pub entryWords : ℕ → ℕ
+entryWords n = 4 * n
+
+-- How many words a table of so many symbols has, and how many one may have.
+unfoldable pub tableWords : ℕ → ℕ
+tableWords n = 1 + entryWords n
+
+abbrev pub maxTableWords : ℕ
+maxTableWords = 1021
+
+-- The words of the symbols in a sheet.
+abbrev pub symbolsWords : List Symbol → List ℕ
+symbolsWords [] = []
+symbolsWords (s ∷ ss) = map itemWord (symbolItems s) ++ symbolsWords ss

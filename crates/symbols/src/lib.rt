@@ -5,8 +5,20 @@ ghost use Prim.Native.Nat.{_+_, _*_, _^_, _≤_, _<_};
 ghost use lib.Dec.{eqb, ltb};
 ghost use lib.ListN.{length, getD};
 ghost use Rattle.terms.specs.Signature.{symbolOf, leastWeight};
-ghost use Rattle.symbols.specs.Table.{signatureOf};
+ghost use Rattle.symbols.specs.Table.{signatureOf, maxTableWords};
 ghost use Rattle.symbols.specs.Arities.{cellOf, Arities, Between};
+use format::FIRST_VARIABLE;
+use format::NODE_WORDS;
+
+mod entries;
+pub use crate::entries::TABLE_WORDS;
+pub use crate::entries::count;
+pub use crate::entries::entry_words;
+pub use crate::entries::front;
+pub use crate::entries::put_symbol;
+pub use crate::entries::put_variable_weight;
+pub use crate::entries::put_word;
+pub use crate::entries::write_symbols;
 
 // The word as an index.
 pub fn wide(word: u16) -> usize
@@ -91,7 +103,7 @@ pub fn has_symbol(table: &[u16], f: u16) -> bool
 fn cell(table: &[u16], word: u16) -> u32
     ensures { λ r. ⌜ r ≡ cellOf (signatureOf (now (table .entry))) word ⌝ }
 {
-    if 256 <= word {
+    if FIRST_VARIABLE <= word {
         return 1;
     }
     if has_symbol(table, word) {
@@ -101,7 +113,7 @@ fn cell(table: &[u16], word: u16) -> u32
 }
 
 // Writes the cells of the words from one to another.
-fn put_cells(table: &[u16], cells: &mut [u32; 272], from: u16, to: u16)
+fn put_cells(table: &[u16], cells: &mut [u32; NODE_WORDS], from: u16, to: u16)
     requires { ⌜ (from ≤ to) × (to ≤ 272) × (length (now cells) ≡ 272) ⌝ }
     ensures { λ _. ⌜
         Between (signatureOf (now (table .entry))) from to (now (cells .entry)) (now (cells .exit))
@@ -116,14 +128,13 @@ fn put_cells(table: &[u16], cells: &mut [u32; 272], from: u16, to: u16)
 }
 
 // The cells of all node words.
-pub fn arities(table: &[u16]) -> [u32; 272]
-    requires { ⌜ length (now table) ≤ 1025 ⌝ }
+pub fn arities(table: &[u16]) -> [u32; NODE_WORDS]
+    requires { ⌜ length (now table) ≤ maxTableWords ⌝ }
     ensures { λ r. ⌜ Arities (signatureOf (now (table .entry))) r ⌝ }
 {
-    let mut cells = [0u32; 272];
-    let count = (table.len() + 2) / 4;
-    put_cells(table, &mut cells, 0, count as u16);
-    put_cells(table, &mut cells, 256, 272);
+    let mut cells = [0u32; NODE_WORDS];
+    put_cells(table, &mut cells, 0, count(table) as u16);
+    put_cells(table, &mut cells, FIRST_VARIABLE, NODE_WORDS as u16);
     cells
 }
 
@@ -135,7 +146,7 @@ fn widest(cell: u32) -> usize
 }
 
 // The cell of a node word.
-pub fn cell_at(cells: &[u32; 272], word: u16) -> usize
+pub fn cell_at(cells: &[u32; NODE_WORDS], word: u16) -> usize
     requires { ⌜ word < 272 ⌝ }
     ensures { λ r. ⌜ (r ≡ getD (now (cells .entry)) word 0) × (r < 2 ^ 32) ⌝ }
 {

@@ -1,3 +1,1 @@
--- What reading from words gives back.
-pub mod Cursor
-pub mod Term
+-- What words stand for is the format's.

@@ -1,3 +1,108 @@
-// Reading a term from words.
-pub mod cursor;
-pub mod term;
+// Reading from words: a field, a term, and the term that all the words make up.
+ghost use mathlib.Core.Path.{_≡_};
+ghost use Prim.Native.Nat.{ℕ, _+_, _*_, _^_, _≤_};
+ghost use lib.ListN.{take};
+ghost use Rattle.terms.specs.Signature.{Signature};
+ghost use Rattle.format.specs.Layout.{maxNodes};
+ghost use Rattle.format.specs.Reading.{wordBelow, wordSource};
+ghost use Rattle.format.specs.Format.{forestReader};
+ghost use Rattle.format.specs.Files.{readTerm};
+ghost use Rattle.symbols.specs.Arities.{Arities};
+ghost use Rattle.answers.specs.Answer.{readingOf, Fits, answerOf, endOf};
+use answers::Answer;
+use answers::pack_fault;
+use answers::pack_value;
+use answers::unpack;
+use format::FIELD_MISSING;
+use format::MAX_NODES;
+use format::NODE_WORDS;
+use format::NO_SUCH_SYMBOL;
+use format::TOO_MANY_NODES;
+use format::WORDS_LEFT_OVER;
+use format::WORD_TOO_WIDE;
+
+// The word at an offset, which is to be below a bound.
+pub fn word_below(words: &[u16], at: usize, bound: usize) -> Answer
+    ensures { λ r. ⌜ readingOf (λ (v : ℕ). v) r ≡ wordBelow (now (words .entry)) bound at ⌝ }
+    ensures { λ r. ⌜ Fits bound r ⌝ }
+{
+    if words.len() <= at {
+        return Answer::Fault {
+            code: FIELD_MISSING,
+            offset: at,
+        };
+    }
+    let word = symbols::wide(words[at]);
+    if bound <= word {
+        return Answer::Fault {
+            code: WORD_TOO_WIDE,
+            offset: at,
+        };
+    }
+    Answer::Got {
+        value: word,
+        next: at + 1,
+    }
+}
+
+// Reads as many terms as are owed, and gives their end. It reads a node and calls itself for what is then owed, with
+// one node fewer allowed. The answer is a number, so that this call in last place is a jump.
+fn terms(words: &&[u16], arities: &[u32; NODE_WORDS], at: usize, allowed: usize, owed: usize) -> usize
+    requires { ⌜ (at + allowed ≤ 2 ^ 32) × (owed + 2 ^ 32 * allowed ≤ 2 ^ 60) ⌝ }
+    ensures { λ r. ⌜
+        ((σ : Signature) → Arities σ (now (arities .entry)) →
+        answerOf r ≡ endOf (forestReader (wordSource (now (now (words .entry)))) σ allowed owed at))
+        ⌝ }
+{
+    if owed == 0 {
+        return pack_value(0, at);
+    }
+    if allowed == 0 {
+        return pack_fault(TOO_MANY_NODES, at);
+    }
+    if words.len() <= at {
+        return pack_fault(FIELD_MISSING, at);
+    }
+    let word = words[at];
+    if NODE_WORDS <= symbols::wide(word) {
+        return pack_fault(WORD_TOO_WIDE, at);
+    }
+    let cell = symbols::cell_at(arities, word);
+    if cell == 0 {
+        return pack_fault(NO_SUCH_SYMBOL, at);
+    }
+    terms(words, arities, at + 1, allowed - 1, (cell - 1) + (owed - 1))
+}
+
+// Reads one term, and gives its end.
+pub fn term(arities: &[u32; NODE_WORDS], words: &[u16], at: usize) -> Answer
+    requires { ⌜ at ≤ 2 ^ 20 ⌝ }
+    ensures { λ r. ⌜
+        ((σ : Signature) → Arities σ (now (arities .entry)) →
+        r ≡ endOf (forestReader (wordSource (now (words .entry))) σ maxNodes 1 at))
+        ⌝ }
+{
+    unpack(terms(&words, arities, at, MAX_NODES, 1))
+}
+
+// Reads the term that all the words make up; the value is how many words there are.
+pub fn whole_term(arities: &[u32; NODE_WORDS], words: &[u16]) -> Answer
+    ensures { λ r. ⌜
+        ((σ : Signature) → Arities σ (now (arities .entry)) →
+        readingOf (λ (n : ℕ). take n (now (words .entry))) r ≡ readTerm σ (now (words .entry)))
+        ⌝ }
+{
+    match term(arities, words, 0) {
+        Answer::Fault { code, offset } => Answer::Fault { code, offset },
+        Answer::Got { value, next } => {
+            if next == words.len() {
+                Answer::Got { value: next, next }
+            } else {
+                Answer::Fault {
+                    code: WORDS_LEFT_OVER,
+                    offset: next,
+                }
+            }
+        }
+    }
+}

@@ -12,7 +12,7 @@ use Rattle.bits.proofs.BitCursor.late_node.Tie as tie
 returns : tie.Need-returns
 returns c =
     let a = c .before .before .args in
-    (sym (node-none (a .book .now) (a .self .at) (c .if1 .taken)), tt)
+    (sym (node-none (a .book .now) (a .self .at) (c .if1 .taken)), omega arith)
 
 returns-2 : tie.Need-returns-2
 returns-2 c =
@@ -26,7 +26,7 @@ returns-2 c =
     let nine : spelt (bitAt (a .book .now)) (a .self .at) 9 ≡ byte .result * 256 / 2 ^ (7 - a .self .at % 8) % 512 =
     rw (byte .ensures .0) (field-one (a .book .now) small (a .self .at) past) in
     let width = c .before .node-width .ensures in
-    (sym (node-cut (a .book .now) (a .self .at) _ nine (omega arith) (omega (arith, width))), tt)
+    (sym (node-cut (a .book .now) (a .self .at) _ nine (omega arith) (omega (arith, width))), omega arith)
 
 returns-3 : tie.Need-returns-3
 returns-3 c =

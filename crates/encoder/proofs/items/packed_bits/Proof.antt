@@ -1,3 +1,4 @@
+-- The loop keeps: nine bits for each node so far, less four for each variable.
 use borrow.Author.Needs.{needs}
 use native.Mathlib.Omega.{arith}
 use Prim.Native.Nat.{ℕ, _+_, _-_, _*_, _≤_}
@@ -10,8 +11,8 @@ use Rattle.encoder.proofs.items.packed_bits.Tie as tie
 
 abbrev Inv-loop : tie.InvT-loop
 Inv-loop words symbols nodes variables₀ i₀ variables i =
-    (4 + 4 * symbols ≤ i) × (i ≤ length words) × (variables ≤ i) ×
-    (length (bitsTo words (4 + 4 * symbols) i) + 4 * variables ≡ 38 + 28 * symbols + 9 * (i - (4 + 4 * symbols)))
+    (nodes ≤ i) × (i ≤ length words) × (variables ≤ i) ×
+    (length (bitsTo words nodes i) + 4 * variables ≡ 38 + 28 * symbols + 9 * (i - nodes))
 
 abbrev μ-loop : tie.MeasureT-loop
 μ-loop words symbols nodes variables₀ i₀ variables i = length words - i
@@ -19,13 +20,14 @@ abbrev μ-loop : tie.MeasureT-loop
 loop-holds : tie.Need-loop-holds Inv-loop μ-loop
 loop-holds c =
     let a = c .before .args in
-    let n = 4 + 4 * a .symbols in
-    (omega arith, omega arith, omega arith, omega (arith, fields-length (a .words .now) n (a .symbols) (omega arith)))
+    let n = a .nodes in
+    let all = ap (λ (k : ℕ). length (bitsTo (a .words .now) n k)) (c .before .pre .0) in
+    (omega arith, omega arith, omega arith, omega (arith, all, fields-length (a .words .now) n (a .symbols) (omega arith)))
 
 loop-again : tie.Need-loop-again Inv-loop μ-loop
 loop-again c =
     let a = c .before .before .before .before .before .args in
-    let n = 4 + 4 * a .symbols in
+    let n = a .nodes in
     let i = c .before .before .before .loop .i in (
       omega arith,
       omega arith,
@@ -43,11 +45,11 @@ returns : tie.Need-returns Inv-loop μ-loop
 returns c =
     let a = c .before .before .before .args in
     let e : c .before .loop .i ≡ length (a .words .now) = omega arith in
-    omega (arith, ap (λ (k : ℕ). length (bitsTo (a .words .now) (4 + 4 * a .symbols) k)) e, c .before .loop .inv .3)
+    omega (arith, ap (λ (k : ℕ). length (bitsTo (a .words .now) (a .nodes) k)) e, c .before .loop .inv .3)
 
 pub packed-bits-spec : {M : Type 1} → statement M
 packed-bits-spec =
-    tie.close (tie.spec Inv-loop μ-loop (λ c. search needs) (λ c. search needs) loop-holds (λ c. search needs)
+    tie.close (tie.spec Inv-loop μ-loop loop-holds (λ c. search needs)
     (λ c. search needs) (λ c κs. search needs) (λ c. search needs) (λ c. search needs) (λ c. search needs) loop-again
     (λ c. search needs) (λ c. search needs) (λ c. search needs) (λ c. search needs) (λ c. search needs)
     (λ c. search needs) (λ c. search needs) (λ c. search needs) returns)

@@ -4,7 +4,7 @@ use Prim.Native.Nat.{ℕ, _+_, _-_, _≤_, _<_}
 use mathlib.Core.Path.{_≡_, refl, ap, _∙_}
 use lib.ListN.{length, getD}
 use Rattle.format.specs.Packing.{bitsOf, itemBits}
-use Rattle.files.specs.Items.{fieldWidth}
+use Rattle.encoder.specs.Items.{fieldWidth}
 use Rattle.writer.specs.Writer.{Writes}
 use Rattle.writer.proofs.BitsLaws.{bits-last}
 use Rattle.writer.proofs.WriterLaws.{writes-none, pending-lt}

@@ -1,44 +1,66 @@
-use mathlib.Core.Path.{sym, _∙_}
+-- The rules are read, and the source says what may stand after them.
+use mathlib.Core.Path.{sym}
 use Rattle.symbols.specs.Table.{signatureOf}
-use Rattle.reader.proofs.FileLaws.{rest-unread, rest-unpadded, rest-read}
+use Rattle.reader.proofs.FileLaws.{rest-unread, rest-unended, rest-read}
 use borrow.Author.Needs.{needs}
 use Rattle.reader.proofs.file.read_rest.Statement.{statement}
 use Rattle.reader.proofs.file.read_rest.Tie as tie
+
+read-rules-requires : tie.Need-read-rules-requires
+read-rules-requires c κs =
+    let c7 = c .before .before .before .before .before .before .before in
+    ((c7 .pre .0 .0, c7 .pre .0 .2), (c7 .pre .1, (signatureOf (c7 .args .table .now), c .before .before .arities .ensures)))
 
 returns : tie.Need-returns
 returns c =
     let c5 = c .before .before .before .before .before in
     let c8 = c5 .before .before .before in
-    let c12 = c8 .before .before .before .before in
-    let a = c12 .args in
-    rest-unread (a .book .now) (signatureOf (a .table .now)) (a .count) (a .cursor .at) _ _ (rw (c .before .code .given
-    .1) at (c5 .put-rules .ensures .0 (signatureOf (a .table .now)) (c8 .arities .ensures)))
+    let c13 = c8 .before .before .before .before .before in
+    let a = c13 .args in
+    let σ = signatureOf (a .table .now) in
+    rest-unread (a .packed) (a .book .now) (a .sheet .now) σ (a .count) (a .at) _ _
+    (rw (c .before .code .given .1) at (c5 .read-rules .ensures σ (c8 .arities .ensures)))
 
 returns-2 : tie.Need-returns-2
 returns-2 c =
     let c3 = c .before .before .before in
-    let c7 = c3 .before .before .before .before in
-    let c10 = c7 .before .before .before in
-    let c14 = c10 .before .before .before .before in
-    let a = c14 .args in
-    rest-read (a .book .now) (signatureOf (a .table .now)) (a .count) (a .cursor .at) _ _ (a .words .now) (c7
-    .put-rules .last .1 .1 .0) (rw (c3 .end .given .1) at (c7 .put-rules .ensures .0 (signatureOf (a .table .now))
-    (c10 .arities .ensures)))
-    (sym (c .before .is-padding .ensures) ∙ c .if1 .taken)
+    let c5 = c3 .before .before in
+    let c9 = c5 .before .before .before .before in
+    let c12 = c9 .before .before .before in
+    let c17 = c12 .before .before .before .before .before in
+    let a = c17 .args in
+    let σ = signatureOf (a .table .now) in
+    rest-unended (a .packed) (a .book .now) (a .sheet .now) σ (a .count) (a .at) _ _ (a .words .now)
+    (c9 .read-rules .last .1 .1 .1 .1 .0) (rw (c5 .value .given .1) at (c9 .read-rules .ensures σ (c12 .arities .ensures))) _ _
+    (sym (rw (c .before .code2 .given .1) at (c3 .end .ensures)))
 
 returns-3 : tie.Need-returns-3
 returns-3 c =
     let c3 = c .before .before .before in
-    let c7 = c3 .before .before .before .before in
-    let c10 = c7 .before .before .before in
-    let c14 = c10 .before .before .before .before in
-    let a = c14 .args in
-    let read = rw (c3 .end .given .1) at (c7 .put-rules .ensures .0 (signatureOf (a .table .now)) (c10 .arities
-    .ensures)) in
-    rest-unpadded (a .book .now) (signatureOf (a .table .now)) (a .count) (a .cursor .at) (read .0) _ (read .1) (sym (c
-    .before .is-padding .ensures) ∙ c .if1 .left)
+    let c5 = c3 .before .before in
+    let c9 = c5 .before .before .before .before in
+    let c12 = c9 .before .before .before in
+    let c17 = c12 .before .before .before .before .before in
+    let a = c17 .args in
+    let σ = signatureOf (a .table .now) in
+    rest-read (a .packed) (a .book .now) (a .sheet .now) σ (a .count) (a .at) _ _ (a .words .now)
+    (c9 .read-rules .last .1 .1 .1 .1 .0) (rw (c5 .value .given .1) at (c9 .read-rules .ensures σ (c12 .arities .ensures))) _
+    (sym (rw (c .before .none .given .1) at (c3 .end .ensures)))
 
 pub read-rest-spec : {M : Type 1} → statement M
 read-rest-spec =
-    tie.close (tie.spec (λ c κs. search needs) (λ c κs. search needs) (λ c. search needs) (λ c. search needs)
-    (λ c κs. search needs) (λ c. search needs) returns (λ c. search needs) returns-2 (λ c. search needs) returns-3)
+    tie.close
+    (tie.spec
+    (λ c κs. search needs)
+    read-rules-requires
+    (λ c. search needs)
+    (λ c. search needs)
+    (λ c κs. search needs)
+    (λ c. search needs)
+    (λ c. search needs)
+    (λ c. search needs)
+    returns
+    (λ c. search needs)
+    returns-2
+    (λ c. search needs)
+    returns-3)

@@ -1,195 +1,208 @@
-use mathlib.Core.Path.{_≡_}
-use mathlib.Core.Bool.{true, false}
-use lib.ListN.{getD}
-use borrow.Author.Tests.{not-true, not-false, le-leb, lt-leb}
+-- The four fields are read and tested in the order of the definition; the entry is stored after the earlier ones.
+use mathlib.Core.Path.{_≡_, refl, sym, ap, _∙_}
+use mathlib.Core.List.{List}
+use mathlib.Core.Bool.{Bool, true, false, not}
+use Prim.Native.Nat.{ℕ}
 use native.Mathlib.Omega.{arith}
-use mathlib.Core.Path.{sym, ap, _∙_}
-use Rattle.format.specs.Format.{symbolReader}
-use Rattle.bits.specs.Cursor.{fieldReading}
-use Rattle.bits.proofs.NodeLaws.{field-lt}
+use lib.Dec.{eqb}
+use lib.ListN.{length-set}
+use Rattle.terms.specs.Signature.{Symbol}
+use Rattle.symbols.specs.Table.{symbolsAt}
+use Rattle.reader.specs.Source.{sourceOf}
+use Rattle.reader.proofs.SymbolLaws.{symbol-parts, taken-put}
 use borrow.Author.Needs.{needs}
 use Rattle.reader.proofs.symbol.read_symbol.Statement.{statement}
 use Rattle.reader.proofs.symbol.read_symbol.Tie as tie
 
+not-true : (b : Bool) → not b ≡ true → b ≡ false
+not-true false e = refl
+not-true true e = sym e
+
+not-false : (b : Bool) → not b ≡ false → b ≡ true
+not-false true e = refl
+not-false false e = sym e
+
 returns : tie.Need-returns
-unfolding symbolReader
-returns c = (
-  (λ earlier h.
-      rw (sym (c .before .before .field .ensures) ∙ ap (fieldReading _) (c .enum-told .given .1))),
-  tt,
-)
+returns c =
+    let c6 = c .before .before .before .before .before .before in
+    let a = c6 .args in
+    let arity = sym (rw (c .enum-told .given .1) at (c .before .before .field .ensures .0)) in
+    let parts = symbol-parts (sourceOf (a .packed) (a .book .now) (a .sheet .now)) (a .w0) (symbolsAt (a .table .now) 0 (a .number)) (a .at) in
+    (rw (c .enum-told .given .1) (parts ∙ rw arity), c6 .pre .1 .1)
+
+cast-arity : tie.Need-cast-arity
+cast-arity c =
+    let c3 = c .before .before .before in
+    omega (arith, rw (c .before .arity-read .given .1) at (c3 .field .ensures .1))
 
 returns-2 : tie.Need-returns-2
-unfolding symbolReader
-returns-2 c = (
-  (λ earlier h.
-      rw (
-        sym (c .before .before .before .before .before .before .field .ensures) ∙ ap (fieldReading _) (c .before .before
-            .before .before .arity .given .1),
-        sym (c .before .before .field2 .ensures) ∙ ap (fieldReading _) (c .enum-told2 .given .1),
-      )),
-  tt,
-)
+returns-2 c =
+    let c4 = c .before .before .before .before in
+    let c6 = c4 .before .before in
+    let c10 = c6 .before .before .before .before in
+    let a = c10 .args in
+    let arity = sym (rw (c4 .arity-read .given .1) at (c6 .field .ensures .0)) in
+    let ac = sym (rw (c .enum-told2 .given .1) at (c .before .before .field2 .ensures .0)) in
+    let parts = symbol-parts (sourceOf (a .packed) (a .book .now) (a .sheet .now)) (a .w0) (symbolsAt (a .table .now) 0 (a .number)) (a .at) in
+    (rw (c .enum-told2 .given .1) (parts ∙ rw (arity, ac)), c10 .pre .1 .1)
+
+cast-ac : tie.Need-cast-ac
+cast-ac c =
+    let c3 = c .before .before .before in
+    omega (arith, rw (c .before .ac-read .given .1) at (c3 .field2 .ensures .1))
 
 returns-3 : tie.Need-returns-3
-unfolding symbolReader
-returns-3 c = (
-  (λ earlier h.
-      rw (
-        sym (c .before .before .before .before .before .before .before .before .before .field .ensures) ∙ ap
-            (fieldReading _) (c .before .before .before .before .before .before .before .arity .given .1),
-        sym (c .before .before .before .before .before .field2 .ensures) ∙ ap (fieldReading _) (c .before .before
-            .before .ac .given .1),
-        sym (c .before .binary-if-ac .ensures) ∙ not-true _ (c .if1 .taken),
-      )),
-  tt,
-)
-
-returns-4 : tie.Need-returns-4
-unfolding symbolReader
-returns-4 c = (
-  (λ earlier h.
-      rw (
-        sym (c .before .before .before .before .before .before .before .before .before .before .before .before .field
-            .ensures) ∙ ap (fieldReading _) (c .before .before .before .before .before .before .before .before .before
-            .before .arity .given .1),
-        sym (c .before .before .before .before .before .before .before .before .field2 .ensures) ∙ ap (fieldReading _)
-            (c .before .before .before .before .before .before .ac .given .1),
-        sym (c .before .before .before .before .binary-if-ac .ensures) ∙ not-false _ (c .before .before .before .if1
-            .left),
-        sym (c .before .before .field3 .ensures) ∙ ap (fieldReading _) (c .enum-told3 .given .1),
-      )),
-  tt,
-)
-
-returns-5 : tie.Need-returns-5
-unfolding symbolReader
-returns-5 c = (
-  (λ earlier h.
-      rw (
-        sym (c .before .before .before .before .before .before .before .before .before .before .before .before .before
-            .before .before .field .ensures) ∙ ap (fieldReading _) (c .before .before .before .before .before .before
-            .before .before .before .before .before .before .before .arity .given .1),
-        sym (c .before .before .before .before .before .before .before .before .before .before .before .field2 .ensures)
-            ∙ ap (fieldReading _) (c .before .before .before .before .before .before .before .before .before .ac
-            .given .1),
-        sym (c .before .before .before .before .before .before .before .binary-if-ac .ensures) ∙ not-false _ (c .before
-            .before .before .before .before .before .if1 .left),
-        sym (c .before .before .before .before .before .field3 .ensures) ∙ ap (fieldReading _) (c .before .before
-            .before .weight .given .1),
-        lt-leb _ _ (rw (c .before .least-weight .ensures) at (c .if2 .taken)),
-      )),
-  tt,
-)
-
-returns-6 : tie.Need-returns-6
-unfolding symbolReader
-returns-6 c =
-    let c3 = c .before .before .before in
-    let c6 = c3 .before .before .before in
-    let c8 = c6 .before .before in
-    let c10 = c8 .before .before in
-    let c12 = c10 .before .before in
-    let c14 = c12 .before .before in
-    let c16 = c14 .before .before in
-    let c18 = c16 .before .before in (
-      (λ earlier h.
-          rw (
-            sym (c18 .field .ensures) ∙ ap (fieldReading _) (c16 .arity .given .1),
-            sym (c14 .field2 .ensures) ∙ ap (fieldReading _) (c12 .ac .given .1),
-            sym (c10 .binary-if-ac .ensures) ∙ not-false _ (c8 .before .if1 .left),
-            sym (c8 .field3 .ensures) ∙ ap (fieldReading _) (c6 .weight .given .1),
-            le-leb _ _ (rw (c3 .before .least-weight .ensures) at (c3 .if2 .left)),
-            sym (c .before .before .field4 .ensures) ∙ ap (fieldReading _) (c .enum-told4 .given .1),
-          )),
-      tt,
-    )
-
-shared-slice-read-if3 : tie.Need-shared-slice-read-if3
-unfolding symbolReader
-shared-slice-read-if3 c =
+returns-3 c =
     let c3 = c .before .before .before in
     let c5 = c3 .before .before in
-    let c15 = c5 .before .before .before .before .before .before .before .before .before .before in
-    let c24 = c15 .before .before .before .before .before .before .before .before .before in
-    omega (
-      arith,
-      c24 .pre .1,
-      c .before .wide .ensures .0,
-      field-lt (c24 .args .book .now) 8 _ _ _ (sym (c5 .field4 .ensures)
-          ∙ ap (fieldReading _) (c3 .rank .given .1)),
-    )
+    let c7 = c5 .before .before in
+    let c9 = c7 .before .before in
+    let c13 = c9 .before .before .before .before in
+    let a = c13 .args in
+    let arity = sym (rw (c7 .arity-read .given .1) at (c9 .field .ensures .0)) in
+    let ac = sym (rw (c3 .ac-read .given .1) at (c5 .field2 .ensures .0)) in
+    let parts = symbol-parts (sourceOf (a .packed) (a .book .now) (a .sheet .now)) (a .w0) (symbolsAt (a .table .now) 0 (a .number)) (a .at) in
+    (parts ∙ rw (arity, ac, sym (c .before .binary-if-ac .ensures) ∙ not-true _ (c .if1 .taken)), c13 .pre .1 .1)
 
-returns-7 : tie.Need-returns-7
-unfolding symbolReader
-returns-7 c =
-    let c4 = c .before .before .before .before in
-    let c6 = c4 .before .before in
+returns-4 : tie.Need-returns-4
+returns-4 c =
+    let c3 = c .before .before .before in
+    let c4 = c3 .before in
+    let c5 = c4 .before in
+    let c6 = c5 .before in
     let c8 = c6 .before .before in
     let c10 = c8 .before .before in
     let c12 = c10 .before .before in
     let c14 = c12 .before .before in
-    let c16 = c14 .before .before in
-    let c18 = c16 .before .before in
-    let c20 = c18 .before .before in
-    let c22 = c20 .before .before in
-    let c25 = c22 .before .before .before in (
-      (λ earlier h.
-          let t : getD (c25 .args .taken .now) (c .before .before .wide .result) false ≡ true = c .if3 .taken in
-          rw (
-            sym (c22 .field .ensures) ∙ ap (fieldReading _) (c20 .arity .given .1),
-            sym (c18 .field2 .ensures) ∙ ap (fieldReading _) (c16 .ac .given .1),
-            sym (c14 .binary-if-ac .ensures) ∙ not-false _ (c12 .before .if1 .left),
-            sym (c12 .field3 .ensures) ∙ ap (fieldReading _) (c10 .weight .given .1),
-            le-leb _ _ (rw (c8 .least-weight .ensures) at (c6 .before .if2 .left)),
-            sym (c6 .field4 .ensures) ∙ ap (fieldReading _) (c4 .rank .given .1),
-            sym (h (c4 .rank .given .0 .0) (omega (
-              arith,
-              field-lt (c25 .args .book .now) 8 _ _ _
-                  (sym (c6 .field4 .ensures) ∙ ap (fieldReading _) (c4 .rank .given .1)),
-            ))) ∙ rw (c .before .before .wide .ensures .0) at t,
-          )),
-      tt,
-    )
+    let c18 = c14 .before .before .before .before in
+    let a = c18 .args in
+    let arity = sym (rw (c12 .arity-read .given .1) at (c14 .field .ensures .0)) in
+    let ac = sym (rw (c8 .ac-read .given .1) at (c10 .field2 .ensures .0)) in
+    let binary = sym (c6 .binary-if-ac .ensures) ∙ not-false _ (c5 .if1 .left) in
+    let least = c3 .wide .ensures .0 ∙ c4 .least-weight .ensures in
+    let weight = sym (rw (c .enum-told3 .given .1, least) at (c .before .before .field-at-least .ensures .0)) in
+    let parts = symbol-parts (sourceOf (a .packed) (a .book .now) (a .sheet .now)) (a .w0) (symbolsAt (a .table .now) 0 (a .number)) (a .at) in
+    (rw (c .enum-told3 .given .1) (parts ∙ rw (arity, ac, binary, weight)), c18 .pre .1 .1)
 
-returns-8 : tie.Need-returns-8
-unfolding symbolReader
-returns-8 c =
+cast-weight : tie.Need-cast-weight
+cast-weight c =
+    let c3 = c .before .before .before in
+    omega (arith, rw (c .before .weight-read .given .1) at (c3 .field-at-least .ensures .1))
+
+read-rank-requires : tie.Need-read-rank-requires
+read-rank-requires c κs =
+    let c20 = c .before .before .before .before .before .before .before .before .before .before .before .before .before .before .before .before .before .before .before .before in
+    c20 .pre .0 .0
+
+returns-5 : tie.Need-returns-5
+returns-5 c =
+    let c5 = c .before .before .before .before .before in
+    let c7 = c5 .before .before in
+    let c8 = c7 .before in
+    let c9 = c8 .before in
+    let c10 = c9 .before in
+    let c11 = c10 .before in
+    let c13 = c11 .before .before in
+    let c15 = c13 .before .before in
+    let c17 = c15 .before .before in
+    let c19 = c17 .before .before in
+    let c23 = c19 .before .before .before .before in
+    let a = c23 .args in
+    let arity = sym (rw (c17 .arity-read .given .1) at (c19 .field .ensures .0)) in
+    let ac = sym (rw (c13 .ac-read .given .1) at (c15 .field2 .ensures .0)) in
+    let binary = sym (c11 .binary-if-ac .ensures) ∙ not-false _ (c10 .if1 .left) in
+    let least = c8 .wide .ensures .0 ∙ c9 .least-weight .ensures in
+    let weight = sym (rw (c5 .weight-read .given .1, least) at (c7 .field-at-least .ensures .0)) in
+    let rank = sym (rw (c .enum-told4 .given .1) at (c .before .before .read-rank .ensures .0 (symbolsAt (a .table .now) 0 (a .number)) (c23 .pre .1 .0))) in
+    let parts = symbol-parts (sourceOf (a .packed) (a .book .now) (a .sheet .now)) (a .w0) (symbolsAt (a .table .now) 0 (a .number)) (a .at) in
+    (rw (c .enum-told4 .given .1) (parts ∙ rw (arity, ac, binary, weight, rank)), c23 .pre .1 .1)
+
+cast-put-symbol : tie.Need-cast-put-symbol
+cast-put-symbol c =
     let c4 = c .before .before .before .before in
-    let c6 = c4 .before .before in
-    let c8 = c6 .before .before in
-    let c10 = c8 .before .before in
+    omega (arith, rw (c .before .before .rank-read .given .1) at (c4 .read-rank .ensures .1))
+
+put-symbol-requires : tie.Need-put-symbol-requires
+put-symbol-requires c κs =
+    let c25 = c .before .before .before .before .before .before .before .before .before .before .before .before .before .before .before .before .before .before .before .before .before .before .before .before .before in
+    (c25 .pre .0 .1, c25 .pre .0 .2)
+
+element-write-taken : tie.Need-element-write-taken
+element-write-taken c =
+    let c5 = c .before .before .before .before .before in
+    let c7 = c5 .before .before in
+    omega (arith, rw (c5 .rank-read .given .1) at (c7 .read-rank .ensures .1))
+
+returns-6 : tie.Need-returns-6
+returns-6 c =
+    let c5 = c .before .before .before .before .before in
+    let c7 = c5 .before .before in
+    let c10 = c7 .before .before .before in
     let c12 = c10 .before .before in
-    let c14 = c12 .before .before in
-    let c16 = c14 .before .before in
+    let c13 = c12 .before in
+    let c14 = c13 .before in
+    let c15 = c14 .before in
+    let c16 = c15 .before in
     let c18 = c16 .before .before in
     let c20 = c18 .before .before in
     let c22 = c20 .before .before in
-    let c25 = c22 .before .before .before in (
-      (λ earlier h.
-          let t : getD (c25 .args .taken .now) (c .before .before .wide .result) false ≡ false = c .if3 .left in
-          rw (
-            sym (c22 .field .ensures) ∙ ap (fieldReading _) (c20 .arity .given .1),
-            sym (c18 .field2 .ensures) ∙ ap (fieldReading _) (c16 .ac .given .1),
-            sym (c14 .binary-if-ac .ensures) ∙ not-false _ (c12 .before .if1 .left),
-            sym (c12 .field3 .ensures) ∙ ap (fieldReading _) (c10 .weight .given .1),
-            le-leb _ _ (rw (c8 .least-weight .ensures) at (c6 .before .if2 .left)),
-            sym (c6 .field4 .ensures) ∙ ap (fieldReading _) (c4 .rank .given .1),
-            sym (h (c4 .rank .given .0 .0) (omega (
-              arith,
-              field-lt (c25 .args .book .now) 8 _ _ _
-                  (sym (c6 .field4 .ensures) ∙ ap (fieldReading _) (c4 .rank .given .1)),
-            ))) ∙ rw (c .before .before .wide .ensures .0) at t,
-          )),
-      omega (
-        arith,
-        field-lt (c25 .args .book .now) 8 _ _ _ (sym (c6 .field4 .ensures) ∙ ap (fieldReading _) (c4 .rank .given .1)),
+    let c24 = c22 .before .before in
+    let c28 = c24 .before .before .before .before in
+    let a = c28 .args in
+    let earlier = symbolsAt (a .table .now) 0 (a .number) in
+    let arity = sym (rw (c22 .arity-read .given .1) at (c24 .field .ensures .0)) in
+    let ac = sym (rw (c18 .ac-read .given .1) at (c20 .field2 .ensures .0)) in
+    let binary = sym (c16 .binary-if-ac .ensures) ∙ not-false _ (c15 .if1 .left) in
+    let least = c13 .wide .ensures .0 ∙ c14 .least-weight .ensures in
+    let weight = sym (rw (c10 .weight-read .given .1, least) at (c12 .field-at-least .ensures .0)) in
+    let rank = sym (rw (c5 .rank-read .given .1) at (c7 .read-rank .ensures .0 earlier (c28 .pre .1 .0))) in
+    let small = rw (c5 .rank-read .given .1) at (c7 .read-rank .ensures .1) in
+    let parts = symbol-parts (sourceOf (a .packed) (a .book .now) (a .sheet .now)) (a .w0) earlier (a .at) in
+    let s : Symbol = record {
+      arity = c22 .arity-read .given .0 .0;
+      ac = eqb (c18 .ac-read .given .0 .0) 1;
+      weight = c10 .weight-read .given .0 .0;
+      precedence = c5 .rank-read .given .0 .0;
+    } in
+    (
+      (
+        s,
+        parts ∙ rw (arity, ac, binary, weight, rank),
+        c .before .before .put-symbol .ensures,
+        rw (c .before .before .put-symbol .ensures) (taken-put earlier s (a .taken .now) (c28 .pre .1 .1) small (c28 .pre .1 .0)),
       ),
+      simp length-set (c28 .pre .1 .1),
     )
 
 pub read-symbol-spec : {M : Type 1} → statement M
 read-symbol-spec =
-    tie.close (tie.spec (λ c κs. search needs) (λ c. search needs) (λ c. search needs) returns (λ c κs. search needs)
-    (λ c. search needs) (λ c. search needs) returns-2 (λ c κs. search needs) returns-3 (λ c κs. search needs)
-    (λ c. search needs) (λ c. search needs) returns-4 (λ c κs. search needs) returns-5 (λ c κs. search needs)
-    (λ c. search needs) (λ c. search needs) returns-6 (λ c κs. search needs) shared-slice-read-if3 returns-7 returns-8)
+    tie.close
+    (tie.spec
+    (λ c κs. search needs)
+    (λ c. search needs)
+    (λ c. search needs)
+    returns
+    cast-arity
+    (λ c κs. search needs)
+    (λ c. search needs)
+    (λ c. search needs)
+    returns-2
+    cast-ac
+    (λ c κs. search needs)
+    returns-3
+    (λ c κs. search needs)
+    (λ c κs. search needs)
+    (λ c κs. search needs)
+    (λ c. search needs)
+    (λ c. search needs)
+    returns-4
+    cast-weight
+    read-rank-requires
+    (λ c. search needs)
+    (λ c. search needs)
+    returns-5
+    cast-put-symbol
+    put-symbol-requires
+    element-write-taken
+    (λ c. search needs)
+    returns-6)

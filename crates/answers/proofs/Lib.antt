@@ -1,0 +1,2 @@
+-- Laws of reading that both sources share.
+pub mod CellLaws

@@ -1,0 +1,2 @@
+-- What an answer of reading stands for.
+pub mod Answer

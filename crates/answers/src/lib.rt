@@ -1,0 +1,51 @@
+// The answer of reading, a value or the first fault, and an answer as one number.
+ghost use mathlib.Core.Path.{_≡_};
+ghost use Prim.Native.Nat.{_^_, _<_};
+ghost use Rattle.answers.specs.declared.Answer.the-variants.{Got, Fault};
+ghost use Rattle.answers.specs.Answer.{answerOf};
+
+// A value and the offset past what was read, or an error's code and offset. A value that is nothing is 0.
+pub enum Answer {
+    Got {
+        value: usize,
+        next: usize,
+    },
+    Fault {
+        code: u8,
+        offset: usize,
+    },
+}
+
+// A value and the next offset as one number.
+pub fn pack_value(value: usize, next: usize) -> usize
+    requires { ⌜ (value < 256) × (next < 2 ^ 48) ⌝ }
+    ensures { λ r. ⌜ answerOf r ≡ Got value next ⌝ }
+{
+    (next * 256 + value) * 64
+}
+
+// A fault as one number.
+pub fn pack_fault(code: u8, offset: usize) -> usize
+    requires { ⌜ (0 < code) × (code < 64) × (offset < 2 ^ 48) ⌝ }
+    ensures { λ r. ⌜ answerOf r ≡ Fault code offset ⌝ }
+{
+    offset * 16384 + code as usize
+}
+
+// The answer that a number stands for.
+pub fn unpack(number: usize) -> Answer
+    ensures { λ r. ⌜ r ≡ answerOf number ⌝ }
+{
+    let code = number % 64;
+    let offset = number / 16384;
+    if code == 0 {
+        return Answer::Got {
+            value: number / 64 % 256,
+            next: offset,
+        };
+    }
+    Answer::Fault {
+        code: code as u8,
+        offset,
+    }
+}

@@ -1,0 +1,132 @@
+-- Laws of the two sources.
+--     one-shl                    what the code's 1 << w is
+--     read-packed, read-words    the two sources as the format has them
+--     tested-fault, tested-less, tested-got, tested-field, tested-then     a field that is tested
+--     field-fits                 a field that is read is within its width
+--     reached-start, reached-field, reached-symbols     where fields, and symbols, end
+use mathlib.Core.Path.{_≡_, refl, sym, ap, _∙_}
+use mathlib.Core.List.{List, [], _∷_, flatMap}
+use mathlib.Core.Bool.{Bool, true, false}
+use Prim.Native.Nat.{ℕ, _+_, _*_, _%_, _^_, _≤_, _<_}
+use native.Mathlib.Nat.{one-mul}
+use native.Mathlib.Omega.{arith}
+use lib.Dec.{lit<}
+use lib.ListN.{length, length-append}
+use lib.Pow.{shl-exact}
+use Rattle.terms.specs.Signature.{Symbol}
+use Rattle.format.specs.Reading.{Reading, Reader, Source, andThen, require, bitSource, wordSource}
+use Rattle.format.specs.Reading.Reading.{got, fault}
+use Rattle.format.specs.Format.{symbolsReader}
+use Rattle.format.specs.Files.{wholeReader, readBytes, readWords}
+use Rattle.format.specs.Packing.{itemWord, symbolItems}
+use Rattle.format.specs.Packing.Item.{field}
+use Rattle.format.proofs.ReadingLaws.{holds-got}
+use Rattle.format.proofs.SpellingLaws.{spells→coded}
+use Rattle.format.proofs.CodingLaws.{word-coding, bit-coding}
+use Rattle.format.proofs.FormatLaws.{symbols-read}
+use Rattle.symbols.specs.Table.{entryWords}
+use Rattle.reader.specs.Source.{sourceOf, Reached, tested, readSource}
+
+pub one-shl : (w : ℕ) → w ≤ 16 → 1 * 2 ^ w % 2 ^ 64 ≡ 2 ^ w
+one-shl w h = shl-exact 1 w 64 (lit< tt) (omega arith) ∙ one-mul (2 ^ w)
+
+pub read-packed : (bytes words : List ℕ) → readSource true bytes words ≡ readBytes bytes
+unfolding readSource readBytes sourceOf
+read-packed bytes words = refl
+
+pub read-words : (words : List ℕ) → readSource false [] words ≡ readWords words
+unfolding readSource readWords sourceOf
+read-words words = refl
+
+-- ---- a field that is tested
+
+module _ (source : Source) (width : ℕ) (ok : ℕ → Bool) (error at : ℕ) where
+  pub tested-fault : (code offset : ℕ) → source .field width at ≡ fault code offset →
+      tested source width ok error at ≡ fault code offset
+  unfolding tested
+  tested-fault code offset e = rw e
+
+  pub tested-less : (v next : ℕ) → source .field width at ≡ got v next → ok v ≡ false →
+      tested source width ok error at ≡ fault error at
+  unfolding tested
+  tested-less v next e f = rw (e, f)
+
+  pub tested-got : (v next : ℕ) → source .field width at ≡ got v next → ok v ≡ true →
+      tested source width ok error at ≡ got v next
+  unfolding tested
+  tested-got v next e f = rw (e, f)
+
+  pub tested-field : (v next : ℕ) → tested source width ok error at ≡ got v next →
+      (source .field width at ≡ got v next) × (ok v ≡ true)
+  unfolding tested
+  tested-field v next e = go (source .field width at) refl e
+    where
+      tests : (w m : ℕ) (b : Bool) → ok w ≡ b → andThen (require b error at m) (λ _. got w) ≡ got v next →
+          (got w m ≡ got v next) × (ok v ≡ true)
+      tests w m true o p = let q : w ≡ v = cc in (p, rw q at o)
+      tests w m false o p = let z : _≡_ {A = ℕ} 0 1 = cc in absurd (omega arith)
+
+      go : (r : Reading ℕ) → source .field width at ≡ r →
+          andThen r (λ w m. andThen (require (ok w) error at m) (λ _. got w)) ≡ got v next →
+          (r ≡ got v next) × (ok v ≡ true)
+      go (got w m) f p = tests w m (ok w) refl p
+      go (fault code offset) f p = let z : _≡_ {A = ℕ} 0 1 = cc in absurd (omega arith)
+
+  pub tested-then : {B : Type 0} (k : ℕ → Reader B) →
+      andThen (source .field width at) (λ v next. andThen (require (ok v) error at next) (λ _. k v))
+      ≡ andThen (tested source width ok error at) k
+  unfolding tested
+  tested-then k = go (source .field width at)
+    where
+      tests : (v next : ℕ) (b : Bool) →
+          andThen (require b error at next) (λ _. k v) ≡ andThen (andThen (require b error at next) (λ _. got v)) k
+      tests v next true = refl
+      tests v next false = refl
+
+      go : (r : Reading ℕ) → andThen r (λ v next. andThen (require (ok v) error at next) (λ _. k v))
+          ≡ andThen (andThen r (λ v next. andThen (require (ok v) error at next) (λ _. got v))) k
+      go (got v next) = tests v next (ok v)
+      go (fault code offset) = refl
+
+-- ---- where fields end
+
+pub field-fits : (packed : Bool) (bytes words : List ℕ) (width at v next : ℕ) →
+    sourceOf packed bytes words .field width at ≡ got v next → v < 2 ^ width
+unfolding sourceOf
+field-fits true bytes words width at v next e = bit-coding bytes .read→code (field width v) at next e .0
+field-fits false bytes words width at v next e = word-coding words .read→code (field width v) at next e .0
+
+pub reached-start : (packed : Bool) (bytes words : List ℕ) → Reached packed bytes words 0 0
+unfolding Reached
+reached-start true bytes words = omega arith
+reached-start false bytes words = (refl, omega arith)
+
+pub reached-field : (packed : Bool) (bytes words : List ℕ) (fields width at v next : ℕ) →
+    Reached packed bytes words fields at → sourceOf packed bytes words .field width at ≡ got v next →
+    Reached packed bytes words (fields + 1) next
+unfolding sourceOf Reached
+reached-field true bytes words fields width at v next h e = bit-coding bytes .read→code (field width v) at next e .2
+reached-field false bytes words fields width at v next h e =
+    let (f, n, l, a) = word-coding words .read→code (field width v) at next e in
+    (omega arith, l)
+
+-- A symbol takes four words.
+length-coded : (ss : List Symbol) → length (flatMap (λ i. itemWord i ∷ []) (flatMap symbolItems ss))
+    ≡ entryWords (length ss)
+unfolding flatMap entryWords
+length-coded [] = refl
+length-coded (s ∷ ss) = omega (arith, length-coded ss)
+
+pub reached-symbols : (packed : Bool) (bytes words : List ℕ) (fields w0 n at : ℕ) (ss : List Symbol) (next : ℕ) →
+    Reached packed bytes words fields at → symbolsReader (sourceOf packed bytes words) w0 n [] at ≡ got ss next →
+    Reached packed bytes words (fields + entryWords n) next
+unfolding sourceOf Reached
+reached-symbols true bytes words fields w0 n at ss next h e =
+    let (all, same, count, oks, spelt) =
+    holds-got _ _ ss next (symbols-read (bitSource bytes) (field-fits true bytes words) w0 n [] at) e in
+    spells→coded (bit-coding bytes) spelt h .2
+reached-symbols false bytes words fields w0 n at ss next h e =
+    let (all, same, count, oks, spelt) =
+    holds-got _ _ ss next (symbols-read (wordSource words) (field-fits false bytes words) w0 n [] at) e in
+    let (fit, ends, last, agree) = spells→coded (word-coding words) spelt (h .1) in
+    (omega (arith, length-coded all, ap entryWords count), last)

@@ -1,0 +1,35 @@
+-- The source of a rule file, by whether it is packed, and the whole file that is read from it.
+use mathlib.Core.List.{List}
+use mathlib.Core.Path.{_≡_}
+use mathlib.Core.Bool.{Bool, true, false, cond}
+use Prim.Native.Nat.{ℕ, _*_, _≤_}
+use lib.ListN.{length}
+use lib.Dec.{leb}
+use Rattle.format.specs.Errors.{fileTooLong}
+use Rattle.format.specs.Layout.{formNumber, maxBytes}
+use Rattle.format.specs.Reading.{Reading, Reader, _>>=_, _>>_, give, here, require, Source, bitSource, wordSource}
+use Rattle.format.specs.Reading.Reading.{fault}
+use Rattle.format.specs.Format.{RuleFile}
+use Rattle.format.specs.Files.{wholeReader}
+
+unfoldable pub sourceOf : Bool → List ℕ → List ℕ → Source
+sourceOf true bytes words = bitSource bytes
+sourceOf false bytes words = wordSource words
+
+-- After so many fields the offset is one of the bits, or the number of the fields, a word each.
+unfoldable pub Reached : Bool → List ℕ → List ℕ → ℕ → ℕ → Type 0
+Reached true bytes words fields at = at ≤ 8 * length bytes
+Reached false bytes words fields at = (at ≡ fields) × (at ≤ length words)
+
+-- A field that is to pass a test, with that error where it does not.
+unfoldable pub tested : Source → ℕ → (ℕ → Bool) → ℕ → Reader ℕ
+tested source width ok error = do
+  offset ← here
+  value ← source .field width
+  require (ok value) error offset
+  give value
+
+-- The file that is read from the bytes, or from the words where there are no bytes.
+unfoldable pub readSource : Bool → List ℕ → List ℕ → Reading RuleFile
+readSource packed bytes words =
+    cond (leb (length bytes) maxBytes) (wholeReader formNumber (sourceOf packed bytes words) 0) (fault fileTooLong 0)

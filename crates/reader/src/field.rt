@@ -1,0 +1,85 @@
+// A field of a rule file, from the bits of a packed one or from words, and the end of a file.
+ghost use mathlib.Core.Path.{_≡_};
+ghost use Prim.Native.Nat.{ℕ, _^_, _≤_, _<_};
+ghost use lib.Dec.{leb};
+ghost use lib.ListN.{length};
+ghost use Rattle.format.specs.Layout.{maxBytes};
+ghost use Rattle.answers.specs.Answer.{readingOf, Fits};
+ghost use Rattle.reader.specs.Source.{sourceOf, tested};
+use answers::Answer;
+use bits::BitCursor;
+use format::BAD_PADDING;
+use format::WORDS_LEFT_OVER;
+use words::word_below;
+
+// The field of that width at an offset, in bits of the book if the file is packed, in words of the sheet if not.
+pub fn field(book: &[u8], sheet: &[u16], packed: bool, at: usize, width: usize) -> Answer
+    requires { ⌜ (length (now book) ≤ maxBytes) × (width ≤ 16) ⌝ }
+    ensures { λ r. ⌜
+        readingOf (λ (v : ℕ). v) r ≡ sourceOf packed (now (book .entry)) (now (sheet .entry)) .field width at
+        ⌝ }
+    ensures { λ r. ⌜ Fits (2 ^ width) r ⌝ }
+{
+    if packed {
+        let cursor = BitCursor { at };
+        return cursor.field(book, width);
+    }
+    word_below(sheet, at, 1usize << width)
+}
+
+// The same for a field that is to be at least so much, with that error where it is less.
+pub fn field_at_least(
+    book: &[u8],
+    sheet: &[u16],
+    packed: bool,
+    at: usize,
+    width: usize,
+    least: usize,
+    error: u8,
+) -> Answer
+    requires { ⌜ (length (now book) ≤ maxBytes) × (width ≤ 16) × (0 < error) × (error < 64) ⌝ }
+    ensures { λ r. ⌜
+        readingOf (λ (v : ℕ). v) r
+        ≡ tested (sourceOf packed (now (book .entry)) (now (sheet .entry))) width (leb least) error at
+        ⌝ }
+    ensures { λ r. ⌜ Fits (2 ^ width) r ⌝ }
+{
+    match field(book, sheet, packed, at, width) {
+        Answer::Fault { code, offset } => Answer::Fault { code, offset },
+        Answer::Got { value, next } => {
+            if value < least {
+                return Answer::Fault {
+                    code: error,
+                    offset: at,
+                };
+            }
+            Answer::Got { value, next }
+        }
+    }
+}
+
+// Whether a file may end at an offset.
+pub fn end(book: &[u8], sheet: &[u16], packed: bool, at: usize) -> Answer
+    requires { ⌜ length (now book) ≤ maxBytes ⌝ }
+    ensures { λ r. ⌜
+        readingOf (λ (_ : ℕ). tt) r ≡ sourceOf packed (now (book .entry)) (now (sheet .entry)) .end at
+        ⌝ }
+{
+    if packed {
+        let cursor = BitCursor { at };
+        if cursor.is_padding(book) {
+            return Answer::Got { value: 0, next: at };
+        }
+        return Answer::Fault {
+            code: BAD_PADDING,
+            offset: at,
+        };
+    }
+    if at == sheet.len() {
+        return Answer::Got { value: 0, next: at };
+    }
+    Answer::Fault {
+        code: WORDS_LEFT_OVER,
+        offset: at,
+    }
+}

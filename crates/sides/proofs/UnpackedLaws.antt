@@ -1,0 +1,53 @@
+-- The words of a file.
+--     node-words, rules-items             the nodes of rules as items, and back
+--     unpacked-parts, unpacked-length     the header, the symbols and the rules, and how many words they are
+use mathlib.Core.Path.{_≡_, refl, sym, ap, _∙_}
+use mathlib.Core.List.{List, [], _∷_, _++_, map, flatMap, map-append}
+use Prim.Native.Nat.{ℕ, _+_}
+use native.Mathlib.Omega.{arith}
+use lib.ListN.{length, length-append}
+use Rattle.terms.specs.Signature.{Symbol}
+use Rattle.format.specs.Layout.{formNumber}
+use Rattle.format.specs.Format.{Sides, RuleFile}
+use Rattle.format.specs.Packing.{Item, itemWord, symbolItems, ruleItems, items, unpacked}
+use Rattle.format.specs.Packing.Item.{node}
+use Rattle.symbols.specs.Table.{entryWords, symbolsWords}
+use Rattle.symbols.proofs.EntryLaws.{length-symbolsWords}
+use Rattle.sides.specs.Side.{sideWords, rulesWords}
+
+node-words : (l : List ℕ) → map itemWord (map node l) ≡ l
+node-words [] = refl
+node-words (w ∷ l) = ap (λ (k : List ℕ). w ∷ k) (node-words l)
+
+pub rules-items : (rs : List Sides) → flatMap ruleItems rs ≡ map node (rulesWords rs)
+unfolding flatMap
+rules-items [] = refl
+rules-items (r ∷ rs) =
+    rw (map-append node (sideWords r) (rulesWords rs), map-append node (r .left) (r .right), rules-items rs)
+
+symbols-words : (ss : List Symbol) → map itemWord (flatMap symbolItems ss) ≡ symbolsWords ss
+unfolding flatMap
+symbols-words [] = refl
+symbols-words (s ∷ ss) = map-append itemWord (symbolItems s) (flatMap symbolItems ss) ∙ rw (symbols-words ss)
+
+pub unpacked-parts : (file : RuleFile) → unpacked file ≡ formNumber ∷ length (file .signature .symbols)
+    ∷ file .signature .w0 ∷ length (file .rules) ∷ (symbolsWords (file .signature .symbols) ++ rulesWords (file .rules))
+unfolding unpacked items
+unpacked-parts file =
+    rw (
+      map-append itemWord (flatMap symbolItems (file .signature .symbols)) (flatMap ruleItems (file .rules)),
+      symbols-words (file .signature .symbols),
+      rules-items (file .rules),
+      node-words (rulesWords (file .rules)),
+    )
+
+pub unpacked-length : (file : RuleFile) →
+    length (unpacked file) ≡ 4 + entryWords (length (file .signature .symbols)) + length (rulesWords (file .rules))
+unpacked-length file =
+    ap length (unpacked-parts file)
+    ∙ omega (
+      arith,
+      length-append (symbolsWords (file .signature .symbols)) (rulesWords (file .rules)),
+      length-symbolsWords (file .signature .symbols),
+    )
+

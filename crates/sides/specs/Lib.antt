@@ -1,0 +1,2 @@
+-- What the answers of reading a packed side stand for.
+pub mod Side

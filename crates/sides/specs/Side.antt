@@ -1,0 +1,34 @@
+-- What the answers of reading terms, a side and a rule stand for, and the words that are stored.
+use mathlib.Core.Path.{_≡_}
+use mathlib.Core.List.{List, [], _∷_, _++_}
+use Prim.Native.Nat.{ℕ, _+_, _≤_}
+use lib.ListN.{length}
+use lib.Seq.{sets}
+use Rattle.format.specs.Layout.{maxNodes}
+use Rattle.format.specs.Reading.{Reading}
+use Rattle.format.specs.Reading.Reading.{got, fault}
+use Rattle.format.specs.Format.{Sides}
+use Rattle.answers.specs.declared.Answer.{Answer}
+use Rattle.answers.specs.declared.Answer.the-variants.{Got, Fault}
+
+-- The answer to a reading of terms, and the words before and after, where so many words stand before the nodes. A fault
+-- leaves open which words were stored before it.
+abbrev pub TermsRead : ℕ → List ℕ → Answer → List ℕ → Reading (List ℕ) → Type 0
+TermsRead count before answer after (got nodes next) =
+    (answer ≡ Got (count + length nodes) next) × (count + length nodes ≤ maxNodes) × (after ≡ sets before count nodes)
+TermsRead count before answer after (fault code offset) = answer ≡ Fault code offset
+
+-- What was read, the index of its words, the answer, and the words before and after: those that were read stand from
+-- the index on, where there is room for all of them.
+abbrev pub WordsRead : {A : Type 0} → (A → List ℕ) → Reading A → ℕ → List ℕ → Answer → List ℕ → Type 0
+WordsRead {A} wordsOf reading index before (Got end next) after =
+    (a : A) × (reading ≡ got a next) × (end ≡ index + length (wordsOf a))
+    × (end ≤ length before → after ≡ sets before index (wordsOf a))
+WordsRead wordsOf reading index before (Fault code offset) after = reading ≡ fault code offset
+
+abbrev pub sideWords : Sides → List ℕ
+sideWords r = r .left ++ r .right
+
+abbrev pub rulesWords : List Sides → List ℕ
+rulesWords [] = []
+rulesWords (r ∷ rs) = sideWords r ++ rulesWords rs

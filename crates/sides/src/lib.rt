@@ -1,0 +1,154 @@
+// Reading a side and a rule of a packed file, node by node in prefix order, and storing their words.
+ghost use mathlib.Core.Path.{_≡_};
+ghost use mathlib.Core.List.{List};
+ghost use Prim.Native.Nat.{ℕ, _+_, _-_, _*_, _^_, _≤_, _<_};
+ghost use lib.ListN.{length, take};
+ghost use lib.Seq.{sets};
+ghost use Rattle.terms.specs.Signature.{Signature};
+ghost use Rattle.format.specs.Layout.{maxBytes, maxNodes};
+ghost use Rattle.format.specs.Reading.{bitSource};
+ghost use Rattle.format.specs.Format.{forestReader, ruleReader};
+ghost use Rattle.symbols.specs.Arities.{Arities};
+ghost use Rattle.answers.specs.Answer.{readingOf, answerOf, Within};
+ghost use Rattle.sides.specs.Side.{TermsRead, WordsRead, sideWords};
+use answers::Answer;
+use answers::pack_fault;
+use answers::pack_value;
+use answers::unpack;
+use bits::BitCursor;
+use format::MAX_NODES;
+use format::NODE_WORDS;
+use format::NO_SUCH_SYMBOL;
+use format::TOO_MANY_NODES;
+
+// Reads as many terms as are owed, their words stored after the first ones. It reads a node and calls itself for what
+// is then owed, with one node fewer allowed. The answer is a number, so that this call in last place is a jump.
+fn read_terms(
+    book: &&[u8],
+    arities: &[u32; NODE_WORDS],
+    words: &mut [u16; MAX_NODES],
+    count: usize,
+    at: usize,
+    owed: usize,
+) -> usize
+    requires { ⌜ (length (now (now book)) ≤ maxBytes) × (at ≤ 8 * length (now (now book))) ⌝ }
+    requires { ⌜ (count ≤ maxNodes) × (owed + 2 ^ 32 * (maxNodes - count) < 2 ^ 62) × (length (now words) ≡ maxNodes) ⌝ }
+    ensures { λ r. ⌜
+        ((σ : Signature) → Arities σ (now (arities .entry)) →
+        TermsRead count (now (words .entry)) (answerOf r) (now (words .exit))
+        (forestReader (bitSource (now (now (book .entry)))) σ (maxNodes - count) owed at))
+        ⌝ }
+    ensures { λ r. ⌜ Within maxNodes (8 * length (now (now (book .entry)))) (answerOf r) ⌝ }
+    ensures { λ r. ⌜ length (now (words .exit)) ≡ maxNodes ⌝ }
+{
+    if owed == 0 {
+        return pack_value(count, at);
+    }
+    if count == MAX_NODES {
+        return pack_fault(TOO_MANY_NODES, at);
+    }
+    let cursor = BitCursor { at };
+    match cursor.node(*book) {
+        Answer::Fault { code, offset } => pack_fault(code, offset),
+        Answer::Got { value, next } => {
+            let word = value as u16;
+            words[count] = word;
+            let cell = symbols::cell_at(arities, word);
+            if cell == 0 {
+                return pack_fault(NO_SUCH_SYMBOL, at + 1);
+            }
+            read_terms(book, arities, words, count + 1, next, cell - 1 + (owed - 1))
+        }
+    }
+}
+
+// Reads a side into the words; the value is how many there are.
+pub fn read_side(
+    book: &[u8],
+    arities: &[u32; NODE_WORDS],
+    words: &mut [u16; MAX_NODES],
+    at: usize,
+) -> Answer
+    requires { ⌜ (length (now book) ≤ maxBytes) × (at ≤ 8 * length (now book)) × (length (now words) ≡ maxNodes) ⌝ }
+    ensures { λ r. ⌜
+        ((σ : Signature) → Arities σ (now (arities .entry)) →
+        readingOf (λ (n : ℕ). take n (now (words .exit))) r
+        ≡ forestReader (bitSource (now (book .entry))) σ maxNodes 1 at)
+        ⌝ }
+    ensures { λ r. ⌜ Within maxNodes (8 * length (now (book .entry))) r ⌝ }
+    ensures { λ r. ⌜ length (now (words .exit)) ≡ maxNodes ⌝ }
+{
+    unpack(read_terms(&book, arities, words, 0, at, 1))
+}
+
+// Stores words from an index on, where there is room for all of them, and none where there is not.
+pub fn put_words(words: &mut [u16], index: usize, nodes: &[u16])
+    requires { ⌜ index + length (now nodes) < 2 ^ 63 ⌝ }
+    ensures { λ _. ⌜
+        (index + length (now (nodes .entry)) ≤ length (now (words .entry)) →
+        now (words .exit) ≡ sets (now (words .entry)) index (now (nodes .entry)))
+        ⌝ }
+    ensures { λ _. ⌜
+        (length (now (words .entry)) < index + length (now (nodes .entry)) → now (words .exit) ≡ now (words .entry))
+        ⌝ }
+{
+    if words.len() < index + nodes.len() {
+        return;
+    }
+    let mut i = 0;
+    while i < nodes.len() {
+        words[index + i] = nodes[i];
+        i += 1;
+    }
+}
+
+// Reads a side, its words stored from an index on; the value is the index past them.
+fn read_side_into(
+    book: &[u8],
+    arities: &[u32; NODE_WORDS],
+    words: &mut [u16],
+    index: usize,
+    at: usize,
+) -> Answer
+    requires { ⌜ (length (now book) ≤ maxBytes) × (at ≤ 8 * length (now book)) × (index < 2 ^ 32) ⌝ }
+    ensures { λ r. ⌜
+        ((σ : Signature) → Arities σ (now (arities .entry)) →
+        WordsRead (λ (nodes : List ℕ). nodes) (forestReader (bitSource (now (book .entry))) σ maxNodes 1 at)
+        index (now (words .entry)) r (now (words .exit)))
+        ⌝ }
+    ensures { λ r. ⌜ Within (index + maxNodes) (8 * length (now (book .entry))) r ⌝ }
+{
+    let mut side = [0u16; MAX_NODES];
+    match read_side(book, arities, &mut side, at) {
+        Answer::Fault { code, offset } => Answer::Fault { code, offset },
+        Answer::Got { value, next } => {
+            put_words(words, index, &side[..value]);
+            Answer::Got {
+                value: index + value,
+                next,
+            }
+        }
+    }
+}
+
+// Reads a rule's two sides, their words stored from an index on; the value is the index past them.
+pub fn read_rule_into(
+    book: &[u8],
+    arities: &[u32; NODE_WORDS],
+    words: &mut [u16],
+    index: usize,
+    at: usize,
+) -> Answer
+    requires { ⌜ (length (now book) ≤ maxBytes) × (at ≤ 8 * length (now book)) × (index + maxNodes < 2 ^ 32) ⌝ }
+    ensures { λ r. ⌜
+        ((σ : Signature) → Arities σ (now (arities .entry)) →
+        WordsRead sideWords (ruleReader (bitSource (now (book .entry))) σ at)
+        index (now (words .entry)) r (now (words .exit)))
+        ⌝ }
+    ensures { λ r. ⌜ Within (index + 2 * maxNodes) (8 * length (now (book .entry))) r ⌝ }
+{
+    match read_side_into(book, arities, words, index, at) {
+        Answer::Fault { code, offset } => Answer::Fault { code, offset },
+        Answer::Got { value, next } => read_side_into(book, arities, words, value, next),
+    }
+}

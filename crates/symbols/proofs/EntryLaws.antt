@@ -1,0 +1,146 @@
+-- The words of entries in a table, and in a sheet.
+--     stored-four                        four stores one after the other
+--     table-le, entry-lt, table-more, table-some     how many words a table has
+--     symbols-put, symbols-kept          the symbols of a table after an entry, and after w0, was stored
+--     signature-front                    the signature of a table's front part
+--     length-symbolsWords, symbols-more  how many words the symbols take in a sheet; one symbol more
+use mathlib.Core.Path.{_≡_, refl, sym, ap, _∙_}
+use mathlib.Core.List.{List, [], _∷_, _++_, map}
+use mathlib.Core.Bool.{false}
+use Prim.Native.Nat.{ℕ, suc, zero, _+_, _*_, _/_, _≤_, _<_}
+use native.Mathlib.Nat.{add-zero}
+use native.Mathlib.Numerals.{add-one}
+use native.Mathlib.Omega.{arith}
+use lib.ListN.{length, length-append, getD, take, drop, set, List·getD-append}
+use lib.Seq.{sets, sets-eq, getD-take, getD-append-add, getD-set-other, take-suc, length-take-le}
+use Rattle.multisets.proofs.ListLaws.{sets-append}
+use Rattle.terms.specs.Signature.{Symbol, Signature, symbolOf}
+use Rattle.format.specs.Packing.{itemWord, symbolItems}
+use Rattle.symbols.specs.Table.{symbolAt, symbolsAt, signatureOf, weightOf, entryWords, tableWords, maxTableWords}
+use Rattle.symbols.specs.Table.{symbolsWords}
+
+pub stored-four : (l l₁ l₂ l₃ l₄ : List ℕ) (i a b c d : ℕ) → l₁ ≡ set l i a → l₂ ≡ set l₁ (i + 1) b →
+    l₃ ≡ set l₂ (i + 2) c → l₄ ≡ set l₃ (i + 3) d → l₄ ≡ sets l i (a ∷ b ∷ c ∷ d ∷ [])
+stored-four l l₁ l₂ l₃ l₄ i a b c d h₁ h₂ h₃ h₄ =
+    let e₁ : i + 1 ≡ suc i = omega arith in
+    let e₂ : i + 2 ≡ suc (suc i) = omega arith in
+    let e₃ : i + 3 ≡ suc (suc (suc i)) = omega arith in
+    h₄ ∙ rw (h₃, h₂, h₁, e₁, e₂, e₃)
+
+-- ---- in a table
+
+pub table-le : (n : ℕ) → n < 256 → tableWords n ≤ maxTableWords
+unfolding tableWords entryWords
+table-le n h = omega arith
+
+pub entry-lt : (n : ℕ) → n < 256 → entryWords n < maxTableWords
+unfolding entryWords
+entry-lt n h = omega arith
+
+pub table-more : (m n : ℕ) → m < n → tableWords (m + 1) ≤ tableWords n
+unfolding tableWords entryWords
+table-more m n h = omega arith
+
+pub table-some : (n : ℕ) → 0 < tableWords n
+unfolding tableWords
+table-some n = omega arith
+
+symbols-same : (l m : List ℕ) (n f : ℕ) → ((j : ℕ) → 0 < j → j < 4 * (f + n) + 1 → getD l j 0 ≡ getD m j 0) →
+    symbolsAt l f n ≡ symbolsAt m f n
+symbols-same l m zero f h = refl
+symbols-same l m (suc n) f h =
+    rw (
+      h (4 * f + 1) (omega arith) (omega arith),
+      h (4 * f + 2) (omega arith) (omega arith),
+      h (4 * f + 3) (omega arith) (omega arith),
+      h (4 * f + 4) (omega arith) (omega arith),
+      symbols-same l m n (suc f) (λ j a b. h j a (omega arith)),
+    )
+
+symbols-snoc : (l : List ℕ) (f n : ℕ) → symbolsAt l f (suc n) ≡ symbolsAt l f n ++ (symbolAt l (f + n) ∷ [])
+symbols-snoc l f zero = rw add-zero
+symbols-snoc l f (suc n) =
+    let e : suc f + n ≡ f + suc n = omega arith in
+    ap (λ (ss : List Symbol). symbolAt l f ∷ ss) (rw e at (symbols-snoc l (suc f) n))
+
+-- Words stored from an index on, and the words before them.
+module _ (l : List ℕ) (i : ℕ) (vs : List ℕ) (h : i + length vs ≤ length l) where
+  front : length (take i l) ≡ i
+  front = length-take-le i l (omega arith)
+
+  sets-at : (j k : ℕ) → j ≡ i + k → k < length vs → getD (sets l i vs) j 0 ≡ getD vs k 0
+  sets-at j k e s =
+      let here : getD (take i l ++ vs) (i + k) 0 ≡ getD vs k 0 = rw front at (getD-append-add (take i l) vs k 0) in
+      let inside : i + k < length (take i l ++ vs) = rw length-append (omega (arith, front)) in
+      rw (sets-eq vs l i h, e) (List·getD-append (take i l ++ vs) (drop (i + length vs) l) 0 (i + k) inside ∙ here)
+
+  sets-before : (j : ℕ) → j < i → getD (sets l i vs) j 0 ≡ getD l j 0
+  sets-before j s =
+      let inside : j < length (take i l ++ vs) = rw length-append (omega (arith, front)) in
+      rw (sets-eq vs l i h)
+      (List·getD-append (take i l ++ vs) (drop (i + length vs) l) 0 j inside
+      ∙ List·getD-append (take i l) vs 0 j (omega (arith, front)) ∙ getD-take i l j 0 s)
+
+pub symbols-put : (table : List ℕ) (f arity ac weight rank : ℕ) → tableWords (f + 1) ≤ length table →
+    symbolsAt (sets table (tableWords f) (arity ∷ ac ∷ weight ∷ rank ∷ [])) 0 (f + 1) ≡ symbolsAt table 0 f ++
+    (symbolAt (0 ∷ arity ∷ ac ∷ weight ∷ rank ∷ []) 0 ∷ [])
+unfolding tableWords entryWords
+symbols-put table f arity ac weight rank h =
+    let vs : List ℕ = arity ∷ ac ∷ weight ∷ rank ∷ [] in
+    let put : List ℕ = sets table (1 + 4 * f) vs in
+    let at : (j k : ℕ) → j ≡ 1 + 4 * f + k → k < 4 → getD put j 0 ≡ getD vs k 0 =
+    sets-at table (1 + 4 * f) vs (omega arith) in
+    let before : symbolsAt put 0 f ≡ symbolsAt table 0 f =
+    symbols-same put table f 0 (λ j a b. sets-before table (1 + 4 * f) vs (omega arith) j (omega arith)) in
+    let number : 0 + f ≡ f = omega arith in
+    rw (add-one f)
+    (symbols-snoc put 0 f
+    ∙ rw (
+      before,
+      number,
+      at (4 * f + 1) 0 (omega arith) (omega arith),
+      at (4 * f + 2) 1 (omega arith) (omega arith),
+      at (4 * f + 3) 2 (omega arith) (omega arith),
+      at (4 * f + 4) 3 (omega arith) (omega arith),
+    ))
+
+pub symbols-kept : (table : List ℕ) (w0 n : ℕ) → symbolsAt (set table 0 w0) 0 n ≡ symbolsAt table 0 n
+symbols-kept table w0 n =
+    symbols-same (set table 0 w0) table n 0 (λ j a b. getD-set-other table 0 j w0 0 (λ e. omega arith))
+
+pub signature-front : (table : List ℕ) (n : ℕ) → tableWords n ≤ length table →
+    signatureOf (take (tableWords n) table) ≡ record { w0 = weightOf table; symbols = symbolsAt table 0 n }
+unfolding signatureOf tableWords entryWords
+signature-front table n h =
+    let front : List ℕ = take (1 + 4 * n) table in
+    let count : (length front + 2) / 4 ≡ n = omega (arith, length-take-le (1 + 4 * n) table h) in
+    let same : (j : ℕ) → j < 1 + 4 * n → getD front j 0 ≡ getD table j 0 =
+    λ j b. getD-take (1 + 4 * n) table j 0 b in
+    rw (count, same 0 (omega arith), symbols-same front table n 0 (λ j a b. same j (omega arith)))
+
+-- ---- in a sheet
+
+pub length-symbolsWords : (ss : List Symbol) → length (symbolsWords ss) ≡ entryWords (length ss)
+unfolding entryWords
+length-symbolsWords [] = refl
+length-symbolsWords (s ∷ ss) = omega (arith, length-symbolsWords ss)
+
+symbolsWords-snoc : (ss : List Symbol) (s : Symbol) →
+    symbolsWords (ss ++ (s ∷ [])) ≡ symbolsWords ss ++ map itemWord (symbolItems s)
+symbolsWords-snoc [] s = refl
+symbolsWords-snoc (t ∷ ss) s = ap (λ (ws : List ℕ). map itemWord (symbolItems t) ++ ws) (symbolsWords-snoc ss s)
+
+abbrev none : Symbol
+none = record { arity = 0; ac = false; weight = 0; precedence = 0 }
+
+pub symbols-more : (σ : Signature) (words : List ℕ) (i n : ℕ) → n < length (σ .symbols) →
+    sets (sets words i (symbolsWords (take n (σ .symbols)))) (i + entryWords n) (map itemWord (symbolItems (symbolOf σ n)))
+    ≡ sets words i (symbolsWords (take (n + 1) (σ .symbols)))
+symbols-more σ words i n h =
+    let ss = σ .symbols in
+    let put = map itemWord (symbolItems (symbolOf σ n)) in
+    let e : length (symbolsWords (take n ss)) ≡ entryWords n =
+    length-symbolsWords (take n ss) ∙ ap entryWords (length-take-le n ss (omega arith)) in
+    let s : symbolsWords (take (n + 1) ss) ≡ symbolsWords (take n ss) ++ put =
+    rw (add-one n, take-suc ss n none h) (symbolsWords-snoc (take n ss) (symbolOf σ n)) in
+    rw s (sym (sets-append words i (symbolsWords (take n ss)) put ∙ rw e))

@@ -99,7 +99,7 @@ pub extern "C" fn ackbo_encode(words: &[u16], book: &mut [u8], reply: &mut [i64;
         ⌝ }
     ensures { λ _. ⌜ now (book .exit) ≡ encoded (now (words .entry)) (now (book .entry)) .output ⌝ }
 {
-    put_count(reply, encoder::encode::encode(words, book))
+    put_count(reply, encoder::encode(words, book))
 }
 
 #[no_mangle]

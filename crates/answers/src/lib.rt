@@ -6,14 +6,8 @@ ghost use Rattle.answers.specs.Answer.{answerOf};
 
 // A value and the offset past what was read, or an error's code and offset. A value that is nothing is 0.
 pub enum Answer {
-    Got {
-        value: usize,
-        next: usize,
-    },
-    Fault {
-        code: u8,
-        offset: usize,
-    },
+    Got { value: usize, next: usize },
+    Fault { code: u8, offset: usize },
 }
 
 // A value and the next offset as one number.

@@ -2,7 +2,7 @@
 ghost use Prim.Native.Nat.{_<_};
 ghost use Rattle.io.specs.Counts.{Counts};
 use comparing::compare;
-use encoder::encode::encode;
+use encoder::encode;
 use libc::STDOUT_FILENO;
 use marking::mark::mark;
 use marking::report::report;

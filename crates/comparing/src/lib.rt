@@ -5,10 +5,12 @@ ghost use lib.ListN.{length};
 ghost use Rattle.terms.specs.Signature.{Admissible};
 ghost use Rattle.terms.specs.Words.{termOf};
 ghost use Rattle.format.specs.Statements.{IsTerm};
-ghost use Rattle.symbols.specs.Table.{signatureOf};
+ghost use Rattle.symbols.specs.Table.{signatureOf, maxTableWords};
 ghost use Rattle.symbols.specs.Arities.{Arities};
 ghost use Rattle.operations.specs.Comparing.{comparison, comparedRight, comparedTerms, compared};
 ghost use Rattle.operations.specs.Enums.{compareReply};
+use answers::Answer;
+use format::NODE_WORDS;
 use measures::SUMS;
 use measures::nodes::node_sums;
 use measures::sums::sum_up;
@@ -17,15 +19,14 @@ use operations::CompareReply;
 use operations::Comparison;
 use operations::Error;
 use order::relation::relation;
-use reader::file::File;
-use reader::file::TABLE_WORDS;
-use reader::file::read_file;
-use words::term::TermReading;
-use words::term::whole_term;
+use reader::File;
+use reader::read_file;
+use symbols::TABLE_WORDS;
+use words::whole_term;
 
 // Compares two terms that were read.
 fn compare_read(table: &[u16], left: &[u16], right: &[u16]) -> Comparison
-    requires { ⌜ (length (now table) ≤ 1021) × Admissible (signatureOf (now table)) ⌝ }
+    requires { ⌜ (length (now table) ≤ maxTableWords) × Admissible (signatureOf (now table)) ⌝ }
     requires { ⌜ IsTerm (signatureOf (now table)) (now left) × IsTerm (signatureOf (now table)) (now right) ⌝ }
     ensures { λ r. ⌜
         r
@@ -45,8 +46,13 @@ fn compare_read(table: &[u16], left: &[u16], right: &[u16]) -> Comparison
 }
 
 // Compares a left term that was read with the right one.
-fn compare_right(table: &[u16], arities: &[u32; 272], left: &[u16], right: &[u16]) -> CompareReply
-    requires { ⌜ (length (now table) ≤ 1021) × Admissible (signatureOf (now table)) ⌝ }
+fn compare_right(
+    table: &[u16],
+    arities: &[u32; NODE_WORDS],
+    left: &[u16],
+    right: &[u16],
+) -> CompareReply
+    requires { ⌜ (length (now table) ≤ maxTableWords) × Admissible (signatureOf (now table)) ⌝ }
     requires { ⌜ IsTerm (signatureOf (now table)) (now left) × Arities (signatureOf (now table)) (now arities) ⌝ }
     ensures { λ r. ⌜
         compareReply r
@@ -55,30 +61,34 @@ fn compare_right(table: &[u16], arities: &[u32; 272], left: &[u16], right: &[u16
         ⌝ }
 {
     match whole_term(arities, right) {
-        TermReading::Fault(code, offset) => CompareReply::Refused(Error {
+        Answer::Fault { code, offset } => CompareReply::Refused(Error {
             code,
             input: 2,
             offset,
         }),
-        TermReading::Got(_) => CompareReply::Accepted(compare_read(table, left, right)),
+        Answer::Got { value: _, next: _ } => CompareReply::Accepted(compare_read(
+            table,
+            left,
+            right,
+        )),
     }
 }
 
 // Compares two terms under a symbol table.
 fn compare_terms(table: &[u16], left: &[u16], right: &[u16]) -> CompareReply
-    requires { ⌜ (length (now table) ≤ 1021) × Admissible (signatureOf (now table)) ⌝ }
+    requires { ⌜ (length (now table) ≤ maxTableWords) × Admissible (signatureOf (now table)) ⌝ }
     ensures { λ r. ⌜
         compareReply r ≡ comparedTerms (signatureOf (now (table .entry))) (now (left .entry)) (now (right .entry))
         ⌝ }
 {
     let arities = symbols::arities(table);
     match whole_term(&arities, left) {
-        TermReading::Fault(code, offset) => CompareReply::Refused(Error {
+        Answer::Fault { code, offset } => CompareReply::Refused(Error {
             code,
             input: 1,
             offset,
         }),
-        TermReading::Got(_) => compare_right(table, &arities, left, right),
+        Answer::Got { value: _, next: _ } => compare_right(table, &arities, left, right),
     }
 }
 
@@ -87,15 +97,20 @@ pub fn compare(book: &[u8], left: &[u16], right: &[u16]) -> CompareReply
     ensures { λ r. ⌜ compareReply r ≡ compared (now (book .entry)) (now (left .entry)) (now (right .entry)) ⌝ }
 {
     let mut table = [0u16; TABLE_WORDS];
-    let mut nothing = [0u16; 1];
-    match read_file(book, &mut table, &mut nothing) {
-        File::Fault(code, offset) => CompareReply::Refused(Error {
+    let mut none = [0u16; 0];
+    match read_file(book, &[0u16; 0], true, &mut table, &mut none) {
+        File::Fault { code, offset } => CompareReply::Refused(Error {
             code,
             input: 0,
             offset,
         }),
-        File::Read(symbol_count, _, _, _) => {
-            let front = 1 + 4 * symbol_count;
+        File::Read {
+            symbols,
+            rules: _,
+            nodes: _,
+            start: _,
+        } => {
+            let front = symbols::front(symbols);
             compare_terms(&table[..front], left, right)
         }
     }

@@ -59,7 +59,12 @@ fn decode_through(book: &[u8], words: &mut [u16], nodes: &mut [u16]) -> CountRep
             input: 0,
             offset,
         }),
-        File::Read { symbols, rules, nodes: count, start } => {
+        File::Read {
+            symbols,
+            rules,
+            nodes: count,
+            start,
+        } => {
             let total = HEADER_WORDS + symbols::entry_words(symbols) + count;
             if words.len() < total {
                 return CountReply::Refused(Error {

@@ -18,7 +18,7 @@ use Rattle.format.specs.Format.{RuleFile, forestReader, ruleReader, rulesReader
 use Rattle.format.specs.Files.{readWords}
 use Rattle.format.specs.Packing.{Item, items, itemBits, bytesOf, packed}
 use Rattle.format.proofs.ReadingLaws.{Holds, holds-got, holds-then}
-use Rattle.format.proofs.ForestLaws.{forest-short}
+use Rattle.format.proofs.SideLaws.{forest-short}
 use Rattle.format.proofs.FileLaws.{words-unpacked}
 use Rattle.format.proofs.PackingLaws.{length-bytesOf}
 use Rattle.operations.specs.Replies.{Reply}

@@ -67,7 +67,11 @@ fn node_value(word: u16) -> u16
         (bitsOf (length (itemBits (node word))) r ≡ itemBits (node word)) × (r < 2 ^ length (itemBits (node word)))
         ⌝ }
 {
-    if word < FIRST_VARIABLE { word } else { 16 + word % 16 }
+    if word < FIRST_VARIABLE {
+        word
+    } else {
+        16 + word % 16
+    }
 }
 
 // How many bits the items of all words take, where there are so many symbols and the nodes begin at word `nodes`.

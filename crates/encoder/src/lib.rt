@@ -28,7 +28,12 @@ pub fn encode(words: &[u16], bytes: &mut [u8]) -> CountReply
             input: 0,
             offset,
         }),
-        File::Read { symbols, rules, nodes, start } => {
+        File::Read {
+            symbols,
+            rules,
+            nodes,
+            start,
+        } => {
             let count = (packed_bits(words, symbols, start) + 7) / 8;
             if MAX_BYTES < count {
                 return CountReply::Refused(Error {

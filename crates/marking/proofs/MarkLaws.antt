@@ -3,7 +3,8 @@
 --     fault-small                              where a fault may lie
 --     mark-fault, mark-short, mark-written     the ends of marking
 --     found-front                              the marks that were kept elsewhere
-use mathlib.Core.List.{List}
+use mathlib.Core.List.{List, []}
+use mathlib.Core.Bool.{true}
 use mathlib.Core.Path.{_≡_, sym, _∙_}
 use Prim.Native.Nat.{ℕ, _+_, _*_, _^_, _≤_, _<_}
 use native.Mathlib.Omega.{arith}
@@ -20,16 +21,17 @@ use Rattle.format.specs.Format.{RuleFile, systemOf}
 use Rattle.format.specs.Files.{readBytes}
 use Rattle.operations.specs.Replies.Reply.{accepted, refused}
 use Rattle.format.proofs.Theorems.{faults-within}
+use Rattle.symbols.specs.Table.{tableWords, maxTableWords}
 use Rattle.reader.specs.File.{HeadParts}
 use Rattle.reader.proofs.FileLaws.{table-of}
 use Rattle.operations.specs.Marking.{marksOf, scoreOf, marked}
 use Rattle.marking.specs.Rule.{IsTable, MarkedAs}
 use Rattle.marking.proofs.WalkLaws.{stored-front}
 
-pub is-table : (bytes table : List ℕ) (symbols rules offset : ℕ) → 1021 ≡ length table →
-    HeadParts bytes table symbols rules offset → IsTable (take (1 + 4 * symbols) table)
+pub is-table : (bytes table : List ℕ) (symbols rules offset : ℕ) → maxTableWords ≡ length table →
+    HeadParts true bytes [] table symbols rules offset → IsTable (take (tableWords symbols) table)
 is-table bytes table symbols rules offset n head =
-    let (short, admissible) = table-of bytes table symbols rules offset n head in
+    let (short, admissible) = table-of true bytes [] table symbols rules offset n head in
     record { short = short; admissible = admissible }
 
 -- A fault lies within 32,768 bytes.

@@ -12,7 +12,7 @@ use Rattle.format.specs.Reading.{Reading}
 use Rattle.format.specs.Reading.Reading.{got, fault}
 use Rattle.format.specs.Format.{Sides, RuleFile, systemOf}
 use Rattle.operations.specs.Marking.{marksOf, marginsOf, decreasingCount}
-use Rattle.symbols.specs.Table.{signatureOf}
+use Rattle.symbols.specs.Table.{signatureOf, maxTableWords}
 use Rattle.marking.specs.declared.rule.MarkedRule.{MarkedRule}
 use Rattle.marking.specs.declared.rule.RuleReading.{RuleReading}
 use Rattle.marking.specs.declared.rule.RuleReading.the-variants as rule
@@ -23,7 +23,7 @@ use Rattle.marking.specs.declared.walk.FileMarked.the-variants as file
 
 -- A table as reading leaves it: of at most 255 symbols, and admissible.
 pub record IsTable (table : List ℕ) : Type 0 where
-  pub short : length table ≤ 1021
+  pub short : length table ≤ maxTableWords
   pub admissible : Admissible (signatureOf table)
 
 module _ (σ : Signature) where

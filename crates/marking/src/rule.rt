@@ -12,6 +12,7 @@ ghost use Rattle.symbols.specs.Arities.{Arities};
 ghost use Rattle.format.specs.Format.{ruleReader};
 ghost use Rattle.measures.specs.Nodes.{NodeSums};
 ghost use Rattle.marking.specs.Rule.{IsTable, Marks, MarksRead, MarkedWithin};
+use answers::Answer;
 use bits::BitCursor;
 use format::MAX_NODES;
 use format::NODE_WORDS;
@@ -19,8 +20,7 @@ use measures::NODE_SUMS;
 use measures::totals::margin;
 use measures::totals::total;
 use order::mark::mark;
-use reader::term::Side;
-use reader::term::read_side;
+use sides::read_side;
 
 // A rule's mark and margin, and the cursor past it.
 pub struct MarkedRule {
@@ -83,14 +83,14 @@ fn mark_right(
     ensures { λ r. ⌜ MarkedWithin (8 * length (now (book .entry))) r ⌝ }
 {
     let mut right = [0u16; MAX_NODES];
-    match read_side(book, arities, &mut right, cursor) {
-        Side::Fault(code, offset) => RuleReading::Fault { code, offset },
-        Side::Read(count, next) => RuleReading::Got(mark_sides(
+    match read_side(book, arities, &mut right, cursor.at) {
+        Answer::Fault { code, offset } => RuleReading::Fault { code, offset },
+        Answer::Got { value, next } => RuleReading::Got(mark_sides(
             table,
             adds,
             left,
-            &right[..count],
-            next,
+            &right[..value],
+            BitCursor { at: next },
         )),
     }
 }
@@ -115,8 +115,17 @@ pub fn mark_rule(
     ensures { λ r. ⌜ MarkedWithin (8 * length (now (book .entry))) r ⌝ }
 {
     let mut left = [0u16; MAX_NODES];
-    match read_side(book, arities, &mut left, cursor) {
-        Side::Fault(code, offset) => RuleReading::Fault { code, offset },
-        Side::Read(count, middle) => mark_right(book, table, arities, adds, &left[..count], middle),
+    match read_side(book, arities, &mut left, cursor.at) {
+        Answer::Fault { code, offset } => RuleReading::Fault { code, offset },
+        Answer::Got { value, next } => {
+            mark_right(
+                book,
+                table,
+                arities,
+                adds,
+                &left[..value],
+                BitCursor { at: next },
+            )
+        }
     }
 }

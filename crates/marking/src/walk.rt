@@ -1,6 +1,7 @@
 // The walk over the rules of a packed file: each is read and marked, and its mark and margin are stored.
 ghost use mathlib.Core.Path.{_≡_};
 ghost use mathlib.Core.List.{[], _∷_};
+ghost use mathlib.Core.Bool.{true};
 ghost use Prim.Native.Nat.{_*_, _≤_, _<_};
 ghost use lib.ListN.{length, set};
 ghost use Rattle.format.specs.Layout.{maxBytes};
@@ -20,9 +21,9 @@ use format::BAD_PADDING;
 use format::NODE_WORDS;
 use measures::NODE_SUMS;
 use measures::nodes::node_sums;
-use reader::file::Head;
-use reader::file::TABLE_WORDS;
-use reader::file::read_head;
+use reader::Head;
+use reader::read_head;
+use symbols::TABLE_WORDS;
 
 // How many rules decrease and the cursor past them, or an error's code and offset.
 pub enum RulesMarked {
@@ -124,7 +125,7 @@ fn mark_under(
     requires { ⌜ (length (now book) ≤ maxBytes) × (cursor .at ≤ 8 * length (now book)) ⌝ }
     requires { ⌜ IsTable (now table) × (count < 1024) × (1023 ≤ length (now marks)) ⌝ }
     ensures { λ r. ⌜
-        WholeMarked (restReader (now (book .entry)) (signatureOf (now (table .entry))) count (cursor .at)) r
+        WholeMarked (restReader true (now (book .entry)) [] (signatureOf (now (table .entry))) count (cursor .at)) r
         (now (marks .entry)) (now (marks .exit)) (now (margins .entry)) (now (margins .exit))
         ⌝ }
 {
@@ -156,11 +157,22 @@ pub fn mark_file(book: &[u8], marks: &mut [u8], margins: &mut [i64]) -> FileMark
         ⌝ }
 {
     let mut table = [0u16; TABLE_WORDS];
-    match read_head(book, &mut table) {
-        Head::Fault(code, offset) => FileMarked::Fault { code, offset },
-        Head::Read(symbols, rules, cursor) => {
-            let front = 1 + 4 * symbols;
-            mark_under(book, &table[..front], marks, margins, rules, cursor)
+    match read_head(book, &[0u16; 0], true, &mut table) {
+        Head::Fault { code, offset } => FileMarked::Fault { code, offset },
+        Head::Read {
+            symbols,
+            rules,
+            next,
+        } => {
+            let front = symbols::front(symbols);
+            mark_under(
+                book,
+                &table[..front],
+                marks,
+                margins,
+                rules,
+                BitCursor { at: next },
+            )
         }
     }
 }

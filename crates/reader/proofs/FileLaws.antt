@@ -1,6 +1,6 @@
 -- What the code that reads a whole file has to show at each of its ends.
 --     read-parts                                    the whole file by its form and what follows
---     symbols-fault, head-read                      what follows a header
+--     symbols-fault, head-read, table-of            what follows a header
 --     rest-unread, rest-unended, rest-ended, rest-read     what follows the symbols
 --     rest-fault, file-read                         the whole
 use mathlib.Core.Path.{_≡_, refl, sym, ap, _∙_}
@@ -10,6 +10,7 @@ use Prim.Native.Nat.{ℕ, _≤_, _<_}
 use native.Mathlib.Omega.{arith}
 use lib.Dec.{eqb, leb}
 use lib.ListN.{length, take}
+use lib.Seq.{length-take-le}
 use Rattle.terms.specs.Signature.{Symbol, Signature, Admissible}
 use Rattle.format.specs.Errors.{wrongForm, noSymbols, variableWeightless}
 use Rattle.format.specs.Layout.{formWidth, formNumber, symbolCountWidth, weightWidth, ruleCountWidth, maxBytes}
@@ -20,9 +21,9 @@ use Rattle.format.specs.Files.{wholeReader}
 use Rattle.format.proofs.ReadingLaws.{andThen-assoc, andThen-same, holds-got}
 use Rattle.format.proofs.FormatLaws.{symbols-read, rules-length}
 use Rattle.format.proofs.SymbolLaws.{admissible-of-symbols}
-use Rattle.symbols.specs.Table.{symbolsAt, signatureOf, weightOf, entryWords, tableWords}
+use Rattle.symbols.specs.Table.{symbolsAt, signatureOf, weightOf, tableWords, maxTableWords}
 use Rattle.symbols.proofs.TableLaws.{length-symbols}
-use Rattle.symbols.proofs.EntryLaws.{signature-front}
+use Rattle.symbols.proofs.EntryLaws.{table-le, signature-front}
 use Rattle.answers.specs.declared.Answer.the-variants.{Got, Fault}
 use Rattle.sides.specs.Side.{WordsRead}
 use Rattle.reader.specs.declared.file.Head.the-variants as head
@@ -130,6 +131,15 @@ module _ (packed : Bool) (bytes words : List ℕ) (w0 symbols rules at : ℕ) wh
         },
       )
 
+-- The table that reading a head leaves.
+pub table-of : (packed : Bool) (bytes words table : List ℕ) (symbols rules offset : ℕ) → maxTableWords ≡ length table →
+    HeadParts packed bytes words table symbols rules offset →
+    (length (take (tableWords symbols) table) ≤ maxTableWords)
+    × Admissible (signatureOf (take (tableWords symbols) table))
+table-of packed bytes words table symbols rules offset n head =
+    let few = table-le symbols (head .fewSymbols) in
+    (omega (arith, few, length-take-le (tableWords symbols) table (omega (arith, few))), head .admissible)
+
 -- ---- after the symbols
 
 module _ (packed : Bool) (bytes words : List ℕ) (σ : Signature) (count at : ℕ) where
@@ -138,20 +148,24 @@ module _ (packed : Bool) (bytes words : List ℕ) (σ : Signature) (count at : �
   unfolding restReader
   rest-unread code offset e = rw e
 
-  module _ (nodes next : ℕ) (before after : List ℕ)
-      (read : WordsRead (storedWords packed) (rulesReader (sourceOf packed bytes words) σ count at) 0 before
-      (Got nodes next) after) where
+  module _ (rules : List Sides) (next : ℕ)
+      (e : rulesReader (sourceOf packed bytes words) σ count at ≡ got rules next) where
     pub rest-unended : (code offset : ℕ) → sourceOf packed bytes words .end next ≡ fault code offset →
         restReader packed bytes words σ count at ≡ fault code offset
     unfolding restReader
-    rest-unended code offset e = rw (read .1, e)
+    rest-unended code offset f = rw (e, f)
 
-    pub rest-read : (last : ℕ) → sourceOf packed bytes words .end next ≡ got tt last →
-        RestRead packed bytes words σ count at (Got nodes next) before after
+    pub rest-ended : (last : ℕ) → sourceOf packed bytes words .end next ≡ got tt last →
+        restReader packed bytes words σ count at ≡ got (record { signature = σ; rules = rules }) last
     unfolding restReader
-    rest-read last e =
-        let (rules, r, long, stored) = read in
-        (rules, last, r, rw (r, e), omega (arith, long), stored)
+    rest-ended last f = rw (e, f)
+
+  pub rest-read : (nodes next last : ℕ) (before after : List ℕ) →
+      WordsRead (storedWords packed) (rulesReader (sourceOf packed bytes words) σ count at) 0 before (Got nodes next)
+      after → sourceOf packed bytes words .end next ≡ got tt last →
+      RestRead packed bytes words σ count at (Got nodes next) before after
+  rest-read nodes next last before after (rules, e, long, stored) f =
+      (rules, last, e, rest-ended rules next e last f, omega (arith, long), stored)
 
 -- ---- the whole
 

@@ -5,12 +5,12 @@ ghost use Rattle.format.specs.Layout.{maxBytes};
 ghost use Rattle.symbols.specs.Table.{signatureOf, tableWords, maxTableWords};
 ghost use Rattle.reader.specs.Source.{Reached, readSource};
 ghost use Rattle.reader.specs.File.{tableReader, countsReader, HeadRead, RestRead, FileRead};
-use answers::Answer;
 use crate::field::end;
 use crate::field::field;
 use crate::field::field_at_least;
 use crate::rule::read_rules;
 use crate::symbol::read_symbols;
+use answers::Answer;
 use format::FILE_TOO_LONG;
 use format::FORM;
 use format::FORM_WIDTH;
@@ -79,13 +79,7 @@ fn read_table(
 }
 
 // Reads the counts that follow a form, and the symbols.
-fn read_counts(
-    book: &[u8],
-    sheet: &[u16],
-    packed: bool,
-    table: &mut [u16],
-    at: usize,
-) -> Head
+fn read_counts(book: &[u8], sheet: &[u16], packed: bool, table: &mut [u16], at: usize) -> Head
     requires { ⌜ (length (now book) ≤ maxBytes) × Reached packed (now book) (now sheet) 1 at ⌝ }
     requires { ⌜ maxTableWords ≤ length (now table) ⌝ }
     ensures { λ r. ⌜
@@ -95,10 +89,24 @@ fn read_counts(
 {
     match field_at_least(book, sheet, packed, at, SYMBOL_COUNT_WIDTH, 1, NO_SYMBOLS) {
         Answer::Fault { code, offset } => Head::Fault { code, offset },
-        Answer::Got { value: symbols, next: w0_at } => {
-            match field_at_least(book, sheet, packed, w0_at, WEIGHT_WIDTH, 1, VARIABLE_WEIGHTLESS) {
+        Answer::Got {
+            value: symbols,
+            next: w0_at,
+        } => {
+            match field_at_least(
+                book,
+                sheet,
+                packed,
+                w0_at,
+                WEIGHT_WIDTH,
+                1,
+                VARIABLE_WEIGHTLESS,
+            ) {
                 Answer::Fault { code, offset } => Head::Fault { code, offset },
-                Answer::Got { value: w0, next: rules_at } => {
+                Answer::Got {
+                    value: w0,
+                    next: rules_at,
+                } => {
                     match field(book, sheet, packed, rules_at, RULE_COUNT_WIDTH) {
                         Answer::Fault { code, offset } => Head::Fault { code, offset },
                         Answer::Got { value: rules, next } => {
@@ -161,7 +169,10 @@ fn read_rest(
         Answer::Fault { code, offset } => Answer::Fault { code, offset },
         Answer::Got { value, next } => match end(book, sheet, packed, next) {
             Answer::Fault { code, offset } => Answer::Fault { code, offset },
-            Answer::Got { value: none, next: last } => Answer::Got { value, next },
+            Answer::Got {
+                value: none,
+                next: last,
+            } => Answer::Got { value, next },
         },
     }
 }
@@ -183,7 +194,11 @@ pub fn read_file(
 {
     match read_head(book, sheet, packed, table) {
         Head::Fault { code, offset } => File::Fault { code, offset },
-        Head::Read { symbols, rules, next } => {
+        Head::Read {
+            symbols,
+            rules,
+            next,
+        } => {
             let front = symbols::front(symbols);
             match read_rest(book, sheet, packed, &table[..front], words, rules, next) {
                 Answer::Fault { code, offset } => File::Fault { code, offset },

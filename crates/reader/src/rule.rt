@@ -66,12 +66,7 @@ fn read_word_rule(arities: &[u32; NODE_WORDS], sheet: &[u16], at: usize) -> Answ
 }
 
 // Reads that many rules from words.
-fn read_word_rules(
-    arities: &[u32; NODE_WORDS],
-    sheet: &[u16],
-    count: usize,
-    at: usize,
-) -> Answer
+fn read_word_rules(arities: &[u32; NODE_WORDS], sheet: &[u16], count: usize, at: usize) -> Answer
     requires { ⌜ (at ≤ 2 ^ 16) × (count < 1024) ⌝ }
     requires { ⌜ ((σ : Signature) × Arities σ (now arities)) ⌝ }
     ensures { λ r. ⌜

@@ -12,26 +12,20 @@ ghost use Rattle.symbols.specs.Table.{symbolsAt, tableWords};
 ghost use Rattle.answers.specs.Answer.{readingOf, Fits};
 ghost use Rattle.reader.specs.Source.{sourceOf, tested};
 ghost use Rattle.reader.specs.Symbol.{TakenBy, SymbolPut, SymbolsPut};
-use answers::Answer;
 use crate::field::field;
 use crate::field::field_at_least;
+use answers::Answer;
 use format::AC_NOT_BINARY;
 use format::AC_WIDTH;
 use format::ARITY_WIDTH;
-use format::RANKS;
 use format::RANK_TAKEN;
 use format::RANK_WIDTH;
+use format::RANKS;
 use format::WEIGHT_INADMISSIBLE;
 use format::WEIGHT_WIDTH;
 
 // The rank here, which is to be none of those taken.
-fn read_rank(
-    book: &[u8],
-    sheet: &[u16],
-    packed: bool,
-    taken: &[bool; RANKS],
-    at: usize,
-) -> Answer
+fn read_rank(book: &[u8], sheet: &[u16], packed: bool, taken: &[bool; RANKS], at: usize) -> Answer
     requires { ⌜ length (now book) ≤ maxBytes ⌝ }
     ensures { λ r. ⌜
         ((earlier : List Symbol) → TakenBy earlier (now (taken .entry)) →
@@ -82,7 +76,11 @@ fn read_symbol(
     };
     let arity = value as u16;
     let ac_read = field(book, sheet, packed, ac_at, AC_WIDTH);
-    let Answer::Got { value, next: weight_at } = ac_read else {
+    let Answer::Got {
+        value,
+        next: weight_at,
+    } = ac_read
+    else {
         return ac_read;
     };
     let ac = value as u16;
@@ -93,14 +91,29 @@ fn read_symbol(
         };
     }
     let least = symbols::wide(symbols::least_weight(w0, arity));
-    let weight_read =
-        field_at_least(book, sheet, packed, weight_at, WEIGHT_WIDTH, least, WEIGHT_INADMISSIBLE);
-    let Answer::Got { value, next: rank_at } = weight_read else {
+    let weight_read = field_at_least(
+        book,
+        sheet,
+        packed,
+        weight_at,
+        WEIGHT_WIDTH,
+        least,
+        WEIGHT_INADMISSIBLE,
+    );
+    let Answer::Got {
+        value,
+        next: rank_at,
+    } = weight_read
+    else {
         return weight_read;
     };
     let weight = value as u16;
     let rank_read = read_rank(book, sheet, packed, taken, rank_at);
-    let Answer::Got { value: rank, next: _ } = rank_read else {
+    let Answer::Got {
+        value: rank,
+        next: _,
+    } = rank_read
+    else {
         return rank_read;
     };
     symbols::put_symbol(table, number, arity, ac, weight, rank as u16);

@@ -50,4 +50,3 @@ unpacked-length file =
       length-append (symbolsWords (file .signature .symbols)) (rulesWords (file .rules)),
       length-symbolsWords (file .signature .symbols),
     )
-

@@ -17,8 +17,8 @@ use answers::pack_value;
 use answers::unpack;
 use bits::BitCursor;
 use format::MAX_NODES;
-use format::NODE_WORDS;
 use format::NO_SUCH_SYMBOL;
+use format::NODE_WORDS;
 use format::TOO_MANY_NODES;
 
 // Reads as many terms as are owed, their words stored after the first ones. It reads a node and calls itself for what

@@ -11,6 +11,7 @@ use format::FIRST_VARIABLE;
 use format::NODE_WORDS;
 
 mod entries;
+
 pub use crate::entries::TABLE_WORDS;
 pub use crate::entries::count;
 pub use crate::entries::entry_words;

@@ -24,7 +24,8 @@ use Rattle.format.specs.Reading.{Reading, Node, wordSource, wordBelow}
 use Rattle.format.specs.Reading.Reading.{got, fault}
 use Rattle.format.specs.Format.{forestReader}
 use Rattle.format.specs.Files.{readTerm}
-use Rattle.format.proofs.ForestLaws.{before, nothing-owed, none-allowed, node-fault, forest-short}
+use Rattle.format.proofs.ForestLaws.{before, nothing-owed, none-allowed, node-fault}
+use Rattle.format.proofs.SideLaws.{forest-short}
 use Rattle.symbols.specs.Arities.{Arities}
 use Rattle.answers.specs.declared.Answer.{Answer}
 use Rattle.answers.specs.declared.Answer.the-variants.{Got, Fault}

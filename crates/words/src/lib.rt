@@ -15,11 +15,11 @@ use answers::pack_value;
 use answers::unpack;
 use format::FIELD_MISSING;
 use format::MAX_NODES;
-use format::NODE_WORDS;
 use format::NO_SUCH_SYMBOL;
+use format::NODE_WORDS;
 use format::TOO_MANY_NODES;
-use format::WORDS_LEFT_OVER;
 use format::WORD_TOO_WIDE;
+use format::WORDS_LEFT_OVER;
 
 // The word at an offset, which is to be below a bound.
 pub fn word_below(words: &[u16], at: usize, bound: usize) -> Answer
@@ -47,7 +47,13 @@ pub fn word_below(words: &[u16], at: usize, bound: usize) -> Answer
 
 // Reads as many terms as are owed, and gives their end. It reads a node and calls itself for what is then owed, with
 // one node fewer allowed. The answer is a number, so that this call in last place is a jump.
-fn terms(words: &&[u16], arities: &[u32; NODE_WORDS], at: usize, allowed: usize, owed: usize) -> usize
+fn terms(
+    words: &&[u16],
+    arities: &[u32; NODE_WORDS],
+    at: usize,
+    allowed: usize,
+    owed: usize,
+) -> usize
     requires { ⌜ (at + allowed ≤ 2 ^ 32) × (owed + 2 ^ 32 * allowed ≤ 2 ^ 60) ⌝ }
     ensures { λ r. ⌜
         ((σ : Signature) → Arities σ (now (arities .entry)) →

@@ -28,8 +28,7 @@ returns-3 c =
     let c3 = c .before .before .before in
     let c5 = c3 .before .before in
     let word = getD (c5 .args .words .now) (c5 .args .at) 0 in
-    let fits : word < c5 .args .bound = omega (arith, c .before .wide .ensures .0) in
-    (
+    let fits : word < c5 .args .bound = omega (arith, c .before .wide .ensures .0) in (
       rw (c .before .wide .ensures .0, lt-ltb (c5 .args .at) (length (c5 .args .words .now)) (c3 .if1 .left), lt-ltb word (c5 .args .bound) fits),
       rw (c .before .wide .ensures .0) fits,
     )

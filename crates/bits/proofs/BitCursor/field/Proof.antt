@@ -40,8 +40,7 @@ returns-2 c =
       c .before .before .shared-slice-known
           .given i,
     ) in
-    let room : a .self .at % 8 + a .width ≤ 24 = omega arith in
-    (
+    let room : a .self .at % 8 + a .width ≤ 24 = omega arith in (
       rw (
         one-shl (a .width),
         le-leb _ _ fits,

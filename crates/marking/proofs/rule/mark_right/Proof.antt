@@ -11,13 +11,13 @@ use Rattle.marking.proofs.rule.mark_right.Tie as tie
 array-share-prefix-right : tie.Need-array-share-prefix-right
 array-share-prefix-right c =
     let c3 = c .before .before .before in
-    let within = rw (c .before .count .given .1) at (c3 .read-side .ensures .1 .0) in
+    let within = rw (c .before .value .given .1) at (c3 .read-side .ensures .1 .0) in
     omega (arith, within, c3 .read-side .ensures .1 .1)
 
 slice-aggregate-mark-sides : tie.Need-slice-aggregate-mark-sides
 slice-aggregate-mark-sides c =
     let c4 = c .before .before .before .before in
-    let within = rw (c .before .before .count .given .1) at (c4 .read-side .ensures .1 .0) in
+    let within = rw (c .before .before .value .given .1) at (c4 .read-side .ensures .1 .0) in
     sym (length-take-le _ (c4 .read-side .last .1 .1 .0) (omega (arith, within, c4 .read-side .ensures .1 .1)))
 
 mark-sides-requires : tie.Need-mark-sides-requires
@@ -26,7 +26,7 @@ mark-sides-requires c κs =
     let c9 = c4 .before .before .before .before .before in
     let a = c9 .args in
     let σ = signatureOf (a .table .now) in
-    let e = rw (c .before .before .count .given .1) at (c4 .read-side .ensures .0 σ (c9 .pre .1 .1)) in
+    let e = rw (c .before .before .value .given .1) at (c4 .read-side .ensures .0 σ (c9 .pre .1 .1)) in
     (c9 .pre .1 .0, c9 .pre .1 .2, side-term (a .book .now) σ (a .cursor .at) _ _ (sym e), c9 .pre .1 .3)
 
 returns : tie.Need-returns
@@ -44,8 +44,8 @@ returns-2 c =
     let c10 = c5 .before .before .before .before .before in
     let a = c10 .args in
     let σ = signatureOf (a .table .now) in
-    let e = rw (c3 .count .given .1) at (c5 .read-side .ensures .0 σ (c10 .pre .1 .1)) in
-    let within = rw (c3 .count .given .1) at (c5 .read-side .ensures .1 .0) in
+    let e = rw (c3 .value .given .1) at (c5 .read-side .ensures .0 σ (c10 .pre .1 .1)) in
+    let within = rw (c3 .value .given .1) at (c5 .read-side .ensures .1 .0) in
     let (x, same) = c .mark-sides .ensures in
     (right-marked σ _ (a .left .now) _ _ (c .mark-sides .result) e same x, rw same (within .1))
 

@@ -12,13 +12,13 @@ use Rattle.marking.proofs.rule.mark_rule.Tie as tie
 array-share-prefix-left : tie.Need-array-share-prefix-left
 array-share-prefix-left c =
     let c3 = c .before .before .before in
-    let within = rw (c .before .count .given .1) at (c3 .read-side .ensures .1 .0) in
+    let within = rw (c .before .value .given .1) at (c3 .read-side .ensures .1 .0) in
     omega (arith, within, c3 .read-side .ensures .1 .1)
 
 slice-aggregate-mark-right : tie.Need-slice-aggregate-mark-right
 slice-aggregate-mark-right c =
     let c4 = c .before .before .before .before in
-    let within = rw (c .before .before .count .given .1) at (c4 .read-side .ensures .1 .0) in
+    let within = rw (c .before .before .value .given .1) at (c4 .read-side .ensures .1 .0) in
     sym (length-take-le _ (c4 .read-side .last .1 .1 .0) (omega (arith, within, c4 .read-side .ensures .1 .1)))
 
 mark-right-requires : tie.Need-mark-right-requires
@@ -27,8 +27,8 @@ mark-right-requires c κs =
     let c8 = c4 .before .before .before .before in
     let a = c8 .args in
     let σ = signatureOf (a .table .now) in
-    let e = rw (c .before .before .count .given .1) at (c4 .read-side .ensures .0 σ (c8 .pre .1 .1)) in
-    let within = rw (c .before .before .count .given .1) at (c4 .read-side .ensures .1 .0) in (
+    let e = rw (c .before .before .value .given .1) at (c4 .read-side .ensures .0 σ (c8 .pre .1 .1)) in
+    let within = rw (c .before .before .value .given .1) at (c4 .read-side .ensures .1 .0) in (
       (c8 .pre .0 .0, within .1),
       (
         c8 .pre .1 .0,
@@ -56,7 +56,7 @@ returns-2 c =
     let c9 = c5 .before .before .before .before in
     let a = c9 .args in
     let σ = signatureOf (a .table .now) in
-    let e = rw (c3 .count .given .1) at (c5 .read-side .ensures .0 σ (c9 .pre .1 .1)) in (
+    let e = rw (c3 .value .given .1) at (c5 .read-side .ensures .0 σ (c9 .pre .1 .1)) in (
       rule-marked σ (bitSource (a .book .now)) (a .cursor .at) _ _ e (c .mark-right .result) (c .mark-right
           .ensures .0),
       c .mark-right .ensures .1,

@@ -30,8 +30,8 @@ returns-2 c =
     let c17 = c12 .before .before .before .before .before in
     let a = c17 .args in
     let σ = signatureOf (a .table .now) in
-    rest-unended (a .packed) (a .book .now) (a .sheet .now) σ (a .count) (a .at) _ _ (a .words .now)
-    (c9 .read-rules .last .1 .1 .1 .1 .0) (rw (c5 .value .given .1) at (c9 .read-rules .ensures σ (c12 .arities .ensures))) _ _
+    let (rules, e, long, stored) = rw (c5 .value .given .1) at (c9 .read-rules .ensures σ (c12 .arities .ensures)) in
+    rest-unended (a .packed) (a .book .now) (a .sheet .now) σ (a .count) (a .at) rules _ e _ _
     (sym (rw (c .before .code2 .given .1) at (c3 .end .ensures)))
 
 returns-3 : tie.Need-returns-3
@@ -43,8 +43,8 @@ returns-3 c =
     let c17 = c12 .before .before .before .before .before in
     let a = c17 .args in
     let σ = signatureOf (a .table .now) in
-    rest-read (a .packed) (a .book .now) (a .sheet .now) σ (a .count) (a .at) _ _ (a .words .now)
-    (c9 .read-rules .last .1 .1 .1 .1 .0) (rw (c5 .value .given .1) at (c9 .read-rules .ensures σ (c12 .arities .ensures))) _
+    rest-read (a .packed) (a .book .now) (a .sheet .now) σ (a .count) (a .at) _ _ _ (a .words .now)
+    (c9 .read-rules .last .1 .1 .1 .1 .0) (rw (c5 .value .given .1) at (c9 .read-rules .ensures σ (c12 .arities .ensures)))
     (sym (rw (c .before .none .given .1) at (c3 .end .ensures)))
 
 pub read-rest-spec : {M : Type 1} → statement M

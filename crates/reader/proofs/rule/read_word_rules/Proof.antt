@@ -56,11 +56,13 @@ loop-again c =
         rule-end (a .sheet .now) τ (c5 .loop .here) _ _ (sym (c3 .read-word-rule .ensures τ cells) ∙ c .before .value .given .1),
       ),
       λ σ table.
-      let (done, so) = c5 .loop .inv .2 σ table in
-      let rule = ruleReader (wordSource (a .sheet .now)) σ (c5 .loop .here) in
-      let (r, read) = end-got rule _ _ (sym (c3 .read-word-rule .ensures σ table) ∙ c .before .value .given .1) in
-      (done ++ (r ∷ []), done-more (wordSource (a .sheet .now)) σ (a .count) (a .at) (c5 .loop .number) (c5 .loop .here) done so
-      (omega arith) r _ read),
+          let (done, so) = c5 .loop .inv .2 σ table in
+          let rule = ruleReader (wordSource (a .sheet .now)) σ (c5 .loop .here) in
+          let (r, read) = end-got rule _ _ (sym (c3 .read-word-rule .ensures σ table) ∙ c .before .value .given .1) in (
+            done ++ (r ∷ []),
+            done-more (wordSource (a .sheet .now)) σ (a .count) (a .at) (c5 .loop .number) (c5 .loop .here) done so
+                (omega arith) r _ read,
+          ),
     )
 
 returns-2 : tie.Need-returns-2 Inv-loop μ-loop

@@ -163,8 +163,7 @@ returns-6 c =
       ac = eqb (c18 .ac-read .given .0 .0) 1;
       weight = c10 .weight-read .given .0 .0;
       precedence = c5 .rank-read .given .0 .0;
-    } in
-    (
+    } in (
       (
         s,
         parts ∙ rw (arity, ac, binary, weight, rank),

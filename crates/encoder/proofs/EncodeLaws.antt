@@ -17,7 +17,7 @@ use Rattle.format.specs.Reading.Reading.{got, fault}
 use Rattle.format.specs.Format.{RuleFile, forestReader, ruleReader, rulesReader}
 use Rattle.format.specs.Files.{readWords}
 use Rattle.format.specs.Packing.{Item, items, itemBits, bytesOf, packed}
-use Rattle.format.proofs.ReadingLaws.{Holds, holds-got, holds-then}
+use Rattle.format.proofs.ReadingLaws.{HoldsOf, holds-got, holds-then}
 use Rattle.format.proofs.SideLaws.{forest-short}
 use Rattle.format.proofs.FileLaws.{words-unpacked}
 use Rattle.format.proofs.PackingLaws.{length-bytesOf}
@@ -35,8 +35,8 @@ use Rattle.encoder.proofs.ItemsLaws.{file-items}
 
 -- A rule has at most 256 nodes.
 module _ (source : Source) (σ : Signature) where
-  rule-short : (at : ℕ) → Holds (λ r end. length (sideWords r) ≤ 256) (ruleReader source σ at)
-  unfolding ruleReader Holds
+  rule-short : (at : ℕ) → HoldsOf (λ r end. length (sideWords r) ≤ 256) (ruleReader source σ at)
+  unfolding ruleReader HoldsOf
   rule-short at =
       holds-then _ (forestReader source σ maxNodes 1 at) _ λ left mid e.
       holds-then _ (forestReader source σ maxNodes 1 mid) _ λ right end f.
@@ -47,8 +47,8 @@ module _ (source : Source) (σ : Signature) where
         forest-short source σ maxNodes 1 mid right end f,
       ))
 
-  rules-short : (n at : ℕ) → Holds (λ rs end. length (rulesWords rs) ≤ 256 * n) (rulesReader source σ n at)
-  unfolding rulesReader Holds
+  rules-short : (n at : ℕ) → HoldsOf (λ rs end. length (rulesWords rs) ≤ 256 * n) (rulesReader source σ n at)
+  unfolding rulesReader HoldsOf
   rules-short zero at = omega arith
   rules-short (suc n) at =
       holds-then _ (ruleReader source σ at) _ λ r mid e.

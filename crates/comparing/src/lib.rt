@@ -10,7 +10,6 @@ ghost use Rattle.symbols.specs.Arities.{Arities};
 ghost use Rattle.operations.specs.Comparing.{comparison, comparedRight, comparedTerms, compared};
 ghost use Rattle.operations.specs.Enums.{compareReply};
 use answers::Answer;
-use format::NODE_WORDS;
 use measures::SUMS;
 use measures::nodes::node_sums;
 use measures::sums::sum_up;
@@ -48,7 +47,7 @@ fn compare_read(table: &[u16], left: &[u16], right: &[u16]) -> Comparison
 // Compares a left term that was read with the right one.
 fn compare_right(
     table: &[u16],
-    arities: &[u32; NODE_WORDS],
+    arities: &[u32; format::NODE_WORDS],
     left: &[u16],
     right: &[u16],
 ) -> CompareReply

@@ -6,8 +6,6 @@ ghost use Rattle.operations.specs.Marking.{scoreOf, marked};
 ghost use Rattle.operations.specs.Enums.{markReply};
 use crate::walk::FileMarked;
 use crate::walk::mark_file;
-use format::MARKS_TOO_SHORT;
-use format::MAX_RULES;
 use operations::Error;
 use operations::MarkReply;
 use operations::Summary;
@@ -40,13 +38,13 @@ pub fn mark(book: &[u8], marks: &mut [u8]) -> MarkReply
     ensures { λ r. ⌜ markReply r ≡ marked (now (book .entry)) (now (marks .entry)) .reply ⌝ }
     ensures { λ _. ⌜ now (marks .exit) ≡ marked (now (book .entry)) (now (marks .entry)) .output ⌝ }
 {
-    let mut found = [0u8; MAX_RULES];
+    let mut found = [0u8; format::MAX_RULES];
     let mut none = [0i64; 0];
     match mark_file(book, &mut found, &mut none) {
         FileMarked::Fault { code, offset } => refused(code, 0, offset),
         FileMarked::Marked { rules, decreasing } => {
             if marks.len() < rules {
-                return refused(MARKS_TOO_SHORT, 1, 0);
+                return refused(format::MARKS_TOO_SHORT, 1, 0);
             }
             text::put_bytes(marks, 0, &found[..rules]);
             let score = score(decreasing, rules);

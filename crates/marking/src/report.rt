@@ -13,7 +13,6 @@ use crate::lines::put_rules;
 use crate::mark::score;
 use crate::walk::FileMarked;
 use crate::walk::mark_file;
-use format::MAX_RULES;
 
 // Room for the longest text.
 pub const TEXT_BYTES: usize = 65536;
@@ -40,8 +39,8 @@ pub fn report(book: &[u8], out: &mut [u8; TEXT_BYTES]) -> usize
     ensures { λ r. ⌜ (r ≡ length (reportOf (now (book .entry)))) × (r ≤ 65536) ⌝ }
     ensures { λ _. ⌜ now (out .exit) ≡ sets (now (out .entry)) 0 (reportOf (now (book .entry))) ⌝ }
 {
-    let mut marks = [0u8; MAX_RULES];
-    let mut margins = [0i64; MAX_RULES];
+    let mut marks = [0u8; format::MAX_RULES];
+    let mut margins = [0i64; format::MAX_RULES];
     match mark_file(book, &mut marks, &mut margins) {
         FileMarked::Fault { code, offset } => put_refusal(out, long(code), offset as u64),
         FileMarked::Marked { rules, decreasing } => {

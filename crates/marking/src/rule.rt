@@ -14,8 +14,6 @@ ghost use Rattle.measures.specs.Nodes.{NodeSums};
 ghost use Rattle.marking.specs.Rule.{IsTable, Marks, MarksRead, MarkedWithin};
 use answers::Answer;
 use bits::BitCursor;
-use format::MAX_NODES;
-use format::NODE_WORDS;
 use measures::NODE_SUMS;
 use measures::totals::margin;
 use measures::totals::total;
@@ -65,7 +63,7 @@ fn mark_sides(
 fn mark_right(
     book: &[u8],
     table: &[u16],
-    arities: &[u32; NODE_WORDS],
+    arities: &[u32; format::NODE_WORDS],
     adds: &[u64; NODE_SUMS],
     left: &[u16],
     cursor: BitCursor,
@@ -82,7 +80,7 @@ fn mark_right(
         ⌝ }
     ensures { λ r. ⌜ MarkedWithin (8 * length (now (book .entry))) r ⌝ }
 {
-    let mut right = [0u16; MAX_NODES];
+    let mut right = [0u16; format::MAX_NODES];
     match read_side(book, arities, &mut right, cursor.at) {
         Answer::Fault { code, offset } => RuleReading::Fault { code, offset },
         Answer::Got { value, next } => RuleReading::Got(mark_sides(
@@ -99,7 +97,7 @@ fn mark_right(
 pub fn mark_rule(
     book: &[u8],
     table: &[u16],
-    arities: &[u32; NODE_WORDS],
+    arities: &[u32; format::NODE_WORDS],
     adds: &[u64; NODE_SUMS],
     cursor: BitCursor,
 ) -> RuleReading
@@ -114,7 +112,7 @@ pub fn mark_rule(
         ⌝ }
     ensures { λ r. ⌜ MarkedWithin (8 * length (now (book .entry))) r ⌝ }
 {
-    let mut left = [0u16; MAX_NODES];
+    let mut left = [0u16; format::MAX_NODES];
     match read_side(book, arities, &mut left, cursor.at) {
         Answer::Fault { code, offset } => RuleReading::Fault { code, offset },
         Answer::Got { value, next } => {

@@ -17,8 +17,6 @@ ghost use Rattle.marking.specs.Rule.{IsTable, AllMarked, AllWithin, Whol
 use crate::rule::RuleReading;
 use crate::rule::mark_rule;
 use bits::BitCursor;
-use format::BAD_PADDING;
-use format::NODE_WORDS;
 use measures::NODE_SUMS;
 use measures::nodes::node_sums;
 use reader::Head;
@@ -72,7 +70,7 @@ fn put_margin(margins: &mut [i64], index: usize, margin: i64)
 fn mark_rules(
     book: &[u8],
     table: &[u16],
-    arities: &[u32; NODE_WORDS],
+    arities: &[u32; format::NODE_WORDS],
     adds: &[u64; NODE_SUMS],
     marks: &mut [u8],
     margins: &mut [i64],
@@ -141,7 +139,7 @@ fn mark_under(
                 };
             }
             FileMarked::Fault {
-                code: BAD_PADDING,
+                code: format::BAD_PADDING,
                 offset: next.at,
             }
         }

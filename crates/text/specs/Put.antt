@@ -1,5 +1,4 @@
 -- Text put into a list of bytes.
--- Renders: 01, "Replies and refusals": "later ones are unchanged".
 use mathlib.Core.List.{List}
 use mathlib.Core.Path.{_≡_}
 use Prim.Native.Nat.{ℕ, _+_}

@@ -1,5 +1,4 @@
 -- The state of a bit writer, and what bytes and state say of the bits written.
--- Renders: 01, "Book layout": "Fields are bit-packed, most significant bit first, with no gaps."
 use mathlib.Core.List.{List, [], _∷_}
 use mathlib.Core.Path.{_≡_}
 use mathlib.Core.Bool.{cond}

@@ -25,7 +25,7 @@ use Rattle.equivalence.proofs.StepLaws.{part-small}
 use Rattle.measures.specs.declared.totals.Totals.{Totals}
 use Rattle.measures.specs.Digits.{digit, packed, digitsWithin, SmallDigits}
 use Rattle.measures.specs.Totals.{Totalled}
-use Rattle.measures.specs.Sums.{Scales}
+use Rattle.measures.specs.Sums.{Scale}
 
 -- ---- digits are occurrences
 
@@ -126,7 +126,7 @@ totals-none-oftener {σ} {s} {t} A B =
     rw (A .low, B .low, A .high, B .high) (halves-none (termOf σ s) (termOf σ t) (A .short) (B .short))
 
 module _ {table s skeys ssums t tkeys tsums : List ℕ}
-    (W : Scales table s skeys ssums t tkeys tsums) {i j : ℕ} (h : i < length s) (k : j < length t) where
+    (W : Scale table s skeys ssums t tkeys tsums) {i j : ℕ} (h : i < length s) (k : j < length t) where
   abbrev left : Term
   left = partAt (signatureOf table) s i
 

@@ -14,7 +14,7 @@ pub record SummedUp (σ : Signature) (ws sums : List ℕ) : Type 0 where
   pub sum : (kind k : ℕ) → kind < 3 → k ≤ length ws → getD sums (3 * k + kind) 0 ≡ wordSum σ kind (drop k ws)
 
 -- What both sides of a comparison by the order are: prepared, with their sums.
-pub record Scales (table s skeys ssums t tkeys tsums : List ℕ) : Type 0 where
+pub record Scale (table s skeys ssums t tkeys tsums : List ℕ) : Type 0 where
   pub sides : BothPrepared table s skeys t tkeys
   pub left : SummedUp (signatureOf table) s ssums
   pub right : SummedUp (signatureOf table) t tsums

@@ -17,7 +17,7 @@ ghost use Rattle.equivalence.specs.Parts.{partAt};
 ghost use Rattle.equivalence.specs.Keys.{Prepared};
 ghost use Rattle.measures.specs.Nodes.{NodeSums, triple, termSum};
 ghost use Rattle.measures.specs.Totals.{Totalled};
-ghost use Rattle.measures.specs.Sums.{SummedUp, Scales};
+ghost use Rattle.measures.specs.Sums.{SummedUp, Scale};
 
 // Stores the sums for an offset.
 fn put_sums(sums: &mut [u64; SUMS], i: usize, here: Totals)
@@ -111,7 +111,7 @@ pub fn none_oftener_at(
     tsums: &[u64; SUMS],
     j: usize,
 ) -> bool
-    requires { ⌜ Scales (now table) (now s) (now skeys) (now ssums) (now t) (now tkeys) (now tsums) ⌝ }
+    requires { ⌜ Scale (now table) (now s) (now skeys) (now ssums) (now t) (now tkeys) (now tsums) ⌝ }
     requires { ⌜ (i < length (now s)) × (j < length (now t)) ⌝ }
     ensures { λ r. ⌜
         r

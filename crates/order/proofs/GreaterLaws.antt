@@ -17,7 +17,7 @@ use Rattle.terms.specs.Order.{noneOftener, rootMark, decreasingMark, isGreater}
 use Rattle.terms.proofs.OrderLaws.{isGreater-unfolds}
 use Rattle.symbols.specs.Table.{signatureOf}
 use Rattle.equivalence.specs.Parts.{partAt}
-use Rattle.measures.specs.Sums.{Scales}
+use Rattle.measures.specs.Sums.{Scale}
 use Rattle.order.specs.Compared.{weightAt, noneOftenerAt, isHigher, greaterAt, rootAt, rowsGreater}
 use Rattle.order.specs.Compared.{flattenedAt}
 use Rattle.order.proofs.RootLaws.{positive, root-variable, root-differing, root-elements, root-rows}
@@ -48,7 +48,7 @@ module _ (σ : Signature) (s t : Term) where
 -- ---- the terms at two offsets
 
 module _ {table s skeys ssums t tkeys tsums : List ℕ}
-    (S : Scales table s skeys ssums t tkeys tsums) (i j : ℕ)
+    (S : Scale table s skeys ssums t tkeys tsums) (i j : ℕ)
     (few : true ≡ noneOftenerAt table s i t j) {x y : ℕ} (p : x ≡ weightAt table s i) (q : y ≡ weightAt table t j) where
   level : x ≡ y → {r : Bool} → r ≡ ltb 0 (rootAt table s i t j) → r ≡ greaterAt table s i t j
   level = greater-level (signatureOf table) (partAt (signatureOf table) s i) (partAt (signatureOf table) t j) few p q

@@ -13,7 +13,7 @@ use Rattle.symbols.proofs.TableLaws.{few-at}
 use Rattle.equivalence.specs.Parts.{Complete}
 use Rattle.equivalence.specs.Keys.{Prepared, BothPrepared}
 use Rattle.equivalence.proofs.FormedLaws.{term-some, term-complete}
-use Rattle.measures.specs.Sums.{Scales}
+use Rattle.measures.specs.Sums.{Scale}
 use Rattle.order.specs.Compared.{Whole}
 
 pub whole-terms : {table s t : List ℕ} → length table ≤ 1021 → Admissible (signatureOf table) →
@@ -42,7 +42,7 @@ module _ {table s t : List ℕ} (S : Whole table s t) where
     whole-sides = record { small = S .small; binary = S .binary; left = P; right = Q }
 
 pub scales-turned : {table s skeys ssums t tkeys tsums : List ℕ} →
-    Scales table s skeys ssums t tkeys tsums → Scales table t tkeys tsums s skeys ssums
+    Scale table s skeys ssums t tkeys tsums → Scale table t tkeys tsums s skeys ssums
 scales-turned W =
     let S = W .sides in
     record {

@@ -21,7 +21,7 @@ ghost use lib.ListN.{length};
 ghost use Rattle.symbols.specs.Table.{signatureOf};
 ghost use Rattle.equivalence.specs.Parts.{elementsAt, Stands};
 ghost use Rattle.equivalence.specs.Offsets.{OffsetsIn, termsAt};
-ghost use Rattle.measures.specs.Sums.{Scales};
+ghost use Rattle.measures.specs.Sums.{Scale};
 ghost use Rattle.order.specs.Compared.{noneOftenerAt, isHigher, greaterAt, rowsGreater};
 ghost use Rattle.order.specs.Compared.{flattenedAt, covered, outcome};
 
@@ -50,9 +50,7 @@ fn greater(
     tsums: &[u64; SUMS],
     j: usize,
 ) -> bool
-    requires { ⌜
-        Scales (now (now table)) (now (now s)) (now skeys) (now ssums) (now (now t)) (now tkeys) (now tsums)
-        ⌝ }
+    requires { ⌜ Scale (now (now table)) (now (now s)) (now skeys) (now ssums) (now (now t)) (now tkeys) (now tsums) ⌝ }
     requires { ⌜ (i < length (now (now s))) × (j < length (now (now t))) ⌝ }
     ensures { λ r. ⌜ r ≡ greaterAt (now (now (table .entry))) (now (now (s .entry))) i (now (now (t .entry))) j ⌝ }
 {
@@ -74,9 +72,7 @@ fn exceeds(
     tsums: &[u64; SUMS],
     j: usize,
 ) -> bool
-    requires { ⌜
-        Scales (now (now table)) (now (now s)) (now skeys) (now ssums) (now (now t)) (now tkeys) (now tsums)
-        ⌝ }
+    requires { ⌜ Scale (now (now table)) (now (now s)) (now skeys) (now ssums) (now (now t)) (now tkeys) (now tsums) ⌝ }
     requires { ⌜
         (i < length (now (now s))) × (j < length (now (now t)))
         × (true ≡ noneOftenerAt (now (now table)) (now (now s)) i (now (now t)) j)
@@ -116,9 +112,7 @@ pub fn rows_greater(
     j: usize,
     n: usize,
 ) -> bool
-    requires { ⌜
-        Scales (now (now table)) (now (now s)) (now skeys) (now ssums) (now (now t)) (now tkeys) (now tsums)
-        ⌝ }
+    requires { ⌜ Scale (now (now table)) (now (now s)) (now skeys) (now ssums) (now (now t)) (now tkeys) (now tsums) ⌝ }
     requires { ⌜
         Stands (signatureOf (now (now table))) (now (now s)) i n
         × Stands (signatureOf (now (now table))) (now (now t)) j n
@@ -154,9 +148,7 @@ pub fn flattened(
     f: u16,
     n: usize,
 ) -> u8
-    requires { ⌜
-        Scales (now (now table)) (now (now s)) (now skeys) (now ssums) (now (now t)) (now tkeys) (now tsums)
-        ⌝ }
+    requires { ⌜ Scale (now (now table)) (now (now s)) (now skeys) (now ssums) (now (now t)) (now tkeys) (now tsums) ⌝ }
     requires { ⌜
         Stands (signatureOf (now (now table))) (now (now s)) i n
         × Stands (signatureOf (now (now table))) (now (now t)) j n
@@ -270,9 +262,7 @@ fn compare(
     qs: &mut [u8; MAX_ELEMENTS],
     m: usize,
 ) -> u8
-    requires { ⌜
-        Scales (now (now table)) (now (now s)) (now skeys) (now ssums) (now (now t)) (now tkeys) (now tsums)
-        ⌝ }
+    requires { ⌜ Scale (now (now table)) (now (now s)) (now skeys) (now ssums) (now (now t)) (now tkeys) (now tsums) ⌝ }
     requires { ⌜ OffsetsIn (now (now table)) (now (now s)) (now ps) n ⌝ }
     requires { ⌜ OffsetsIn (now (now table)) (now (now t)) (now qs) m ⌝ }
     ensures { λ r. ⌜
@@ -320,9 +310,7 @@ fn covers(
     qs: &[u8; MAX_ELEMENTS],
     m: usize,
 ) -> bool
-    requires { ⌜
-        Scales (now (now table)) (now (now s)) (now skeys) (now ssums) (now (now t)) (now tkeys) (now tsums)
-        ⌝ }
+    requires { ⌜ Scale (now (now table)) (now (now s)) (now skeys) (now ssums) (now (now t)) (now tkeys) (now tsums) ⌝ }
     requires { ⌜ OffsetsIn (now (now table)) (now (now s)) (now ps) n × (0 < n) ⌝ }
     requires { ⌜ OffsetsIn (now (now table)) (now (now t)) (now qs) m ⌝ }
     ensures { λ r. ⌜

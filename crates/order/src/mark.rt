@@ -23,7 +23,7 @@ ghost use Rattle.equivalence.specs.Keys.{BothPrepared};
 ghost use Rattle.equivalence.specs.Offsets.{alikeAt};
 ghost use Rattle.measures.specs.Nodes.{NodeSums};
 ghost use Rattle.measures.specs.Totals.{Totalled};
-ghost use Rattle.measures.specs.Sums.{Scales};
+ghost use Rattle.measures.specs.Sums.{Scale};
 ghost use Rattle.order.specs.Compared.{Whole, SameRoot, noneOftenerAt, weightAt, rootAt};
 
 // The mark by the arguments of two whole terms with the same root: 3 to 6, or 0.
@@ -36,7 +36,7 @@ pub fn arguments_mark(
     tkeys: &[u64; MAX_NODES],
     tsums: &[u64; SUMS],
 ) -> u8
-    requires { ⌜ Scales (now table) (now s) (now skeys) (now ssums) (now t) (now tkeys) (now tsums) ⌝ }
+    requires { ⌜ Scale (now table) (now s) (now skeys) (now ssums) (now t) (now tkeys) (now tsums) ⌝ }
     requires { ⌜ (0 < length (now s)) × (0 < length (now t)) × (getD (now s) 0 0 ≡ getD (now t) 0 0) ⌝ }
     ensures { λ r. ⌜ r ≡ rootAt (now (table .entry)) (now (s .entry)) 0 (now (t .entry)) 0 ⌝ }
 {

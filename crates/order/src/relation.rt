@@ -17,7 +17,7 @@ ghost use Rattle.symbols.specs.Table.{signatureOf};
 ghost use Rattle.equivalence.specs.Offsets.{alikeAt};
 ghost use Rattle.measures.specs.Nodes.{NodeSums};
 ghost use Rattle.measures.specs.Totals.{Totalled};
-ghost use Rattle.measures.specs.Sums.{SummedUp, Scales};
+ghost use Rattle.measures.specs.Sums.{SummedUp, Scale};
 ghost use Rattle.order.specs.Compared.{Whole, greaterAt};
 
 // Is the left one greater, of two whole terms of equal weight with the same root that are prepared?
@@ -33,7 +33,7 @@ fn greater_level(
     tsums: &[u64; SUMS],
 ) -> bool
     requires { ⌜ Whole (now table) (now s) (now t) ⌝ }
-    requires { ⌜ Scales (now table) (now s) (now skeys) (now ssums) (now t) (now tkeys) (now tsums) ⌝ }
+    requires { ⌜ Scale (now table) (now s) (now skeys) (now ssums) (now t) (now tkeys) (now tsums) ⌝ }
     requires { ⌜
         Totalled (signatureOf (now table)) (now s) stotal
         × Totalled (signatureOf (now table)) (now t) ttotal
@@ -60,7 +60,7 @@ fn relation_unlike(
     tsums: &[u64; SUMS],
 ) -> Relation
     requires { ⌜ Whole (now table) (now s) (now t) ⌝ }
-    requires { ⌜ Scales (now table) (now s) (now skeys) (now ssums) (now t) (now tkeys) (now tsums) ⌝ }
+    requires { ⌜ Scale (now table) (now s) (now skeys) (now ssums) (now t) (now tkeys) (now tsums) ⌝ }
     requires { ⌜
         Totalled (signatureOf (now table)) (now s) stotal
         × Totalled (signatureOf (now table)) (now t) ttotal

@@ -1,12 +1,13 @@
 // What each node word adds to the sums: its weight, and its digits among the variables 0 to 7 and 8 to 15.
 use crate::NODE_SUMS;
 use crate::digits::occurrence;
+use symbols::count;
 use symbols::variable_weight;
 use symbols::weight;
 ghost use mathlib.Core.Path.{_≡_};
 ghost use Prim.Native.Nat.{_≤_};
 ghost use lib.ListN.{length};
-ghost use Rattle.symbols.specs.Table.{signatureOf};
+ghost use Rattle.symbols.specs.Table.{signatureOf, maxTableWords};
 ghost use Rattle.measures.specs.Nodes.{NodeSums, Weighed, Occurring};
 
 // Stores the weights of that many symbols.
@@ -44,11 +45,11 @@ fn put_variables(table: &[u16], adds: &mut [u64; NODE_SUMS])
 
 // What each node word adds to the sums.
 pub fn node_sums(table: &[u16]) -> [u64; NODE_SUMS]
-    requires { ⌜ length (now table) ≤ 1025 ⌝ }
+    requires { ⌜ length (now table) ≤ maxTableWords ⌝ }
     ensures { λ r. ⌜ NodeSums (signatureOf (now (table .entry))) r ⌝ }
 {
     let mut adds = [0u64; NODE_SUMS];
-    put_weights(table, &mut adds, (table.len() + 2) / 4);
+    put_weights(table, &mut adds, count(table));
     put_variables(table, &mut adds);
     adds
 }

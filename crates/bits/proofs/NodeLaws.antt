@@ -1,7 +1,6 @@
 -- Fields and nodes of a packed file as its reader gets them.
 --     field-got, field-missing      a field that fits, and one that does not
---     field-lt, field-next          a field that was read is below 2 to its width, and ends that much further on
---     field-end                     and by the end of the file
+--     field-next                    a field that was read ends its width further on
 --     node-got, node-cut, node-none a node from nine bits, one whose number does not fit, one that has no tag
 --     word-by-tag, width-by-tag     a node's word and width by its tag, with no test
 --     word-lt, tag-first            a node's word is below 272; its tag is the first of its bits
@@ -13,7 +12,7 @@ use native.Mathlib.Nat.{add-assoc, add-zero, zero-add}
 use native.Mathlib.Omega.{arith}
 use lib.ListN.{length, getD}
 use lib.Dec.{leb}
-use borrow.Author.Tests.{leb-true, le-leb, lt-leb, lt-ltb, le-ltb}
+use borrow.Author.Tests.{le-leb, lt-leb, lt-ltb, le-ltb}
 use Rattle.format.specs.Errors.{fieldMissing}
 use Rattle.multisets.proofs.Relations.{byOrder}
 use Rattle.format.specs.Reading.{spelt, bitAt, bitField, bitSource}
@@ -55,30 +54,10 @@ module _ (bytes : List ℕ) where
   got-value true x y at v next e = (cc, cc)
   got-value false x y at v next e = (cc, cc)
 
-  pub field-lt : (width at v next : ℕ) → bitField bytes width at ≡ got v next → v < 2 ^ width
-  unfolding bitField
-  field-lt width at v next e =
-      rw (got-value (leb (at + width) (8 * length bytes)) (spelt (bitAt bytes) at width) (at + width) at v next e .0)
-      (spelt-lt bytes at width)
-
   pub field-next : (width at v next : ℕ) → bitField bytes width at ≡ got v next → next ≡ at + width
   unfolding bitField
   field-next width at v next e =
       got-value (leb (at + width) (8 * length bytes)) (spelt (bitAt bytes) at width) (at + width) at v next e .1
-
-  got-true : (b : Bool) (x y at v next : ℕ) → cond b (got x y) (fault fieldMissing at) ≡ got v next → b ≡ true
-  got-true true x y at v next e = refl
-  got-true false x y at v next e = let z : _≡_ {A = ℕ} 0 1 = cc in absurd (omega arith)
-
-  pub field-end : (width at v next : ℕ) → bitField bytes width at ≡ got v next → next ≤ 8 * length bytes
-  unfolding bitField
-  field-end width at v next e =
-      omega (
-        arith,
-        field-next width at v next e,
-        leb-true (at + width) (8 * length bytes)
-            (got-true (leb (at + width) (8 * length bytes)) (spelt (bitAt bytes) at width) (at + width) at v next e),
-      )
 
   module _ (at n : ℕ) (e : spelt (bitAt bytes) at 9 ≡ n) where
     halves : n ≡ spelt (bitAt bytes) at 1 * 256 + spelt (bitAt bytes) (at + 1) 8

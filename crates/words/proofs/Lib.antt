@@ -1,3 +1,2 @@
--- Laws of reading words and terms.
-pub mod WordLaws
+-- Laws of reading terms from words.
 pub mod TermLaws

@@ -10,23 +10,23 @@ use Rattle.answers.specs.declared.Answer.the-variants.{Got, Fault}
 -- The reading of what a value stands for.
 abbrev pub readingOf : {A : Type 0} → (ℕ → A) → Answer → Reading A
 readingOf meaning (Got value next) = got (meaning value) next
-readingOf meaning (Fault code offset) = fault code offset
+readingOf meaning (Fault offset code) = fault code offset
 
 -- The answer to a reading of which the end alone is told.
 abbrev pub endOf : {A : Type 0} → Reading A → Answer
 endOf (got a next) = Got 0 next
-endOf (fault code offset) = Fault code offset
+endOf (fault code offset) = Fault offset code
 
 -- The value is below that, and an error's code has six bits and is not 0.
 abbrev pub Fits : ℕ → Answer → Type 0
 Fits bound (Got value next) = value < bound
-Fits bound (Fault code offset) = (0 < code) × (code < 64)
+Fits bound (Fault offset code) = (0 < code) × (code < 64)
 
 -- The value is at most that, and the end of what was read by that offset.
 abbrev pub Within : ℕ → ℕ → Answer → Type 0
 Within most last (Got value next) = (value ≤ most) × (next ≤ last)
-Within most last (Fault code offset) = Unit {0}
+Within most last (Fault offset code) = Unit {0}
 
 -- A number has an error's code, or 0, in its last six bits, a value in the eight before them, and then an offset.
 abbrev pub answerOf : ℕ → Answer
-answerOf n = cond (eqb (n % 64) 0) (Got (n / 64 % 256) (n / 16384)) (Fault (n % 64) (n / 16384))
+answerOf n = cond (eqb (n % 64) 0) (Got (n / 64 % 256) (n / 16384)) (Fault (n / 16384) (n % 64))

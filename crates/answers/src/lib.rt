@@ -7,7 +7,7 @@ ghost use Rattle.answers.specs.Answer.{answerOf};
 // A value and the offset past what was read, or an error's code and offset. A value that is nothing is 0.
 pub enum Answer {
     Got { value: usize, next: usize },
-    Fault { code: u8, offset: usize },
+    Fault { offset: usize, code: u8 },
 }
 
 // A value and the next offset as one number.
@@ -21,7 +21,7 @@ pub fn pack_value(value: usize, next: usize) -> usize
 // A fault as one number.
 pub fn pack_fault(code: u8, offset: usize) -> usize
     requires { ⌜ (0 < code) × (code < 64) × (offset < 2 ^ 48) ⌝ }
-    ensures { λ r. ⌜ answerOf r ≡ Fault code offset ⌝ }
+    ensures { λ r. ⌜ answerOf r ≡ Fault offset code ⌝ }
 {
     offset * 16384 + code as usize
 }

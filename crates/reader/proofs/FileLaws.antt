@@ -174,7 +174,7 @@ module _ (packed : Bool) (bytes words table before after : List ℕ) (reading : 
   abbrev σ : Signature
   σ = signatureOf (take (tableWords symbols) table)
 
-  pub rest-fault : (code offset : ℕ) → RestRead packed bytes words σ rules start (Fault code offset) before after →
+  pub rest-fault : (code offset : ℕ) → RestRead packed bytes words σ rules start (Fault offset code) before after →
       FileRead packed bytes words reading (file.Fault code offset) table before after
   rest-fault code offset e = read .0 ∙ e
 

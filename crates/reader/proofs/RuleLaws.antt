@@ -84,7 +84,7 @@ module _ (source : Source) (σ : Signature) (count start index₀ : ℕ) (words�
   module _ (number at index : ℕ) (words : List ℕ) (more : number < count)
       (so : SoFar source σ count number start at index₀ index words₀ words) where
     pub so-far-fault : (code offset : ℕ) (after : List ℕ) → ruleReader source σ at ≡ fault code offset →
-        WordsRead rulesWords (rulesReader source σ count start) index₀ words₀ (Fault code offset) after
+        WordsRead rulesWords (rulesReader source σ count start) index₀ words₀ (Fault offset code) after
     so-far-fault code offset after e = done-fault source σ count start number at (so .0) (so .1) more code offset e
 
     pub so-far-more : (end next : ℕ) (after : List ℕ) → length words ≡ length words₀ →
@@ -109,7 +109,7 @@ module _ (source : Source) (σ : Signature) (count start index₀ : ℕ) (words�
 
 -- ---- among words
 
-pub end-fault : {A : Type 0} (r : Reading A) (code offset : ℕ) → endOf r ≡ Fault code offset → r ≡ fault code offset
+pub end-fault : {A : Type 0} (r : Reading A) (code offset : ℕ) → endOf r ≡ Fault offset code → r ≡ fault code offset
 end-fault (got a at) code offset e = let z : _≡_ {A = ℕ} 0 1 = cc in absurd (omega arith)
 end-fault (fault k o) code offset e = cc
 
@@ -125,7 +125,7 @@ module _ (words : List ℕ) (σ : Signature) (at : ℕ) where
   abbrev rule : Answer
   rule = endOf (ruleReader (wordSource words) σ at)
 
-  pub rule-unread : (code offset : ℕ) → side at ≡ Fault code offset → rule ≡ Fault code offset
+  pub rule-unread : (code offset : ℕ) → side at ≡ Fault offset code → rule ≡ Fault offset code
   unfolding ruleReader
   rule-unread code offset e = rw (end-fault (forestReader (wordSource words) σ maxNodes 1 at) code offset e)
 
@@ -150,7 +150,7 @@ module _ (words : List ℕ) (σ : Signature) (at : ℕ) where
             terms-end words σ maxNodes 1 at v middle s,
             terms-end words σ maxNodes 1 middle value end (sym (rule-sides v middle s) ∙ e),
           )
-      go (Fault code offset) s = let z : _≡_ {A = ℕ} 0 1 = cc (rule-unread code offset s) in absurd (omega arith)
+      go (Fault offset code) s = let z : _≡_ {A = ℕ} 0 1 = cc (rule-unread code offset s) in absurd (omega arith)
 
 -- Nothing is stored of rules among words.
 pub words-kept : (reading : Reading (List Sides)) (words : List ℕ) →

@@ -72,7 +72,7 @@ RestRead packed bytes words σ count at (answer.Got nodes next) before after =
     × (restReader packed bytes words σ count at ≡ got (record { signature = σ; rules = rules }) last)
     × (nodes ≡ length (storedWords packed rules))
     × (nodes ≤ length before → after ≡ sets before 0 (storedWords packed rules))
-RestRead packed bytes words σ count at (answer.Fault code offset) before after =
+RestRead packed bytes words σ count at (answer.Fault offset code) before after =
     restReader packed bytes words σ count at ≡ fault code offset
 
 -- A file with its head, and its rules as they were read: how many words were stored, and where there is room for all of

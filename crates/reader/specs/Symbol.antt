@@ -20,10 +20,10 @@ TakenBy symbols taken = (rank : ℕ) → rank < 256 → getD taken rank false �
 abbrev pub SymbolPut : Reading Symbol → List Symbol → Answer → List Symbol → List Bool → Type 0
 SymbolPut reading earlier (Got value next) symbols taken =
     (s : Symbol) × (reading ≡ got s next) × (symbols ≡ earlier ++ (s ∷ [])) × TakenBy symbols taken
-SymbolPut reading earlier (Fault code offset) symbols taken = reading ≡ fault code offset
+SymbolPut reading earlier (Fault offset code) symbols taken = reading ≡ fault code offset
 
 -- What is read of so many symbols, the answer, and the table afterwards.
 abbrev pub SymbolsPut : ℕ → ℕ → Reading (List Symbol) → Answer → List ℕ → Type 0
 SymbolsPut w0 count reading (Got value next) table =
     (reading ≡ got (symbolsAt table 0 count) next) × (weightOf table ≡ w0)
-SymbolsPut w0 count reading (Fault code offset) table = reading ≡ fault code offset
+SymbolsPut w0 count reading (Fault offset code) table = reading ≡ fault code offset

@@ -47,11 +47,11 @@ module _ (source : Source) (σ : Signature) (count n at : ℕ) (words : List ℕ
   pub terms-none : n ≡ 0 → count ≤ maxNodes → r ≡ Got count at → after ≡ words → TermsRead count words r after whole
   terms-none z short e f = rw (z, nothing-owed source σ (maxNodes - count) at) (rw add-zero e, omega arith, f)
 
-  pub terms-fault : (code offset : ℕ) → whole ≡ fault code offset → r ≡ Fault code offset →
+  pub terms-fault : (code offset : ℕ) → whole ≡ fault code offset → r ≡ Fault offset code →
       TermsRead count words r after whole
   terms-fault code offset e f = rw e f
 
-  pub terms-many : 0 < n → count ≡ maxNodes → r ≡ Fault tooManyNodes at → TermsRead count words r after whole
+  pub terms-many : 0 < n → count ≡ maxNodes → r ≡ Fault at tooManyNodes → TermsRead count words r after whole
   terms-many h full e =
       let z : maxNodes - count ≡ 0 = omega arith in
       terms-fault tooManyNodes at (rw z (none-allowed source σ n at h)) e
@@ -100,11 +100,11 @@ side-stored reading index words nodes after end next read long stored =
 
 pub within-wider : (last wider limit : ℕ) → last ≤ wider → (r : Answer) → Within last limit r → Within wider limit r
 within-wider last wider limit h (Got end next) (e, n) = (omega arith, n)
-within-wider last wider limit h (Fault code offset) w = tt
+within-wider last wider limit h (Fault offset code) w = tt
 
 module _ (source : Source) (σ : Signature) (at index : ℕ) (words : List ℕ) where
   pub left-fault : (code offset : ℕ) (after : List ℕ) → forestReader source σ maxNodes 1 at ≡ fault code offset →
-      WordsRead sideWords (ruleReader source σ at) index words (Fault code offset) after
+      WordsRead sideWords (ruleReader source σ at) index words (Fault offset code) after
   unfolding ruleReader
   left-fault code offset after e = rw e
 
@@ -122,5 +122,5 @@ module _ (source : Source) (σ : Signature) (at index : ℕ) (words : List ℕ) 
         λ room. stored' (omega arith) ∙
             rw (length-left, stored (omega arith)) (sym (sets-append words index left right)),
       )
-  right-read middle next between same (left, read, length-left, stored) (Fault code offset) after read' =
+  right-read middle next between same (left, read, length-left, stored) (Fault offset code) after read' =
       rw (read, read')

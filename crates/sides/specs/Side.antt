@@ -16,7 +16,7 @@ use Rattle.answers.specs.declared.Answer.the-variants.{Got, Fault}
 abbrev pub TermsRead : ℕ → List ℕ → Answer → List ℕ → Reading (List ℕ) → Type 0
 TermsRead count before answer after (got nodes next) =
     (answer ≡ Got (count + length nodes) next) × (count + length nodes ≤ maxNodes) × (after ≡ sets before count nodes)
-TermsRead count before answer after (fault code offset) = answer ≡ Fault code offset
+TermsRead count before answer after (fault code offset) = answer ≡ Fault offset code
 
 -- What was read, the index of its words, the answer, and the words before and after: those that were read stand from
 -- the index on, where there is room for all of them.
@@ -24,7 +24,7 @@ abbrev pub WordsRead : {A : Type 0} → (A → List ℕ) → Reading A → ℕ �
 WordsRead {A} wordsOf reading index before (Got end next) after =
     (a : A) × (reading ≡ got a next) × (end ≡ index + length (wordsOf a))
     × (end ≤ length before → after ≡ sets before index (wordsOf a))
-WordsRead wordsOf reading index before (Fault code offset) after = reading ≡ fault code offset
+WordsRead wordsOf reading index before (Fault offset code) after = reading ≡ fault code offset
 
 abbrev pub sideWords : Sides → List ℕ
 sideWords r = r .left ++ r .right

@@ -45,17 +45,17 @@ module _ (words : List ℕ) (σ : Signature) where
   pub terms-none : (a n at : ℕ) → n ≡ 0 → Got 0 at ≡ read a n at
   terms-none a n at e = rw (e, nothing-owed (wordSource words) σ a at)
 
-  pub terms-refused : (a n at : ℕ) → a ≡ 0 → 0 < n → Fault tooManyNodes at ≡ read a n at
+  pub terms-refused : (a n at : ℕ) → a ≡ 0 → 0 < n → Fault at tooManyNodes ≡ read a n at
   terms-refused a n at e h = rw (e, none-allowed (wordSource words) σ n at h)
 
   module _ (a n at : ℕ) (ha : 0 < a) (hn : 0 < n) where
-    pub terms-missing : length words ≤ at → Fault fieldMissing at ≡ read a n at
+    pub terms-missing : length words ≤ at → Fault at fieldMissing ≡ read a n at
     unfolding wordBelow
     terms-missing h =
         rw (node-fault (wordSource words) σ a n at ha hn fieldMissing at (rw (le-ltb at (length words) h)))
 
     module _ (i : at < length words) where
-      pub terms-wide : 272 ≤ getD words at 0 → Fault wordTooWide at ≡ read a n at
+      pub terms-wide : 272 ≤ getD words at 0 → Fault at wordTooWide ≡ read a n at
       unfolding wordBelow
       terms-wide h =
           rw (node-fault (wordSource words) σ a n at ha hn wordTooWide at
@@ -69,7 +69,7 @@ module _ (words : List ℕ) (σ : Signature) where
         unfolding wordBelow
         node-here = rw (lt-ltb at (length words) i, lt-ltb (getD words at 0) 272 small)
 
-        pub terms-unknown : getD cells (getD words at 0) 0 ≡ 0 → Fault noSuchSymbol at ≡ read a n at
+        pub terms-unknown : getD cells (getD words at 0) 0 ≡ 0 → Fault at noSuchSymbol ≡ read a n at
         terms-unknown none =
             rw (node-unknown (wordSource words) σ cells table a n at ha hn here (at + 1) node-here small none)
 
@@ -133,12 +133,12 @@ module _ (words : List ℕ) (σ : Signature) where
   abbrev first : Reading (List ℕ)
   first = forestReader (wordSource words) σ maxNodes 1 0
 
-  pub whole-fault : (code offset : ℕ) → endOf first ≡ Fault code offset →
+  pub whole-fault : (code offset : ℕ) → endOf first ≡ Fault offset code →
       fault code offset ≡ readTerm σ words
   unfolding readTerm
   whole-fault code offset p = go first refl p
     where
-      go : (r : Reading (List ℕ)) → first ≡ r → endOf r ≡ Fault code offset →
+      go : (r : Reading (List ℕ)) → first ≡ r → endOf r ≡ Fault offset code →
           fault code offset ≡ readTerm σ words
       go (got xs next) e p = let z : _≡_ {A = ℕ} 0 1 = cc in absurd (omega arith)
       go (fault k o) e p = rw e (cc)

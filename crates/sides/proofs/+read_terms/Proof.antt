@@ -59,9 +59,9 @@ read-terms-pack-fault-requires-2 t c κs =
     let c7 = c3 .before .before .before .before in
     let a = c7 .args in
     let limit = 8 * length (a .book .now .now) in
-    let node = sym (rw (c .before .code .given .1) at (c3 .node .ensures .0)) in
+    let node = sym (rw (c .before .offset .given .1) at (c3 .node .ensures .0)) in
     let end = node-within-fault limit _ _ _ (bits-node (a .book .now .now) (a .at) (c7 .pre .1 .0 .1)) node in
-    omega (arith, end, rw (c .before .code .given .1) at (c3 .node .ensures .1))
+    omega (arith, end, rw (c .before .offset .given .1) at (c3 .node .ensures .1))
 
 read-terms-cast-word : (t : ℕ) → read-terms-lts.Need-cast-word (claims t) (read-terms-at t) read-terms.Post
 read-terms-cast-word t c =
@@ -118,7 +118,7 @@ read-terms-returns-4 t c =
     let c4 = c .before .before .before .before in
     let c8 = c4 .before .before .before .before in
     let a = c8 .args in
-    let node = sym (rw (c .before .before .code .given .1) at (c4 .node .ensures .0)) in
+    let node = sym (rw (c .before .before .offset .given .1) at (c4 .node .ensures .0)) in
     let source = bitSource (a .book .now .now) in (
       λ σ k. terms-fault source σ (a .count) (a .owed) (a .at) (a .words .now) _ _ _ _
           (node-fault source σ (128 - a .count) (a .owed) (a .at) (omega arith) (omega arith) _ _ node)

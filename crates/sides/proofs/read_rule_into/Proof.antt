@@ -19,7 +19,7 @@ returns c =
     let c9 = c5 .before .before .before .before in
     let a = c9 .args in (
       λ σ k. left-fault (bitSource (a .book .now)) σ (a .at) (a .index) (a .words .now) _ _
-          (c5 .read-side-into .last .1 .1 .0) (rw (c .before .code .given .1) at (c5 .read-side-into .ensures .0 σ k)),
+          (c5 .read-side-into .last .1 .1 .0) (rw (c .before .offset .given .1) at (c5 .read-side-into .ensures .0 σ k)),
       tt,
     )
 

@@ -37,7 +37,7 @@ add-t19 c =
 returns : tie.Need-returns
 returns c =
     let c3 = c .before .before .before in
-    (λ σ k. sym (rw (c .before .code .given .1) at (c3 .read-side .ensures .0 σ k)), tt)
+    (λ σ k. sym (rw (c .before .offset .given .1) at (c3 .read-side .ensures .0 σ k)), tt)
 
 returns-2 : tie.Need-returns-2
 returns-2 c =

@@ -9,7 +9,7 @@ returns : tie.Need-returns
 returns c σ table =
     let c3 = c .before .before .before in
     let c5 = c3 .before .before in
-    whole-fault (c5 .args .words .now) σ _ _ (sym (c3 .term .ensures σ table) ∙ c .before .code .given .1)
+    whole-fault (c5 .args .words .now) σ _ _ (sym (c3 .term .ensures σ table) ∙ c .before .offset .given .1)
 
 returns-2 : tie.Need-returns-2
 returns-2 c σ table =

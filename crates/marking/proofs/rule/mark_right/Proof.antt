@@ -35,7 +35,7 @@ returns c =
     let c8 = c3 .before .before .before .before .before in
     let a = c8 .args in
     let σ = signatureOf (a .table .now) in
-    (sym (rw (c .before .code .given .1) at (c3 .read-side .ensures .0 σ (c8 .pre .1 .1))), tt)
+    (sym (rw (c .before .offset .given .1) at (c3 .read-side .ensures .0 σ (c8 .pre .1 .1))), tt)
 
 returns-2 : tie.Need-returns-2
 returns-2 c =

@@ -44,7 +44,7 @@ returns c =
     let c7 = c3 .before .before .before .before in
     let a = c7 .args in
     let σ = signatureOf (a .table .now) in (
-      left-unread σ (bitSource (a .book .now)) (a .cursor .at) _ _ (rw (c .before .code .given .1) at (c3 .read-side
+      left-unread σ (bitSource (a .book .now)) (a .cursor .at) _ _ (rw (c .before .offset .given .1) at (c3 .read-side
           .ensures .0 σ (c7 .pre .1 .1))),
       tt,
     )

@@ -46,7 +46,7 @@ returns : tie.Need-returns
 unfolding countsReader
 returns c =
     let c3 = c .before .before .before in
-    rw (sym (rw (c .before .code .given .1) at (c3 .field-at-least .ensures .0)))
+    rw (sym (rw (c .before .offset .given .1) at (c3 .field-at-least .ensures .0)))
 
 returns-2 : tie.Need-returns-2
 unfolding countsReader
@@ -55,7 +55,7 @@ returns-2 c =
     let c5 = c3 .before .before in
     let c7 = c5 .before .before in
     let count = sym (rw (c5 .symbols .given .1) at (c7 .field-at-least .ensures .0)) in
-    rw (count, sym (rw (c .before .code2 .given .1) at (c3 .field-at-least2 .ensures .0)))
+    rw (count, sym (rw (c .before .offset2 .given .1) at (c3 .field-at-least2 .ensures .0)))
 
 returns-3 : tie.Need-returns-3
 unfolding countsReader
@@ -67,7 +67,7 @@ returns-3 c =
     let c11 = c9 .before .before in
     let count = sym (rw (c9 .symbols .given .1) at (c11 .field-at-least .ensures .0)) in
     let w0 = sym (rw (c5 .w0 .given .1) at (c7 .field-at-least2 .ensures .0)) in
-    rw (count, w0, sym (rw (c .before .code3 .given .1) at (c3 .field .ensures .0)))
+    rw (count, w0, sym (rw (c .before .offset3 .given .1) at (c3 .field .ensures .0)))
 
 returns-4 : tie.Need-returns-4
 unfolding countsReader

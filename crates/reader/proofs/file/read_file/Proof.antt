@@ -48,7 +48,7 @@ returns-2 c =
     let a = c20 .args in
     let head = rw (c10 .symbols .given .1) at (c14 .read-head .ensures) in
     rest-fault (a .packed) (a .book .now) (a .sheet .now) (c14 .read-head .last .1 .1 .1 .0) (a .words .now) (c5 .read-rest .last .1 .1 .1 .1 .0) _ _ _ _ head _ _
-    (rw (c .before .code2 .given .1, c8 .front .ensures .0) at (c5 .read-rest .ensures))
+    (rw (c .before .offset .given .1, c8 .front .ensures .0) at (c5 .read-rest .ensures))
 
 returns-3 : tie.Need-returns-3
 returns-3 c =

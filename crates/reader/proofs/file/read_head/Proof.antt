@@ -47,7 +47,7 @@ returns-3 c =
     let c8 = c4 .before .before .before .before in
     let a = c8 .args in
     let short = le-leb (length (a .book .now)) maxBytes (c4 .if1 .left) in
-    let form = sym (rw (c .before .code .given .1) at (c3 .field .ensures .0)) in
+    let form = sym (rw (c .before .offset .given .1) at (c3 .field .ensures .0)) in
     rw short (read-parts (a .packed) (a .book .now) (a .sheet .now) ∙ rw form)
 
 returns-4 : tie.Need-returns-4

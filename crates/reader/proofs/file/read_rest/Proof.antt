@@ -19,7 +19,7 @@ returns c =
     let a = c13 .args in
     let σ = signatureOf (a .table .now) in
     rest-unread (a .packed) (a .book .now) (a .sheet .now) σ (a .count) (a .at) _ _
-    (rw (c .before .code .given .1) at (c5 .read-rules .ensures σ (c8 .arities .ensures)))
+    (rw (c .before .offset .given .1) at (c5 .read-rules .ensures σ (c8 .arities .ensures)))
 
 returns-2 : tie.Need-returns-2
 returns-2 c =
@@ -32,7 +32,7 @@ returns-2 c =
     let σ = signatureOf (a .table .now) in
     let (rules, e, long, stored) = rw (c5 .value .given .1) at (c9 .read-rules .ensures σ (c12 .arities .ensures)) in
     rest-unended (a .packed) (a .book .now) (a .sheet .now) σ (a .count) (a .at) rules _ e _ _
-    (sym (rw (c .before .code2 .given .1) at (c3 .end .ensures)))
+    (sym (rw (c .before .offset2 .given .1) at (c3 .end .ensures)))
 
 returns-3 : tie.Need-returns-3
 returns-3 c =

@@ -17,7 +17,7 @@ returns c =
     let c10 = c5 .before .before .before .before .before in
     let a = c10 .args in
     symbols-fault (a .packed) (a .book .now) (a .sheet .now) (a .w0) (a .symbols) (a .rules) (a .at) _ _
-    (rw (c .before .code .given .1) at (c5 .read-symbols .ensures))
+    (rw (c .before .offset .given .1) at (c5 .read-symbols .ensures))
 
 returns-2 : tie.Need-returns-2
 returns-2 c =

@@ -43,7 +43,7 @@ returns c =
     let a = c11 .args in
     λ σ k. so-far-fault (bitSource (a .book .now)) σ (a .count) (a .at) 0 (a .words .now) (c8 .loop .number)
     (c8 .loop .here) (c8 .loop .end) (c8 .loop .words) (omega arith) (c8 .loop .inv .4 σ k) _ _
-    (c5 .read-rule-into .last .1 .1 .0) (rw (c .before .code .given .1) at (c5 .read-rule-into .ensures .0 σ k))
+    (c5 .read-rule-into .last .1 .1 .0) (rw (c .before .offset .given .1) at (c5 .read-rule-into .ensures .0 σ k))
 
 loop-again : tie.Need-loop-again Inv-loop μ-loop
 loop-again c =

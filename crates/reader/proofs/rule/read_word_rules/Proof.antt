@@ -39,7 +39,7 @@ returns c σ table =
     let a = c7 .args in
     let (done, so) = c5 .loop .inv .2 σ table in
     let rule = ruleReader (wordSource (a .sheet .now)) σ (c5 .loop .here) in
-    let read = end-fault rule _ _ (sym (c3 .read-word-rule .ensures σ table) ∙ c .before .code .given .1) in
+    let read = end-fault rule _ _ (sym (c3 .read-word-rule .ensures σ table) ∙ c .before .offset .given .1) in
     sym (ap endOf (done-fault (wordSource (a .sheet .now)) σ (a .count) (a .at) (c5 .loop .number) (c5 .loop .here) done so
     (omega arith) _ _ read))
 

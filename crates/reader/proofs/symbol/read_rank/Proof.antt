@@ -35,10 +35,10 @@ returns-2 c =
     let c3 = c .before .before .before in
     let c6 = c3 .before .before .before in
     let a = c6 .args in
-    let read = sym (rw (c .before .code .given .1) at (c3 .field .ensures .0)) in (
+    let read = sym (rw (c .before .offset .given .1) at (c3 .field .ensures .0)) in (
       λ earlier h. sym (tested-fault (sourceOf (a .packed) (a .book .now) (a .sheet .now)) 8
           (λ (rank : ℕ). not (heldBy earlier rank)) 8 (a .at) _ _ read),
-      rw (c .before .code .given .1) at (c3 .field .ensures .1),
+      rw (c .before .offset .given .1) at (c3 .field .ensures .1),
     )
 
 returns-3 : tie.Need-returns-3

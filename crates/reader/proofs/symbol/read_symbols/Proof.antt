@@ -53,7 +53,7 @@ returns c =
     let v = c9 .loop .inv in
     v .4 ∙ symbols-fault (sourceOf (a .packed) (a .book .now) (a .sheet .now)) (a .w0) (a .count) (c9 .loop .number)
     (omega arith) (symbolsAt (c9 .loop .table) 0 (c9 .loop .number)) (c9 .loop .here) _ _
-    (rw (c .before .code .given .1) at (c5 .read-symbol .ensures .0))
+    (rw (c .before .offset .given .1) at (c5 .read-symbol .ensures .0))
 
 loop-again : tie.Need-loop-again Inv-loop μ-loop
 loop-again c =

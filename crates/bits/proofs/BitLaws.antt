@@ -1,17 +1,17 @@
 -- A field of a packed file is what three of its bytes give by a division and a remainder.
 --     three                the three bytes from an index on as one number, those past the end being 0
---     one-shl, rest-fits   what the code's 1 << w is, and that a remainder by it fits a word
+--     rest-fits            a remainder by a power of 2 fits a word
 --     field-three          the bits of a field, spelt from the three bytes
 --     field-two, field-one, field-last   a node's nine bits from two bytes or one, the last bits of a byte
 --     spelt-lt, spelt-add  a field is below 2 to its width; a field of m + n bits is one of m bits and one of n bits
 use mathlib.Core.Path.{_≡_, sym, ap, _∙_}
 use mathlib.Core.List.{List}
 use Prim.Native.Nat.{ℕ, zero, suc, _+_, _*_, _-_, _/_, _%_, _^_, _≤_, _<_}
-use native.Mathlib.Nat.{mod-one, pow-suc, one-mul, mod-lt, lt-of-lt-of-le, mul-assoc, mul-add-mod-self-right}
+use native.Mathlib.Nat.{mod-one, pow-suc, mod-lt, lt-of-lt-of-le, mul-assoc, mul-add-mod-self-right}
 use native.Mathlib.Nat.{add-zero, add-suc, add-assoc}
 use native.Mathlib.Omega.{arith}
 use lib.ListN.{getD}
-use lib.Pow.{pow-add, pow-pos, pow-mono, shl-exact, shr-shr, field, mod-pow-add}
+use lib.Pow.{pow-add, pow-pos, pow-mono, shr-shr, field, mod-pow-add}
 use lib.Arith.{digits-lt}
 use lib.Dec.{lit<}
 use Rattle.multisets.proofs.Relations.{byOrder}
@@ -19,10 +19,6 @@ use Rattle.format.specs.Reading.{spelt, bitAt}
 
 abbrev pub three : List ℕ → ℕ → ℕ
 three bytes k = getD bytes k 0 * 65536 + getD bytes (k + 1) 0 * 256 + getD bytes (k + 2) 0
-
--- At 32 bits.
-pub one-shl : (w : ℕ) → w ≤ 24 → 1 * 2 ^ w % 2 ^ 32 ≡ 2 ^ w
-one-shl w h = shl-exact 1 w 32 (lit< tt) (omega arith) ∙ one-mul (2 ^ w)
 
 pub rest-fits : (n w : ℕ) → w ≤ 16 → n % 2 ^ w < 2 ^ 16
 rest-fits n w h = lt-of-lt-of-le (mod-lt n (pow-pos w)) (pow-mono h)

@@ -32,7 +32,8 @@ use Rattle.decoder.proofs.NodesLaws.{nodes-fit}
 -- The header, the symbols and the rules, stored one after the other.
 pub stored-file : (l l₁ l₂ l₃ : List ℕ) (σ : Signature) (rules : List Sides) (symbolCount ruleCount : ℕ) →
     l₁ ≡ sets l 0 (formNumber ∷ symbolCount ∷ σ .w0 ∷ ruleCount ∷ []) → l₂ ≡ sets l₁ 4 (symbolsWords (σ .symbols)) →
-    l₃ ≡ sets l₂ (4 + entryWords symbolCount) (rulesWords rules) → symbolCount ≡ length (σ .symbols) → ruleCount ≡ length rules
+    l₃ ≡ sets l₂ (4 + entryWords symbolCount) (rulesWords rules) → symbolCount ≡ length (σ .symbols) →
+    ruleCount ≡ length rules
     →
     l₃ ≡ sets l 0 (unpacked (record { signature = σ; rules = rules }))
 stored-file l l₁ l₂ l₃ σ rules symbolCount ruleCount h₁ h₂ h₃ k n =

@@ -123,7 +123,8 @@ module _ (file : RuleFile) where
       let second : from 4 (4 * length ss) ≡ flatMap symbolItems ss =
       symbols-items whole begin ss 4 (rulesWords (file .rules)) refl (omega arith) (omega arith) refl in
       let last : drop begin whole ≡ rulesWords (file .rules) =
-      sym (drop-drop (4 * length ss) 4 whole) ∙ rw (← long) (drop-append-seam (symbolsWords ss) (rulesWords (file .rules))) in
+      sym (drop-drop (4 * length ss) 4 whole) ∙ rw (← long) (drop-append-seam (symbolsWords ss) (rulesWords (file
+      .rules))) in
       let third : from (4 + 4 * length ss) n ≡ map node (rulesWords (file .rules)) =
       node-items whole begin (rulesWords (file .rules)) begin (omega arith) last in
       let later = from (4 + 4 * length ss) n in

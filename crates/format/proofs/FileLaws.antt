@@ -104,7 +104,8 @@ abbrev pub fileBits : RuleFile → List ℕ
 fileBits f = flatMap itemBits (items f)
 
 bytes-read : (bytes : List ℕ) → HoldsOf (λ (f : RuleFile) (end : ℕ).
-    (fileReader formNumber (bitSource bytes) 0 ≡ got f end) × (length bytes ≤ maxBytes) × Padded bytes end) (readBytes bytes)
+    (fileReader formNumber (bitSource bytes) 0 ≡ got f end) × (length bytes ≤ maxBytes) × Padded bytes end)
+    (readBytes bytes)
 unfolding readBytes wholeReader HoldsOf
 bytes-read bytes =
     byTest (leb (length bytes) maxBytes)

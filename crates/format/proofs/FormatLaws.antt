@@ -191,7 +191,8 @@ module _ (source : Source) where
         holds-map _ _ (symbolsReader source w0 n upTo mid) (symbols-read w0 n upTo mid) λ all end (ss, a, k, oks, q).
         (s ∷ ss, a ∙ append-assoc earlier (s ∷ []) ss, ap suc k, symbol ok oks, spells-append source p q)
 
-    pub file-read : (at : ℕ) → HoldsOf (λ f end. FileOk f × Spells source (items f) at end) (fileReader formNumber source at)
+    pub file-read : (at : ℕ) → HoldsOf (λ f end. FileOk f × Spells source (items f) at end) (fileReader formNumber
+        source at)
     unfolding fileReader bodyReader items HoldsOf
     file-read at =
         holds-then _ (source .field formWidth at) _ λ form at₁ e₁.

@@ -3,12 +3,14 @@
 --     bitAt-bytesOf       the bits of packed bits
 --     bytesOf-bitAt       bytes that hold the bits, and no others, are the packed bits
 --     Padded              fewer than eight bits are left, and they are zeros: padded-zero, zero-padded
+--     one-shl             a power of 2, as code shifts it
 use mathlib.Core.Path.{_≡_, refl, sym, ap, _∙_}
 use mathlib.Core.List.{List, [], _∷_, _++_, flatMap}
 use Prim.Native.Nat.{ℕ, suc, zero, _+_, _-_, _*_, _/_, _%_, _^_, _≤_, _<_}
 use native.Mathlib.Nat.{mod-lt, zero-add, zero-div, zero-mod, mod-eq-of-lt}
 use native.Mathlib.Omega.{arith}
 use lib.ListN.{length, getD, List·getD-eq-default}
+use lib.Pow.{pow-lt}
 use lib.Seq.{ext-getD}
 use lib.Dec.{ltb, lit<}
 use Rattle.multisets.proofs.Relations.{byTest, byOrder}
@@ -19,6 +21,10 @@ use Rattle.format.specs.Packing.{Item, bitsOf, itemBits, bytesFrom, byte
 use Rattle.format.specs.Packing.Item.{field, node}
 use Rattle.format.proofs.SpellingLaws.{agrees-at, agrees-of}
 use Rattle.format.proofs.CodingLaws.{bit-lt, spelt-lt, spelt→agrees, agrees→spelt, length-bitsOf}
+
+-- 1 shifted left, in so many bits.
+pub one-shl : (bits w : ℕ) → w < bits → 1 * 2 ^ w % 2 ^ bits ≡ 2 ^ w
+one-shl bits w h = let e : 1 * 2 ^ w ≡ 2 ^ w = omega arith in rw e (mod-eq-of-lt (pow-lt h))
 
 -- ---- lists of bits
 

@@ -1,18 +1,14 @@
 -- Laws of the two sources.
---     one-shl                    what the code's 1 << w is
 --     read-packed, read-words    the two sources as the format has them
 --     tested-fault, tested-less, tested-got, tested-field, tested-then     a field that is tested
 --     field-fits                 a field that is read is within its width
 --     reached-start, reached-field, reached-symbols     where fields, and symbols, end
-use mathlib.Core.Path.{_≡_, refl, sym, ap, _∙_}
+use mathlib.Core.Path.{_≡_, refl, sym, ap}
 use mathlib.Core.List.{List, [], _∷_, flatMap}
 use mathlib.Core.Bool.{Bool, true, false}
 use Prim.Native.Nat.{ℕ, _+_, _*_, _%_, _^_, _≤_, _<_}
-use native.Mathlib.Nat.{one-mul}
 use native.Mathlib.Omega.{arith}
-use lib.Dec.{lit<}
 use lib.ListN.{length, length-append}
-use lib.Pow.{shl-exact}
 use Rattle.terms.specs.Signature.{Symbol}
 use Rattle.format.specs.Reading.{Reading, Reader, Source, andThen, require, bitSource, wordSource}
 use Rattle.format.specs.Reading.Reading.{got, fault}
@@ -26,9 +22,6 @@ use Rattle.format.proofs.CodingLaws.{word-coding, bit-coding}
 use Rattle.format.proofs.FormatLaws.{symbols-read}
 use Rattle.symbols.specs.Table.{entryWords}
 use Rattle.reader.specs.Source.{sourceOf, Reached, tested, readSource}
-
-pub one-shl : (w : ℕ) → w ≤ 16 → 1 * 2 ^ w % 2 ^ 64 ≡ 2 ^ w
-one-shl w h = shl-exact 1 w 64 (lit< tt) (omega arith) ∙ one-mul (2 ^ w)
 
 pub read-packed : (bytes words : List ℕ) → readSource true bytes words ≡ readBytes bytes
 unfolding readSource readBytes sourceOf

@@ -134,7 +134,8 @@ abbrev none : Symbol
 none = record { arity = 0; ac = false; weight = 0; precedence = 0 }
 
 pub symbols-more : (σ : Signature) (words : List ℕ) (i n : ℕ) → n < length (σ .symbols) →
-    sets (sets words i (symbolsWords (take n (σ .symbols)))) (i + entryWords n) (map itemWord (symbolItems (symbolOf σ n)))
+    sets (sets words i (symbolsWords (take n (σ .symbols)))) (i + entryWords n) (map itemWord (symbolItems (symbolOf σ
+    n)))
     ≡ sets words i (symbolsWords (take (n + 1) (σ .symbols)))
 symbols-more σ words i n h =
     let ss = σ .symbols in

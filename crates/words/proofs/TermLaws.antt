@@ -118,7 +118,8 @@ module _ (words : List ℕ) (σ : Signature) where
       λ b. rw (i, b) tt)
       λ i. rw i tt
 
-  pub terms-end : (a n at value end : ℕ) → endOf (forestReader (wordSource words) σ a n at) ≡ Got value end → end ≤ at + a
+  pub terms-end : (a n at value end : ℕ) → endOf (forestReader (wordSource words) σ a n at) ≡ Got value end →
+      end ≤ at + a
   terms-end a n at value end = go (forestReader (wordSource words) σ a n at) refl (forest-front a n at)
     where
       go : (r : Reading (List ℕ)) → forestReader (wordSource words) σ a n at ≡ r → Front words at r →

@@ -1,5 +1,4 @@
 -- Laws of the bits that a number spells, and of the bytes that bits make up.
---     one-shl                                          a power of 2
 --     spelt-same, spelt-add, spelt-lt, spelt-zeros     the number that bits spell
 --     length-bits, bits-binary, spelt-bits             the bits of a number
 --     bits-same, bits-last, bits-add                   the last bits of a number, the bits of two fields side by side
@@ -25,10 +24,6 @@ use lib.Pow.{pow-add, pow-lt, mod-pow-add, mod-mod-pow, field, high, shr-shr}
 use lib.Arith.{digits-lt}
 use Rattle.format.specs.Reading.{spelt}
 use Rattle.format.specs.Packing.{bitsOf, bytesFrom}
-
--- 1 shifted left, in 64 bits.
-pub one-shl : (k : ℕ) → k < 64 → 1 * 2 ^ k % 2 ^ 64 ≡ 2 ^ k
-one-shl k h = let e : 1 * 2 ^ k ≡ 2 ^ k = omega arith in rw e (mod-eq-of-lt (pow-lt h))
 
 -- ---- the number that bits spell
 

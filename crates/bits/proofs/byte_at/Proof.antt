@@ -1,3 +1,4 @@
+-- A byte past the end is 0.
 use native.Mathlib.Omega.{arith}
 use mathlib.Core.Path.{refl, sym}
 use lib.ListN.{List·getD-eq-default}

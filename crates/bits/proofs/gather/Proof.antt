@@ -1,3 +1,4 @@
+-- Within the bytes the three are read, and past the end each is 0.
 use mathlib.Core.Path.{refl}
 use Prim.Native.Nat.{_+_}
 use native.Mathlib.Omega.{arith}

@@ -1,3 +1,4 @@
+-- The tag is the first of the nine bits, and decides how many of the others are used.
 use mathlib.Core.Path.{_≡_}
 use Prim.Native.Nat.{ℕ, _+_, _-_, _*_, _/_, _^_, _<_}
 use native.Mathlib.Omega.{arith}

@@ -20,7 +20,12 @@ front-requires c κs =
 slice-aggregate-compare-terms : tie.Need-slice-aggregate-compare-terms
 slice-aggregate-compare-terms c =
     let c7 = c .before .before .before .before .before .before .before in
-    sym (length-take-le _ (c7 .read-file .last .1 .1 .1 .0) (omega (arith, c .before .front .ensures .1, c7 .read-file .kept .1 .1 .1 .0)))
+    sym (length-take-le _ (c7 .read-file .last .1 .1 .1 .0) (omega (
+      arith,
+      c .before .front .ensures .1,
+      c7 .read-file
+          .kept .1 .1 .1 .0,
+    )))
 
 compare-terms-requires : tie.Need-compare-terms-requires
 compare-terms-requires c κs =

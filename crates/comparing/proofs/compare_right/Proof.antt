@@ -19,7 +19,8 @@ returns c =
     let c7 = c3 .before .before .before .before in
     let a = c7 .args in
     let σ = signatureOf (a .table .now) in
-    right-fault σ _ (a .right .now) _ _ (rw (c .before .offset .given .1) at (c3 .whole-term .ensures σ (c7 .pre .1 .1)))
+    right-fault σ _ (a .right .now) _ _ (rw (c .before .offset .given .1) at (c3 .whole-term .ensures σ (c7 .pre .1
+    .1)))
 
 returns-2 : tie.Need-returns-2
 returns-2 c =

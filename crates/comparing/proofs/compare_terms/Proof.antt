@@ -22,7 +22,8 @@ returns c =
     let c9 = c5 .before .before .before .before in
     let a = c9 .args in
     let σ = signatureOf (a .table .now) in
-    left-fault σ (a .left .now) (a .right .now) _ _ (rw (c .before .offset .given .1) at (c3 .whole-term .ensures σ (c5
+    left-fault σ (a .left .now) (a .right .now) _ _ (rw (c .before .offset .given .1) at (c3 .whole-term .ensures σ
+    (c5
     .arities .ensures)))
 
 returns-2 : tie.Need-returns-2

@@ -23,7 +23,8 @@ add-total-2 c =
     let c14 = c7 .before .before .before .before .before .before .before in
     let a = c14 .args in
     let (file, end, read, parts) = rw (c .before .before .symbols .given .1) at (c7 .read-file .ensures) in
-    let few = nodes-few (a .book .now) (c7 .read-file .last .1 .1 .1 .0) (a .nodes .now) (c7 .read-file .last .1 .1 .1 .1 .0) file
+    let few = nodes-few (a .book .now) (c7 .read-file .last .1 .1 .1 .0) (a .nodes .now) (c7 .read-file .last .1 .1 .1
+    .1 .0) file
     _ _ _ _ parts (c14 .pre) in
     omega (arith, c .entry-words .ensures .1, few)
 
@@ -34,7 +35,8 @@ returns c =
     let c15 = c8 .before .before .before .before .before .before .before in
     let a = c15 .args in
     let (file, end, read, parts) = rw (c3 .symbols .given .1) at (c8 .read-file .ensures) in
-    let count = word-count (a .book .now) (c8 .read-file .last .1 .1 .1 .0) (a .nodes .now) (c8 .read-file .last .1 .1 .1 .1 .0) file
+    let count = word-count (a .book .now) (c8 .read-file .last .1 .1 .1 .0) (a .nodes .now) (c8 .read-file .last .1 .1
+    .1 .1 .0) file
     _ _ _ _ parts in
     decode-short (a .book .now) (a .words .now) file end (sym (read-packed (a .book .now) []) ∙ read)
     (omega (arith, count, c .before .entry-words .ensures .0))
@@ -54,7 +56,12 @@ array-share-prefix-table c =
 slice-aggregate-put-file : tie.Need-slice-aggregate-put-file
 slice-aggregate-put-file c =
     let c10 = c .before .before .before .before .before .before .before .before .before .before in
-    sym (length-take-le _ (c10 .read-file .last .1 .1 .1 .0) (omega (arith, c .before .front .ensures .1, c10 .read-file .kept .1 .1 .1 .0)))
+    sym (length-take-le _ (c10 .read-file .last .1 .1 .1 .0) (omega (
+      arith,
+      c .before .front .ensures .1,
+      c10
+          .read-file .kept .1 .1 .1 .0,
+    )))
 
 slice-reshare-prefix-put-file : tie.Need-slice-reshare-prefix-put-file
 slice-reshare-prefix-put-file c =
@@ -63,7 +70,8 @@ slice-reshare-prefix-put-file c =
     let c18 = c11 .before .before .before .before .before .before .before in
     let a = c18 .args in
     let (file, end, read, parts) = rw (c6 .symbols .given .1) at (c11 .read-file .ensures) in
-    let few = nodes-few (a .book .now) (c11 .read-file .last .1 .1 .1 .0) (a .nodes .now) (c11 .read-file .last .1 .1 .1 .1 .0) file
+    let few = nodes-few (a .book .now) (c11 .read-file .last .1 .1 .1 .0) (a .nodes .now) (c11 .read-file .last .1 .1
+    .1 .1 .0) file
     _ _ _ _ parts (c18 .pre) in
     omega (arith, few, c11 .read-file .kept .1 .1 .1 .1 .0)
 
@@ -74,9 +82,15 @@ slice-aggregate-put-file-2 c =
     let c19 = c12 .before .before .before .before .before .before .before in
     let a = c19 .args in
     let (file, end, read, parts) = rw (c7 .symbols .given .1) at (c12 .read-file .ensures) in
-    let few = nodes-few (a .book .now) (c12 .read-file .last .1 .1 .1 .0) (a .nodes .now) (c12 .read-file .last .1 .1 .1 .1 .0) file
+    let few = nodes-few (a .book .now) (c12 .read-file .last .1 .1 .1 .0) (a .nodes .now) (c12 .read-file .last .1 .1
+    .1 .1 .0) file
     _ _ _ _ parts (c19 .pre) in
-    sym (length-take-le _ (c12 .read-file .last .1 .1 .1 .1 .0) (omega (arith, few, c12 .read-file .kept .1 .1 .1 .1 .0)))
+    sym (length-take-le _ (c12 .read-file .last .1 .1 .1 .1 .0) (omega (
+      arith,
+      few,
+      c12 .read-file .kept .1 .1 .1 .1
+          .0,
+    )))
 
 put-file-requires : tie.Need-put-file-requires
 put-file-requires c κs =
@@ -87,21 +101,29 @@ put-file-requires c κs =
     let c19 = c12 .before .before .before .before .before .before .before in
     let a = c19 .args in
     let (file, end, read, parts) = rw (c7 .symbols .given .1) at (c12 .read-file .ensures) in
-    let few = nodes-few (a .book .now) (c12 .read-file .last .1 .1 .1 .0) (a .nodes .now) (c12 .read-file .last .1 .1 .1 .1 .0) file
+    let few = nodes-few (a .book .now) (c12 .read-file .last .1 .1 .1 .0) (a .nodes .now) (c12 .read-file .last .1 .1
+    .1 .1 .0) file
     _ _ _ _ parts (c19 .pre) in
     let long = length-take-le (c7 .symbols .given .0 .1 .1 .0) (c12 .read-file .last .1 .1 .1 .1 .0)
     (omega (arith, few, c12 .read-file .kept .1 .1 .1 .1 .0)) in
     let short = length-take-le (c3 .front .result) (c12 .read-file .last .1 .1 .1 .0)
     (omega (arith, c3 .front .ensures .1, c12 .read-file .kept .1 .1 .1 .0)) in
-    let entries = c5 .entry-words .ensures .0 ∙ ap entryWords (parts .head .symbolCount) in
-    ((omega (arith, short, c3 .front .ensures .1), parts .head .fewRules), rw (c3 .front .ensures .0) (omega (arith, long, entries)))
+    let entries = c5 .entry-words .ensures .0 ∙ ap entryWords (parts .head .symbolCount) in (
+      (omega (arith, short, c3 .front .ensures .1), parts .head .fewRules),
+      rw (c3 .front .ensures .0) (omega (
+        arith,
+        long,
+        entries,
+      )),
+    )
 
 returns-2 : tie.Need-returns-2
 returns-2 c =
     let c6 = c .before .before .before .before .before .before in
     let c13 = c6 .before .before .before .before .before .before .before in
     let a = c13 .args in
-    decode-fault (a .book .now) (a .words .now) _ _ (sym (read-packed (a .book .now) []) ∙ rw (c .before .code .given .1) at (c6 .read-file .ensures))
+    decode-fault (a .book .now) (a .words .now) _ _ (sym (read-packed (a .book .now) []) ∙ rw (c .before .code .given
+    .1) at (c6 .read-file .ensures))
 
 returns-3 : tie.Need-returns-3
 returns-3 c =
@@ -112,11 +134,14 @@ returns-3 c =
     let c22 = c15 .before .before .before .before .before .before .before in
     let a = c22 .args in
     let (file, end, read, parts) = rw (c10 .symbols .given .1) at (c15 .read-file .ensures) in
-    let count = word-count (a .book .now) (c15 .read-file .last .1 .1 .1 .0) (a .nodes .now) (c15 .read-file .last .1 .1 .1 .1 .0) file
+    let count = word-count (a .book .now) (c15 .read-file .last .1 .1 .1 .0) (a .nodes .now) (c15 .read-file .last .1
+    .1 .1 .1 .0) file
     _ _ _ _ parts in
-    let front = nodes-front (a .book .now) (c15 .read-file .last .1 .1 .1 .0) (a .nodes .now) (c15 .read-file .last .1 .1 .1 .1 .0) file
+    let front = nodes-front (a .book .now) (c15 .read-file .last .1 .1 .1 .0) (a .nodes .now) (c15 .read-file .last .1
+    .1 .1 .1 .0) file
     _ _ _ _ parts (c22 .pre) in
-    let written = rw (c6 .front .ensures .0, parts .signature) at (c .before .before .put-file .ensures (file .rules) front (parts .ruleCount)) in
+    let written = rw (c6 .front .ensures .0, parts .signature) at (c .before .before .put-file .ensures (file .rules)
+    front (parts .ruleCount)) in
     let (reply, output) = decode-written (a .book .now) (a .words .now) file end
     (sym (read-packed (a .book .now) []) ∙ read) (omega (arith, count, c8 .entry-words .ensures .0)) in
     (rw (c8 .entry-words .ensures .0, count) reply, written ∙ output)

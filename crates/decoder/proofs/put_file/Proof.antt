@@ -22,16 +22,24 @@ returns c =
     let c30 = c26 .before .before .before .before in
     λ read same rules.
     let a = c30 .args in
-    let header = stored-four (a .words .now) (c24 .put-word .last .0) (c20 .put-word2 .last .0) (c15 .put-word3 .last .0)
-    (c11 .put-word4 .last .0) 0 1 (c26 .count .result) (c16 .variable-weight .result) (a .rules) (c24 .put-word .ensures)
+    let header = stored-four (a .words .now) (c24 .put-word .last .0) (c20 .put-word2 .last .0) (c15 .put-word3 .last
+    .0)
+    (c11 .put-word4 .last .0) 0 1 (c26 .count .result) (c16 .variable-weight .result) (a .rules) (c24 .put-word
+    .ensures)
     (c20 .put-word2 .ensures) (c15 .put-word3 .ensures) (c11 .put-word4 .ensures) in
     let long : length (c7 .write-symbols .last .1 .0) ≡ length (a .words .now) = c7 .write-symbols .kept .1 .0
     ∙ c11 .put-word4 .kept .0 ∙ c15 .put-word3 .kept .0 ∙ c20 .put-word2 .kept .0 ∙ c24 .put-word .kept .0 in
     let entries = c3 .entry-words .ensures .0 ∙ ap entryWords (c26 .count .ensures .0) in
-    stored-file (a .words .now) (c11 .put-word4 .last .0) (c7 .write-symbols .last .1 .0) (c .before .before .put-words .last .0)
+    stored-file (a .words .now) (c11 .put-word4 .last .0) (c7 .write-symbols .last .1 .0) (c .before .before
+    .put-words .last .0)
     (signatureOf (a .table .now)) read (c26 .count .result) (a .rules)
     (rw (c16 .variable-weight .ensures .0) at header) (c7 .write-symbols .ensures)
-    (rw (same, c3 .entry-words .ensures .0) at (c .before .before .put-words .ensures .0 (omega (arith, long, entries, c30 .pre .1)))) (c26 .count .ensures .0) rules
+    (rw (same, c3 .entry-words .ensures .0) at (c .before .before .put-words .ensures .0 (omega (
+      arith,
+      long,
+      entries,
+      c30 .pre .1,
+    )))) (c26 .count .ensures .0) rules
 
 pub put-file-spec : {M : Type 1} → statement M
 put-file-spec =

@@ -29,7 +29,12 @@ add-count c =
     let a = c12 .args in
     let (file, end, read, parts) = rw (c .before .before .symbols .given .1) at (c6 .read-file .ensures) in
     let listed = file-listed (a .words .now) _ _ _ file end _ _ _ _ (sym (read-words (a .words .now)) ∙ read) parts in
-    rw (c .packed-bits .ensures) (omega (arith, listed .short, bits-le (a .words .now) (c .before .before .symbols .given .0 .1 .1 .1 .0) (length (a .words .now))))
+    rw (c .packed-bits .ensures) (omega (
+      arith,
+      listed .short,
+      bits-le (a .words .now) (c .before .before .symbols
+          .given .0 .1 .1 .1 .0) (length (a .words .now)),
+    ))
 
 returns : tie.Need-returns
 unfolding entryWords
@@ -41,7 +46,8 @@ returns c =
     let (file, end, read, parts) = rw (c3 .symbols .given .1) at (c7 .read-file .ensures) in
     let whole = sym (read-words (a .words .now)) ∙ read in
     encode-long (a .words .now) (a .bytes .now) file end _ _ whole
-    (file-listed (a .words .now) _ _ _ file end _ _ _ _ whole parts) (rw (c .before .packed-bits .ensures) at (c .if1 .taken))
+    (file-listed (a .words .now) _ _ _ file end _ _ _ _ whole parts) (rw (c .before .packed-bits .ensures) at (c .if1
+    .taken))
 
 returns-2 : tie.Need-returns-2
 unfolding entryWords
@@ -53,7 +59,8 @@ returns-2 c =
     let (file, end, read, parts) = rw (c4 .symbols .given .1) at (c8 .read-file .ensures) in
     let whole = sym (read-words (a .words .now)) ∙ read in
     encode-short (a .words .now) (a .bytes .now) file end _ _ whole
-    (file-listed (a .words .now) _ _ _ file end _ _ _ _ whole parts) (rw (c .before .before .packed-bits .ensures) at (c .before .if1 .left))
+    (file-listed (a .words .now) _ _ _ file end _ _ _ _ whole parts) (rw (c .before .before .packed-bits .ensures) at
+    (c .before .if1 .left))
     (rw (c .before .before .packed-bits .ensures) at (c .if2 .taken))
 
 write-items-requires : tie.Need-write-items-requires
@@ -90,7 +97,8 @@ returns-4 c =
     let (file, end, read, parts) = rw (c8 .symbols .given .1) at (c12 .read-file .ensures) in
     let whole = sym (read-words (a .words .now)) ∙ read in
     let x = encode-done (a .words .now) (a .bytes .now) file end _ _ whole
-    (file-listed (a .words .now) _ _ _ file end _ _ _ _ whole parts) (rw (c6 .packed-bits .ensures) at (c5 .if1 .left))
+    (file-listed (a .words .now) _ _ _ file end _ _ _ _ whole parts) (rw (c6 .packed-bits .ensures) at (c5 .if1
+    .left))
     (rw (c6 .packed-bits .ensures) at (c4 .if2 .left)) in
     rw (c6 .packed-bits .ensures) (x .0, c .before .before .write-items .ensures ∙ x .1)
 

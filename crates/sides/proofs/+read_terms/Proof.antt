@@ -34,7 +34,18 @@ read-terms-below t =
     and 4 read-terms-kinds.ps (falls 4 read-terms-kinds.ps _<_ μ-read-terms t) read-terms.Pre
 
 abbrev claims : ℕ → read-terms-lts.Claims
-claims t = (pack-value-reads.Asked, pack-value-reads.Learnt, pack-fault-reads.Asked, pack-fault-reads.Learnt, node-reads.Asked, node-reads.Learnt, cell-at-reads.Asked, cell-at-reads.Learnt, read-terms-below t, read-terms.Post)
+claims t = (
+  pack-value-reads.Asked,
+  pack-value-reads.Learnt,
+  pack-fault-reads.Asked,
+  pack-fault-reads.Learnt,
+  node-reads.Asked,
+  node-reads.Learnt,
+  cell-at-reads.Asked,
+  cell-at-reads.Learnt,
+  read-terms-below t,
+  read-terms.Post,
+)
 
 read-terms-returns : (t : ℕ) → read-terms-lts.Need-returns (claims t) (read-terms-at t) read-terms.Post
 read-terms-returns t c =
@@ -53,7 +64,8 @@ read-terms-returns-2 t c =
       (rw (c .pack-fault .ensures) tt, c3 .pre .1 .1 .2),
     )
 
-read-terms-pack-fault-requires-2 : (t : ℕ) → read-terms-lts.Need-pack-fault-requires-2 (claims t) (read-terms-at t) read-terms.Post
+read-terms-pack-fault-requires-2 : (t : ℕ) → read-terms-lts.Need-pack-fault-requires-2 (claims t) (read-terms-at t)
+    read-terms.Post
 read-terms-pack-fault-requires-2 t c κs =
     let c3 = c .before .before .before in
     let c7 = c3 .before .before .before .before in
@@ -68,7 +80,8 @@ read-terms-cast-word t c =
     let c3 = c .before .before .before in
     omega (arith, rw (c .before .value .given .1) at (c3 .node .ensures .1))
 
-read-terms-cell-at-requires : (t : ℕ) → read-terms-lts.Need-cell-at-requires (claims t) (read-terms-at t) read-terms.Post
+read-terms-cell-at-requires : (t : ℕ) → read-terms-lts.Need-cell-at-requires (claims t) (read-terms-at t)
+    read-terms.Post
 read-terms-cell-at-requires t c κs =
     let c3 = c .before .before .before in
     rw (c .before .value .given .1) at (c3 .node .ensures .1)
@@ -89,16 +102,19 @@ read-terms-returns-3 t c =
       (rw (c .pack-fault3 .ensures) tt, simp length-set (c10 .pre .1 .1 .2)),
     )
 
-read-terms-add-read-terms-2 : (t : ℕ) → read-terms-lts.Need-add-read-terms-2 (claims t) (read-terms-at t) read-terms.Post
+read-terms-add-read-terms-2 : (t : ℕ) → read-terms-lts.Need-add-read-terms-2 (claims t) (read-terms-at t)
+    read-terms.Post
 read-terms-add-read-terms-2 t c =
     let c10 = c .before .before .before .before .before .before .before .before .before .before in
     omega (
       arith,
-      owed-fits (c .before .before .cell-at .result) (c10 .args .owed) (c10 .args .count) (omega arith) (c .before .before .cell-at .ensures .1)
+      owed-fits (c .before .before .cell-at .result) (c10 .args .owed) (c10 .args .count) (omega arith) (c .before
+          .before .cell-at .ensures .1)
           (omega arith) (omega arith) (c10 .pre .1 .1 .1) .0,
     )
 
-read-terms-read-terms-requires : (t : ℕ) → read-terms-lts.Need-read-terms-requires (claims t) (read-terms-at t) read-terms.Post
+read-terms-read-terms-requires : (t : ℕ) → read-terms-lts.Need-read-terms-requires (claims t) (read-terms-at t)
+    read-terms.Post
 read-terms-read-terms-requires t c κs =
     let c4 = c .before .before .before .before in
     let c6 = c4 .before .before in
@@ -108,7 +124,8 @@ read-terms-read-terms-requires t c κs =
     let limit = 8 * length (a .book .now .now) in
     let node = sym (rw (c4 .value .given .1) at (c6 .node .ensures .0)) in
     let end = node-within-got limit _ _ _ (bits-node (a .book .now .now) (a .at) (c10 .pre .1 .0 .1)) node in
-    let fits = owed-fits (c .before .before .cell-at .result) (a .owed) (a .count) (omega arith) (c .before .before .cell-at .ensures .1)
+    let fits = owed-fits (c .before .before .cell-at .result) (a .owed) (a .count) (omega arith) (c .before .before
+    .cell-at .ensures .1)
     (omega arith) (omega arith) (c10 .pre .1 .1 .1) .1 in
     let fewer = fewer-allowed (a .count) t (c10 .pre .1 .1 .0) (c8 .if2 .left) (c10 .pre .0) in
     (fewer .0, ((c10 .pre .1 .0 .0, end .1), (fewer .1, fits, simp length-set (c10 .pre .1 .1 .2))))

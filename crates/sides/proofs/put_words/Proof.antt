@@ -43,7 +43,8 @@ returns-2 c =
     let c3 = c .before .before .before in
     let v = c .before .loop .inv in
     let a = c3 .args in
-    let all : take (c .before .loop .i) (a .nodes .now) ≡ a .nodes .now = take-all (c .before .loop .i) (a .nodes .now) (omega arith) in
+    let all : take (c .before .loop .i) (a .nodes .now) ≡ a .nodes .now = take-all (c .before .loop .i) (a .nodes
+    .now) (omega arith) in
     (λ room. v .2 ∙ ap (sets (a .words .now) (a .index)) all, λ none. absurd (omega arith))
 
 pub put-words-spec : {M : Type 1} → statement M

@@ -19,7 +19,8 @@ returns c =
     let c9 = c5 .before .before .before .before in
     let a = c9 .args in (
       λ σ k. left-fault (bitSource (a .book .now)) σ (a .at) (a .index) (a .words .now) _ _
-          (c5 .read-side-into .last .1 .1 .0) (rw (c .before .offset .given .1) at (c5 .read-side-into .ensures .0 σ k)),
+          (c5 .read-side-into .last .1 .1 .0) (rw (c .before .offset .given .1) at (c5 .read-side-into .ensures .0 σ
+          k)),
       tt,
     )
 
@@ -32,9 +33,11 @@ returns-2 c =
     let within = rw (c5 .value .given .1) at (c9 .read-side-into .ensures .1) in (
       λ σ k. right-read (bitSource (a .book .now)) σ (a .at) (a .index) (a .words .now) _ _
           (c9 .read-side-into .last .1 .1 .0) (c9 .read-side-into .kept .1 .1 .0)
-          (rw (c5 .value .given .1) at (c9 .read-side-into .ensures .0 σ k)) (c .before .before .read-side-into2 .result)
+          (rw (c5 .value .given .1) at (c9 .read-side-into .ensures .0 σ k)) (c .before .before .read-side-into2
+          .result)
           (c .before .before .read-side-into2 .last .1 .1 .0) (c .before .before .read-side-into2 .ensures .0 σ k),
-      within-wider _ _ _ (omega (arith, within .0)) (c .before .before .read-side-into2 .result) (c .before .before .read-side-into2 .ensures .1),
+      within-wider _ _ _ (omega (arith, within .0)) (c .before .before .read-side-into2 .result) (c .before .before
+          .read-side-into2 .ensures .1),
     )
 
 pub read-rule-into-spec : {M : Type 1} → statement M

@@ -11,21 +11,36 @@ use Rattle.sides.proofs.read_side_into.Tie as tie
 array-share-prefix-side : tie.Need-array-share-prefix-side
 array-share-prefix-side c =
     let c4 = c .before .before .before .before in
-    omega (arith, rw (c .before .before .value .given .1) at (c4 .read-side .ensures .1 .0), c4 .read-side .ensures .1 .1)
+    omega (
+      arith,
+      rw (c .before .before .value .given .1) at (c4 .read-side .ensures .1 .0),
+      c4 .read-side .ensures .1
+          .1,
+    )
 
 slice-aggregate-put-words : tie.Need-slice-aggregate-put-words
 slice-aggregate-put-words c =
     let c3 = c .before .before .before in
     let c5 = c3 .before .before in
     let within = rw (c3 .value .given .1) at (c5 .read-side .ensures .1 .0) in
-    sym (length-take-le (c3 .value .given .0 .0) (c5 .read-side .last .1 .1 .0) (omega (arith, within, c5 .read-side .ensures .1 .1)))
+    sym (length-take-le (c3 .value .given .0 .0) (c5 .read-side .last .1 .1 .0) (omega (
+      arith,
+      within,
+      c5 .read-side
+          .ensures .1 .1,
+    )))
 
 put-words-requires : tie.Need-put-words-requires
 put-words-requires c κs =
     let c3 = c .before .before .before in
     let c5 = c3 .before .before in
     let within = rw (c3 .value .given .1) at (c5 .read-side .ensures .1 .0) in
-    let some = length-take-le (c3 .value .given .0 .0) (c5 .read-side .last .1 .1 .0) (omega (arith, within, c5 .read-side .ensures .1 .1)) in
+    let some = length-take-le (c3 .value .given .0 .0) (c5 .read-side .last .1 .1 .0) (omega (
+      arith,
+      within,
+      c5
+          .read-side .ensures .1 .1,
+    )) in
     omega (arith, within, some)
 
 add-t19 : tie.Need-add-t19
@@ -46,9 +61,16 @@ returns-2 c =
     let c12 = c8 .before .before .before .before in
     let a = c12 .args in
     let within = rw (c6 .value .given .1) at (c8 .read-side .ensures .1 .0) in
-    let long = length-take-le (c6 .value .given .0 .0) (c8 .read-side .last .1 .1 .0) (omega (arith, within, c8 .read-side .ensures .1 .1)) in (
-      λ σ k. side-stored _ (a .index) (a .words .now) (take (c6 .value .given .0 .0) (c8 .read-side .last .1 .1 .0)) _ _ _
-          (rw (c6 .value .given .1) at (c8 .read-side .ensures .0 σ k)) (omega (arith, long)) (c .before .before .put-words .ensures .0),
+    let long = length-take-le (c6 .value .given .0 .0) (c8 .read-side .last .1 .1 .0) (omega (
+      arith,
+      within,
+      c8
+          .read-side .ensures .1 .1,
+    )) in (
+      λ σ k. side-stored _ (a .index) (a .words .now) (take (c6 .value .given .0 .0) (c8 .read-side .last .1 .1 .0)) _
+          _ _
+          (rw (c6 .value .given .1) at (c8 .read-side .ensures .0 σ k)) (omega (arith, long)) (c .before .before
+          .put-words .ensures .0),
       (omega (arith, within), within .1),
     )
 

@@ -11,7 +11,8 @@ returns c =
     let c3 = c .before .before .before in
     let c6 = c3 .before .before .before in
     let σ = signatureOf (c6 .args .table .now) in
-    cells-all σ _ _ (omega (arith, c3 .count .ensures)) (rw (c3 .count .ensures .0) at (c .before .before .put-cells .ensures .0))
+    cells-all σ _ _ (omega (arith, c3 .count .ensures)) (rw (c3 .count .ensures .0) at (c .before .before .put-cells
+    .ensures .0))
     (c .put-cells2 .ensures .0)
 
 pub arities-spec : {M : Type 1} → statement M

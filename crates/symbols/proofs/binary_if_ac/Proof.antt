@@ -1,3 +1,4 @@
+-- The test is the definition's, case by case.
 use borrow.Author.Tests.{eq-eqb, ne-eqb}
 use Rattle.symbols.proofs.binary_if_ac.Statement.{statement}
 use Rattle.symbols.proofs.binary_if_ac.Tie as tie

@@ -1,3 +1,4 @@
+-- A variable calls for nothing, a symbol for its arguments, and another word has no cell.
 use mathlib.Core.Path.{sym, _∙_}
 use native.Mathlib.Omega.{arith}
 use lib.ListN.{length}

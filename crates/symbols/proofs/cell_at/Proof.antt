@@ -1,3 +1,4 @@
+-- The cell is the number at the word's index.
 use mathlib.Core.Path.{ap, _∙_}
 use Prim.Native.Nat.{ℕ}
 use lib.ListN.{getD}

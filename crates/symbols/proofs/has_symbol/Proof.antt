@@ -1,3 +1,4 @@
+-- The table has a word of each symbol's entry.
 use lib.ListN.{length}
 use Rattle.symbols.proofs.TableLaws.{symbol-count, index-count}
 use borrow.Author.Needs.{needs}

@@ -1,3 +1,4 @@
+-- The least weight goes by the arity, as the definition does.
 use native.Mathlib.Omega.{arith}
 use mathlib.Core.Path.{_≡_}
 use Prim.Native.Nat.{suc, _-_}

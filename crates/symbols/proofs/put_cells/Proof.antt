@@ -1,3 +1,4 @@
+-- The loop keeps: the cells from the first word to `word` are stored, and the others are as they were.
 use mathlib.Core.Path.{_≡_}
 use Prim.Native.Nat.{_-_, _≤_}
 use native.Mathlib.Omega.{arith}
@@ -34,15 +35,17 @@ loop-again c =
       omega arith,
       simp length-set (v .2),
       rw (c .wide .ensures .0)
-          (between-more (signatureOf (c5 .args .table .now)) (c5 .args .from) (c3 .loop .word) (c .before .cell .result)
+          (between-more (signatureOf (c5 .args .table .now)) (c5 .args .from) (c3 .loop .word) (c .before .cell
+          .result)
           (c5 .args .cells .now) (c3 .loop .cells) (v .0)
           (omega arith) (c .before .cell .ensures) (v .3)),
     )
 
 returns : tie.Need-returns Inv-loop μ-loop
 returns c =
+    let c3 = c .before .before .before in
     let v = c .before .loop .inv in
-    let e : c .before .loop .word ≡ c .before .before .before .args .to = omega arith in
+    let e : c .before .loop .word ≡ c3 .args .to = omega arith in
     (rw e at (v .3), v .2)
 
 pub put-cells-spec : {M : Type 1} → statement M

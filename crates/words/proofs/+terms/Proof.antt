@@ -29,7 +29,18 @@ abbrev terms-below : ℕ → In 3 terms-kinds.ps
 terms-below t = and 3 terms-kinds.ps (falls 3 terms-kinds.ps _<_ μ-terms t) terms.Pre
 
 abbrev claims : ℕ → terms-lts.Claims
-claims t = (pack-value-reads.Asked, pack-value-reads.Learnt, pack-fault-reads.Asked, pack-fault-reads.Learnt, wide-reads.Asked, wide-reads.Learnt, cell-at-reads.Asked, cell-at-reads.Learnt, terms-below t, terms.Post)
+claims t = (
+  pack-value-reads.Asked,
+  pack-value-reads.Learnt,
+  pack-fault-reads.Asked,
+  pack-fault-reads.Learnt,
+  wide-reads.Asked,
+  wide-reads.Learnt,
+  cell-at-reads.Asked,
+  cell-at-reads.Learnt,
+  terms-below t,
+  terms.Post,
+)
 
 terms-returns : (t : ℕ) → terms-lts.Need-returns (claims t) (terms-at t) terms.Post
 terms-returns t c σ table =
@@ -48,7 +59,8 @@ terms-returns-3 t c σ table =
     let c4 = c .before .before .before .before in
     let a = c4 .args in
     c .pack-fault2 .ensures
-    ∙ terms-missing (a .words .now .now) σ (a .allowed) (a .owed) (a .at) (omega arith) (omega arith) (c .before .if3 .taken)
+    ∙ terms-missing (a .words .now .now) σ (a .allowed) (a .owed) (a .at) (omega arith) (omega arith) (c .before .if3
+    .taken)
 
 terms-returns-4 : (t : ℕ) → terms-lts.Need-returns-4 (claims t) (terms-at t) terms.Post
 terms-returns-4 t c σ table =
@@ -70,7 +82,8 @@ terms-returns-5 t c σ table =
     let a = c9 .args in
     let small : getD (a .words .now .now) (a .at) 0 < 272 = omega (arith, c4 .wide .ensures .0) in
     c .pack-fault4 .ensures
-    ∙ terms-unknown (a .words .now .now) σ (a .allowed) (a .owed) (a .at) (omega arith) (omega arith) (c6 .if3 .left) small
+    ∙ terms-unknown (a .words .now .now) σ (a .allowed) (a .owed) (a .at) (omega arith) (omega arith) (c6 .if3 .left)
+    small
     (a .arities .now) table (sym (c .before .before .cell-at .ensures .0) ∙ c .before .if5 .taken)
 
 terms-add-terms-2 : (t : ℕ) → terms-lts.Need-add-terms-2 (claims t) (terms-at t) terms.Post
@@ -86,7 +99,11 @@ terms-returns-6 t c σ table =
     let c9 = c6 .before .before .before in
     let a = c9 .args in
     let small : getD (a .words .now .now) (a .at) 0 < 272 = omega (arith, c4 .wide .ensures .0) in
-    let some : 0 < getD (a .arities .now) (getD (a .words .now .now) (a .at) 0) 0 = omega (arith, c .before .before .cell-at .ensures .0) in
+    let some : 0 < getD (a .arities .now) (getD (a .words .now .now) (a .at) 0) 0 = omega (
+      arith,
+      c .before .before
+          .cell-at .ensures .0,
+    ) in
     rw (c .before .before .cell-at .ensures .0) at (c .terms .ensures σ table)
     ∙ terms-node (a .words .now .now) σ (a .allowed) (a .owed) (a .at) (omega arith) (omega arith) (c6 .if3 .left) small
     (a .arities .now) table some

@@ -15,13 +15,15 @@ returns-2 : tie.Need-returns-2
 returns-2 c σ table =
     let c4 = c .before .before .before .before in
     let c6 = c4 .before .before in
-    whole-read (c6 .args .words .now) σ _ _ (sym (c4 .term .ensures σ table) ∙ c .before .before .value .given .1) (c .if1 .taken)
+    whole-read (c6 .args .words .now) σ _ _ (sym (c4 .term .ensures σ table) ∙ c .before .before .value .given .1) (c
+    .if1 .taken)
 
 returns-3 : tie.Need-returns-3
 returns-3 c σ table =
     let c4 = c .before .before .before .before in
     let c6 = c4 .before .before in
-    whole-longer (c6 .args .words .now) σ _ _ (sym (c4 .term .ensures σ table) ∙ c .before .before .value .given .1) (c .if1 .left)
+    whole-longer (c6 .args .words .now) σ _ _ (sym (c4 .term .ensures σ table) ∙ c .before .before .value .given .1)
+    (c .if1 .left)
 
 pub whole-term-spec : {M : Type 1} → statement M
 whole-term-spec =

@@ -1,3 +1,4 @@
+-- The last bits of a value are its remainder by a power of 2.
 use mathlib.Core.Path.{refl}
 use native.Mathlib.Nat.{mod-le, mod-lt}
 use native.Mathlib.Omega.{arith}

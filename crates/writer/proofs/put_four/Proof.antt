@@ -1,3 +1,4 @@
+-- Four bytes are stored, the most significant first.
 use native.Mathlib.Omega.{arith}
 use Prim.Native.Nat.{suc, _+_}
 use mathlib.Core.Path.{_≡_}

@@ -6,7 +6,8 @@ use lib.ListN.{length, getD}
 use native.Mathlib.Nat.{mod-lt}
 use lib.Pow.{pow-pos}
 use Rattle.format.specs.Reading.{bitField}
-use Rattle.bits.proofs.BitLaws.{one-shl, rest-fits, field-three}
+use Rattle.bits.proofs.BitLaws.{rest-fits, field-three}
+use Rattle.format.proofs.PackingLaws.{one-shl}
 use borrow.Author.Needs.{needs}
 use Rattle.bits.proofs.BitCursor.field.Statement.{statement}
 use Rattle.bits.proofs.BitCursor.field.Tie as tie
@@ -20,20 +21,20 @@ returns c =
 
 rem-value : tie.Need-rem-value
 unfolding bitField
-rem-value c = let a = c .before .before .before .args in rw (one-shl (a .width) (omega arith)) (pow-pos (a .width))
+rem-value c = let a = c .before .before .before .args in rw (one-shl 32 (a .width) (omega arith)) (pow-pos (a .width))
 
 cast-t12 : tie.Need-cast-t12
 unfolding bitField
 cast-t12 c =
     let a = c .before .before .before .args in
     let small = rest-fits (c .gather .result / 2 ^ (24 - a .self .at % 8 - a .width)) (a .width) (omega arith) in
-    record { fits = rw (one-shl (a .width) (omega arith)) (omega (arith, small)) }
+    record { fits = rw (one-shl 32 (a .width) (omega arith)) (omega (arith, small)) }
 
 returns-2 : tie.Need-returns-2
 unfolding bitField
 returns-2 c =
     let a = c .before .before .before .args in
-    let w : a .width ≤ 24 = omega arith in
+    let w : a .width < 32 = omega arith in
     let fits : a .self .at + a .width ≤ 8 * length (a .book .now) = omega arith in
     let small : (i : ℕ) → getD (a .book .now) i 0 < 256 = λ i. omega (
       arith,
@@ -42,12 +43,12 @@ returns-2 c =
     ) in
     let room : a .self .at % 8 + a .width ≤ 24 = omega arith in (
       rw (
-        one-shl (a .width),
+        one-shl 32 (a .width),
         le-leb _ _ fits,
         field-three (a .book .now) small (a .self .at) (a .width),
         c .gather .ensures .0,
       ),
-      rw (one-shl (a .width)) (mod-lt _ (pow-pos (a .width))),
+      rw (one-shl 32 (a .width)) (mod-lt _ (pow-pos (a .width))),
     )
 
 pub field-spec : {M : Type 1} → statement M

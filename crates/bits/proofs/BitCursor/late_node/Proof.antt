@@ -1,3 +1,4 @@
+-- In the last byte a node's bits are the low ones, with zeros after them; one that is cut off is missing.
 use native.Mathlib.Omega.{arith}
 use mathlib.Core.Path.{_≡_, sym, _∙_}
 use Prim.Native.Nat.{ℕ, _+_, _*_, _-_, _/_, _%_, _^_, _<_}

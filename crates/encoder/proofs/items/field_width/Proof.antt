@@ -1,3 +1,4 @@
+-- The widths are those of the header's fields, then those of a symbol's in turn.
 use native.Mathlib.Omega.{arith}
 use Prim.Native.Nat.{_%_}
 use mathlib.Core.Path.{_≡_, refl}

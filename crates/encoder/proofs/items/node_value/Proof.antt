@@ -1,3 +1,4 @@
+-- A node's bits are its tag and its number.
 use native.Mathlib.Omega.{arith}
 use mathlib.Core.Path.{refl}
 use Rattle.encoder.proofs.ItemBits.{symbol-bits, variable-bits}

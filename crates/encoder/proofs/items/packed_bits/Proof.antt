@@ -18,32 +18,43 @@ abbrev μ-loop : tie.MeasureT-loop
 μ-loop words symbols nodes variables₀ i₀ variables i = length words - i
 
 loop-holds : tie.Need-loop-holds Inv-loop μ-loop
-loop-holds c =
-    let a = c .before .args in
+loop-holds c = let a = c .before .args in
     let n = a .nodes in
-    let all = ap (λ (k : ℕ). length (bitsTo (a .words .now) n k)) (c .before .pre .0) in
-    (omega arith, omega arith, omega arith, omega (arith, all, fields-length (a .words .now) n (a .symbols) (omega arith)))
+    let all = ap (λ (k : ℕ). length (bitsTo (a .words .now) n k)) (c .before .pre .0) in (
+      omega arith,
+      omega arith,
+      omega arith,
+      omega (
+        arith,
+        all,
+        fields-length (a .words .now) n (a .symbols) (omega
+            arith),
+      ),
+    )
 
 loop-again : tie.Need-loop-again Inv-loop μ-loop
 loop-again c =
-    let a = c .before .before .before .before .before .args in
+    let c3 = c .before .before .before in
+    let c5 = c3 .before .before in
+    let a = c5 .args in
     let n = a .nodes in
-    let i = c .before .before .before .loop .i in (
+    let i = c3 .loop .i in (
       omega arith,
       omega arith,
       omega (arith, c .tag .ensures .1),
       omega (
         arith,
         length-more (a .words .now) n i (i + 1) refl,
-        ap length (node-bits (a .words .now) n i (c .before .before .before .loop .inv .0)),
+        ap length (node-bits (a .words .now) n i (c3 .loop .inv .0)),
         c .tag .ensures .0,
-        c .before .before .before .loop .inv .3,
+        c3 .loop .inv .3,
       ),
     )
 
 returns : tie.Need-returns Inv-loop μ-loop
 returns c =
-    let a = c .before .before .before .args in
+    let c3 = c .before .before .before in
+    let a = c3 .args in
     let e : c .before .loop .i ≡ length (a .words .now) = omega arith in
     omega (arith, ap (λ (k : ℕ). length (bitsTo (a .words .now) (a .nodes) k)) e, c .before .loop .inv .3)
 

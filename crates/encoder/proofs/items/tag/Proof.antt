@@ -1,3 +1,4 @@
+-- A variable takes four bits fewer than a symbol.
 use native.Mathlib.Omega.{arith}
 use mathlib.Core.Path.{ap}
 use lib.ListN.{length}

@@ -1,3 +1,4 @@
+-- The loop keeps: the bits of the fields before word `i` are written.
 use borrow.Author.Needs.{needs}
 use native.Mathlib.Omega.{arith}
 use Prim.Native.Nat.{ℕ, _+_, _-_, _≤_, _<_}
@@ -32,24 +33,28 @@ loop-holds c = (
 
 put-requires : tie.Need-put-requires Inv-loop μ-loop
 put-requires c κs =
-    let l = c .before .before .before .before .before .before .before .before .args .words .now in
-    let n = c .before .before .before .before .before .before .before .before .args .nodes in
-    let i = c .before .before .before .before .before .loop .i in
-    let h = c .before .before .before .before .before .loop .inv .3 in (
+    let c3 = c .before .before .before in
+    let c4 = c3 .before in
+    let c5 = c4 .before in
+    let c8 = c5 .before .before .before in
+    let l = c8 .args .words .now in
+    let n = c8 .args .nodes in
+    let i = c5 .loop .i in
+    let h = c5 .loop .inv .3 in (
       (
-        c .before .before .before .before .before .loop .inv .2,
+        c5 .loop .inv .2,
         pending-lt _ _ _ _ h,
-        c .before .before .before .field-width .ensures .1,
+        c3 .field-width .ensures .1,
         c .last-bits .ensures .1,
       ),
       omega (
         arith,
         h .total,
-        field-more l n i (i + 1) (fieldWidth i) refl (c .before .before .before .before .loop-test .taken) refl,
+        field-more l n i (i + 1) (fieldWidth i) refl (c4 .loop-test .taken) refl,
         bits-mono l n (i + 1) n (omega arith),
-        c .before .before .before .field-width .ensures .0,
-        c .before .before .before .before .before .before .before .before .pre .1,
-        c .before .before .before .before .before .loop .inv .1,
+        c3 .field-width .ensures .0,
+        c8 .pre .1,
+        c5 .loop .inv .1,
       ),
     )
 
@@ -80,7 +85,8 @@ same-length c = c .before .loop .inv .1
 
 returns : tie.Need-returns Inv-loop μ-loop
 returns c =
-    let e : c .before .loop .i ≡ c .before .before .before .before .args .nodes = omega arith in
+    let c4 = c .before .before .before .before in
+    let e : c .before .loop .i ≡ c4 .args .nodes = omega arith in
     (c .before .loop .inv .2, rw e at (c .before .loop .inv .3))
 
 pub write-fields-spec : {M : Type 1} → statement M

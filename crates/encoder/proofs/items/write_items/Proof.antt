@@ -1,3 +1,4 @@
+-- The loop keeps: the bits of the items before word `i` are written; what waits is stored at the end.
 use borrow.Author.Needs.{needs}
 use native.Mathlib.Omega.{arith}
 use Prim.Native.Nat.{ℕ, _+_, _-_, _≤_, _<_}
@@ -24,9 +25,10 @@ abbrev μ-loop : tie.MeasureT-loop
 
 write-fields-requires : tie.Need-write-fields-requires Inv-loop μ-loop
 write-fields-requires c κs =
-    let l = c .before .before .before .args .words .now in
-    let n = c .before .before .before .args .nodes in
-    (c .before .before .before .pre .0, omega (arith, bits-mono l n n (length l) (c .before .before .before .pre .0)))
+    let c3 = c .before .before .before in
+    let l = c3 .args .words .now in
+    let n = c3 .args .nodes in
+    (c3 .pre .0, omega (arith, bits-mono l n n (length l) (c3 .pre .0)))
 
 loop-holds : tie.Need-loop-holds Inv-loop μ-loop
 loop-holds c = (omega arith, omega arith, refl, c .before .before .write-fields .ensures .0, λ old h. h)
@@ -79,19 +81,26 @@ finish-requires c κs =
     )
 
 same-length : tie.Need-same-length Inv-loop μ-loop
-same-length c = c .before .before .finish .kept .1 .0 ∙
-    c .before .before .before .before .before .before .loop .inv .2 ∙
-    c .before .before .before .before .before .before .before .before .before .write-fields .kept .1 .1 .0
+same-length c =
+    let c6 = c .before .before .before .before .before .before in
+    let c9 = c6 .before .before .before in
+    c .before .before .finish .kept .1 .0 ∙
+    c6 .loop .inv .2 ∙
+    c9 .write-fields .kept .1 .1 .0
 
 returns : tie.Need-returns Inv-loop μ-loop
 returns c =
-    let a = c .before .before .before .before .before .before .before .before .before .before .before
+    let c4 = c .before .before .before .before in
+    let c6 = c4 .before .before in
+    let c9 = c6 .before .before .before in
+    let c11 = c9 .before .before in
+    let a = c11
     .before .before .args in
     c .before .before .finish .ensures _ _
-    (c .before .before .before .before .before .before .loop .inv .4 _
-    (c .before .before .before .before .before .before .before .before .before .write-fields .ensures .1))
+    (c6 .loop .inv .4 _
+    (c9 .write-fields .ensures .1))
     ∙ ap (λ (k : ℕ). sets (a .bytes .now) 0 (bytesOf (bitsTo (a .words .now) (a .nodes) k)))
-    (c .before .before .before .before .if1 .taken)
+    (c4 .if1 .taken)
 
 write-node-requires : tie.Need-write-node-requires Inv-loop μ-loop
 write-node-requires c κs =
@@ -130,10 +139,13 @@ finish-requires-2 c κs =
 
 same-length-2 : tie.Need-same-length-2 Inv-loop μ-loop
 same-length-2 c =
+    let c6 = c .before .before .before .before .before .before in
+    let c11 = c6 .before .before .before .before .before in
+    let c12 = c11 .before in
     c .before .before .finish2 .kept .1 .0 ∙
-    c .before .before .before .before .before .before .write-node .kept .1 .1 .0 ∙
-    c .before .before .before .before .before .before .before .before .before .before .before .loop .inv .2 ∙
-    c .before .before .before .before .before .before .before .before .before .before .before .before
+    c6 .write-node .kept .1 .1 .0 ∙
+    c11 .loop .inv .2 ∙
+    c12
     .before .before .write-fields .kept .1 .1 .0
 
 returns-2 : tie.Need-returns-2 Inv-loop μ-loop

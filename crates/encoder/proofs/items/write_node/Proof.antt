@@ -1,3 +1,4 @@
+-- One value of the node's width has the node's bits.
 use native.Mathlib.Omega.{arith}
 use Prim.Native.Nat.{ℕ}
 use mathlib.Core.Path.{ap, _∙_}
@@ -8,16 +9,19 @@ use Rattle.encoder.proofs.items.write_node.Tie as tie
 
 put-requires : tie.Need-put-requires
 put-requires c κs =
-    let h = c .before .before .before .before .pre .0 in
+    let c4 = c .before .before .before .before in
+    let h = c4 .pre .0 in
     rw (c .before .node-width .ensures .0) (
       (h .0, h .1, omega (arith, c .before .node-width .ensures), c .node-value .ensures .1),
-      c .before .before .before .before .pre .1,
+      c4 .pre .1,
     )
 
 returns : tie.Need-returns
 returns c =
-    let v = c .before .before .before .node-value in
-    let e = ap (λ (k : ℕ). bitsOf k (v .result)) (c .before .before .before .before .node-width .ensures .0) ∙
+    let c3 = c .before .before .before in
+    let c4 = c3 .before in
+    let v = c3 .node-value in
+    let e = ap (λ (k : ℕ). bitsOf k (v .result)) (c4 .node-width .ensures .0) ∙
     v .ensures .0 in
     (c .before .before .put .ensures .0, rw e at (c .before .before .put .ensures .1))
 

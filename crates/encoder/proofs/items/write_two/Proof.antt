@@ -1,3 +1,4 @@
+-- Two values have the bits of two nodes, one after the other.
 use native.Mathlib.Omega.{arith}
 use Prim.Native.Nat.{ℕ}
 use mathlib.Core.Path.{ap, _∙_}
@@ -8,19 +9,21 @@ use Rattle.encoder.proofs.items.write_two.Tie as tie
 
 put-two-requires : tie.Need-put-two-requires
 put-two-requires c κs =
+    let c3 = c .before .before .before in
+    let c6 = c3 .before .before .before in
     let v = c .before .before .node-value .ensures .1 in
     let w = c .node-value2 .ensures .1 in
-    rw (c .before .before .before .node-width .ensures .0, c .before .node-width2 .ensures .0) (
-      c .before .before .before .before .before .before .pre .0,
+    rw (c3 .node-width .ensures .0, c .before .node-width2 .ensures .0) (
+      c6 .pre .0,
       (
         (
-          omega (arith, c .before .before .before .node-width .ensures),
+          omega (arith, c3 .node-width .ensures),
           v,
           omega
               (arith, c .before .node-width2 .ensures),
           w,
         ),
-        c .before .before .before .before .before .before .pre .1,
+        c6 .pre .1,
       ),
     )
 

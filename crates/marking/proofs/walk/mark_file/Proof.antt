@@ -20,7 +20,12 @@ slice-aggregate-mark-under : tie.Need-slice-aggregate-mark-under
 unfolding Reached
 slice-aggregate-mark-under c =
     let c6 = c .before .before .before .before .before .before in
-    sym (length-take-le _ (c6 .read-head .last .1 .1 .1 .0) (omega (arith, c .before .front .ensures .1, c6 .read-head .kept .1 .1 .1 .0)))
+    sym (length-take-le _ (c6 .read-head .last .1 .1 .1 .0) (omega (
+      arith,
+      c .before .front .ensures .1,
+      c6 .read-head
+          .kept .1 .1 .1 .0,
+    )))
 
 mark-under-requires : tie.Need-mark-under-requires
 unfolding Reached
@@ -55,7 +60,8 @@ returns-2 c =
     let c12 = c9 .before .before .before in
     let c17 = c12 .before .before .before .before .before in
     let head = rw (c9 .symbols .given .1) at (c12 .read-head .ensures) in
-    rw (sym (read-packed (c17 .args .book .now) []) ∙ head .0) (rw (c7 .front .ensures .0) at (c3 .mark-under .ensures))
+    rw (sym (read-packed (c17 .args .book .now) []) ∙ head .0) (rw (c7 .front .ensures .0) at (c3 .mark-under
+    .ensures))
 
 pub mark-file-spec : {M : Type 1} → statement M
 mark-file-spec =

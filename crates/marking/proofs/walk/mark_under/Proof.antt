@@ -15,36 +15,57 @@ use Rattle.marking.proofs.walk.mark_under.Tie as tie
 
 mark-rules-requires : tie.Need-mark-rules-requires
 mark-rules-requires c κs =
-    (c .before .before .before .before .before .before .before .before .before .pre .0, ((c .before .before .before .before .before .before .before .before .before .pre .1 .0, c .before .before .before .before .before .arities .ensures, c .before .before .before .before .node-sums .ensures), (omega (arith, c .before .before .before .before .before .before .before .before .before .pre .1), c .before .before .before .before .before .before .before .before .before .pre .1 .1)))
+    let c4 = c .before .before .before .before in
+    let c5 = c4 .before in
+    let c9 = c5 .before .before .before .before in (
+      c9 .pre .0,
+      (
+        (c9 .pre .1 .0, c5 .arities .ensures, c4 .node-sums .ensures),
+        (
+          omega (arith, c9 .pre .1),
+          c9 .pre
+              .1 .1,
+        ),
+      ),
+    )
 
 returns : tie.Need-returns
 unfolding sourceOf
 returns c =
-    let a = c .before .before .before .before .before .before .before .before .before .before .before .before .before .before .before .before .before .before .args in
+    let c3 = c .before .before .before in
+    let c8 = c3 .before .before .before .before .before in
+    let c18 = c8 .before .before .before .before .before .before .before .before .before .before in
+    let a = c18 .args in
     let σ = signatureOf (a .table .now) in
-    let read = rw (c .before .before .before .decreasing .given .1) at (c .before .before .before .before .before .before .before .before .mark-rules .ensures .0) in
-    let within = rw (c .before .before .before .decreasing .given .1) at (c .before .before .before .before .before .before .before .before .mark-rules .ensures .1) in
+    let read = rw (c3 .decreasing .given .1) at (c8 .mark-rules .ensures .0) in
+    let within = rw (c3 .decreasing .given .1) at (c8 .mark-rules .ensures .1) in
     let long = rules-length (bitSource (a .book .now)) σ (a .count) (a .cursor .at) (read .0) _ (read .1) in (
       _,
       _,
       rest-ended true (a .book .now) [] σ (a .count) (a .cursor .at) (read .0) _ (read .1)
-          (c .before .before .before .decreasing .given .0 .1 .0 .at) (rw (sym (c .before .is-padding .ensures) ∙ c .if1 .taken)),
-      marked-as σ (read .0) (a .count) _ _ _ _ _ long (c .before .before .before .before .before .before .before .before .before .before .before .before .before .before .before .before .before .before .pre .1 .1) (within .0) (read .2),
+          (c3 .decreasing .given .0 .1 .0 .at) (rw (sym (c .before .is-padding .ensures) ∙ c .if1 .taken)),
+      marked-as σ (read .0) (a .count) _ _ _ _ _ long (c18 .pre .1 .1) (within .0) (read .2),
     )
 
 returns-2 : tie.Need-returns-2
 unfolding sourceOf
 returns-2 c =
-    let a = c .before .before .before .before .before .before .before .before .before .before .before .before .before .before .before .before .args in
+    let c6 = c .before .before .before .before .before .before in
+    let c16 = c6 .before .before .before .before .before .before .before .before .before .before in
+    let a = c16 .args in
     rest-unread true (a .book .now) [] (signatureOf (a .table .now)) (a .count) (a .cursor .at) _ _
-    (rw (c .before .code .given .1) at (c .before .before .before .before .before .before .mark-rules .ensures .0))
+    (rw (c .before .code .given .1) at (c6 .mark-rules .ensures .0))
 
 returns-3 : tie.Need-returns-3
 unfolding sourceOf
 returns-3 c =
-    let a = c .before .before .before .before .before .before .before .before .before .before .before .before .before .before .before .before .before .before .args in
-    let read = rw (c .before .before .before .decreasing .given .1) at (c .before .before .before .before .before .before .before .before .mark-rules .ensures .0) in
-    rest-unended true (a .book .now) [] (signatureOf (a .table .now)) (a .count) (a .cursor .at) (read .0) _ (read .1) _ _
+    let c3 = c .before .before .before in
+    let c8 = c3 .before .before .before .before .before in
+    let c18 = c8 .before .before .before .before .before .before .before .before .before .before in
+    let a = c18 .args in
+    let read = rw (c3 .decreasing .given .1) at (c8 .mark-rules .ensures .0) in
+    rest-unended true (a .book .now) [] (signatureOf (a .table .now)) (a .count) (a .cursor .at) (read .0) _ (read .1)
+    _ _
     (rw (sym (c .before .is-padding .ensures) ∙ c .if1 .left))
 
 pub mark-under-spec : {M : Type 1} → statement M

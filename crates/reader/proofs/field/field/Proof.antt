@@ -1,7 +1,7 @@
 -- Each branch is the field of its source.
 use native.Mathlib.Omega.{arith}
 use Rattle.reader.specs.Source.{sourceOf}
-use Rattle.reader.proofs.SourceLaws.{one-shl}
+use Rattle.format.proofs.PackingLaws.{one-shl}
 use borrow.Author.Needs.{needs}
 use Rattle.reader.proofs.field.field.Statement.{statement}
 use Rattle.reader.proofs.field.field.Tie as tie
@@ -14,7 +14,8 @@ returns-2 : tie.Need-returns-2
 unfolding sourceOf
 returns-2 c =
     let c4 = c .before .before .before .before in
-    rw (c .before .if1 .left) (rw (one-shl (c4 .args .width) (omega (arith, c4 .pre .1))) at (c .word-below .ensures))
+    rw (c .before .if1 .left) (rw (one-shl 64 (c4 .args .width) (omega (arith, c4 .pre .1))) at (c .word-below
+    .ensures))
 
 pub field-spec : {M : Type 1} → statement M
 field-spec =

@@ -28,8 +28,10 @@ read-table-requires c κs =
     let c16 = c12 .before .before .before .before in
     let a = c16 .args in
     let source = sourceOf (a .packed) (a .book .now) (a .sheet .now) in
-    let count = tested-field source 8 (leb 1) 4 (a .at) _ _ (sym (rw (c10 .symbols .given .1) at (c12 .field-at-least .ensures .0))) in
-    let w0 = tested-field source 16 (leb 1) 5 _ _ _ (sym (rw (c6 .w0 .given .1) at (c8 .field-at-least2 .ensures .0))) in
+    let count = tested-field source 8 (leb 1) 4 (a .at) _ _ (sym (rw (c10 .symbols .given .1) at (c12 .field-at-least
+    .ensures .0))) in
+    let w0 = tested-field source 16 (leb 1) 5 _ _ _ (sym (rw (c6 .w0 .given .1) at (c8 .field-at-least2 .ensures .0)))
+    in
     let rules = sym (rw (c .before .before .rules .given .1) at (c4 .field .ensures .0)) in
     let reach = reached-field (a .packed) (a .book .now) (a .sheet .now) in
     let reached = reach 3 10 _ _ _ (reach 2 16 _ _ _ (reach 1 8 _ _ _ (c16 .pre .0 .1) (count .0)) (w0 .0)) rules in (

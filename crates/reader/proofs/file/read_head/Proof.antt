@@ -61,7 +61,8 @@ returns-4 c =
     let a = c13 .args in
     let short = le-leb (length (a .book .now)) maxBytes (c9 .if1 .left) in
     let form = sym (rw (c6 .value .given .1) at (c8 .field .ensures .0)) in
-    rw (short, read-parts (a .packed) (a .book .now) (a .sheet .now), form, eq-eqb _ _ (c4 .if2 .left)) (c .before .before .read-counts .ensures)
+    rw (short, read-parts (a .packed) (a .book .now) (a .sheet .now), form, eq-eqb _ _ (c4 .if2 .left)) (c .before
+    .before .read-counts .ensures)
 
 pub read-head-spec : {M : Type 1} → statement M
 read-head-spec =

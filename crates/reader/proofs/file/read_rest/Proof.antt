@@ -8,8 +8,17 @@ use Rattle.reader.proofs.file.read_rest.Tie as tie
 
 read-rules-requires : tie.Need-read-rules-requires
 read-rules-requires c κs =
-    let c7 = c .before .before .before .before .before .before .before in
-    ((c7 .pre .0 .0, c7 .pre .0 .2), (c7 .pre .1, (signatureOf (c7 .args .table .now), c .before .before .arities .ensures)))
+    let c7 = c .before .before .before .before .before .before .before in (
+      (c7 .pre .0 .0, c7 .pre .0 .2),
+      (
+        c7 .pre .1,
+        (
+          signatureOf (c7 .args .table .now),
+          c .before .before .arities
+              .ensures,
+        ),
+      ),
+    )
 
 returns : tie.Need-returns
 returns c =
@@ -44,7 +53,8 @@ returns-3 c =
     let a = c17 .args in
     let σ = signatureOf (a .table .now) in
     rest-read (a .packed) (a .book .now) (a .sheet .now) σ (a .count) (a .at) _ _ _ (a .words .now)
-    (c9 .read-rules .last .1 .1 .1 .1 .0) (rw (c5 .value .given .1) at (c9 .read-rules .ensures σ (c12 .arities .ensures)))
+    (c9 .read-rules .last .1 .1 .1 .1 .0) (rw (c5 .value .given .1) at (c9 .read-rules .ensures σ (c12 .arities
+    .ensures)))
     (sym (rw (c .before .none .given .1) at (c3 .end .ensures)))
 
 pub read-rest-spec : {M : Type 1} → statement M

@@ -28,7 +28,8 @@ returns-2 c =
     let room = table-le (a .symbols) (c10 .pre .1 .1) in
     head-read (a .packed) (a .book .now) (a .sheet .now) (a .w0) (a .symbols) (a .rules) (a .at)
     (c5 .read-symbols .last .1 .1 .1 .0) _ read weight
-    (omega (arith, c5 .read-symbols .kept .1 .1 .1 .0, room, c10 .pre .1 .0)) (c10 .pre .0 .1) (c10 .pre .0 .0) (c10 .pre .1 .1)
+    (omega (arith, c5 .read-symbols .kept .1 .1 .1 .0, room, c10 .pre .1 .0)) (c10 .pre .0 .1) (c10 .pre .0 .0) (c10
+    .pre .1 .1)
     (c10 .pre .1 .2) (c10 .pre .1 .3)
 
 pub read-table-spec : {M : Type 1} → statement M

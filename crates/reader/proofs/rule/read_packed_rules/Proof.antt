@@ -20,9 +20,14 @@ abbrev μ-loop : tie.MeasureT-loop
 μ-loop book arities words₀ count at end₀ here₀ number₀ words end here number = count - number
 
 loop-holds : tie.Need-loop-holds Inv-loop μ-loop
-loop-holds c =
-    let a = c .before .before .args in
-    (omega arith, refl, omega arith, c .before .before .pre .1, λ σ k. so-far-none (bitSource (a .book .now)) σ (a .count) (a .at) 0 (a .words .now))
+loop-holds c = let a = c .before .before .args in (
+  omega arith,
+  refl,
+  omega arith,
+  c .before .before .pre .1,
+  λ σ k. so-far-none (bitSource (a .book .now)) σ (a
+      .count) (a .at) 0 (a .words .now),
+)
 
 read-rule-into-requires : tie.Need-read-rule-into-requires Inv-loop μ-loop
 read-rule-into-requires c κs =
@@ -58,7 +63,8 @@ loop-again c =
       omega (arith, within .0),
       within .1,
       λ σ k. so-far-more (bitSource (a .book .now)) σ (a .count) (a .at) 0 (a .words .now) (c8 .loop .number)
-          (c8 .loop .here) (c8 .loop .end) (c8 .loop .words) (omega arith) (v .4 σ k) _ _ (c5 .read-rule-into .last .1 .1 .0)
+          (c8 .loop .here) (c8 .loop .end) (c8 .loop .words) (omega arith) (v .4 σ k) _ _ (c5 .read-rule-into .last .1
+          .1 .0)
           (v .1) (rw (c .before .value .given .1) at (c5 .read-rule-into .ensures .0 σ k)),
     )
 
@@ -69,7 +75,8 @@ returns-2 : tie.Need-returns-2 Inv-loop μ-loop
 returns-2 c =
     let c4 = c .before .before .before .before in
     let a = c4 .args in
-    λ σ k. so-far-done (bitSource (a .book .now)) σ (a .count) (a .at) 0 (a .words .now) (c .before .loop .end) (c .before .loop .here)
+    λ σ k. so-far-done (bitSource (a .book .now)) σ (a .count) (a .at) 0 (a .words .now) (c .before .loop .end) (c
+    .before .loop .here)
     (c .before .loop .words) (c .before .loop .number) (omega arith) (c .before .loop .inv .4 σ k)
 
 pub read-packed-rules-spec : {M : Type 1} → statement M

@@ -40,7 +40,8 @@ returns c σ table =
     let (done, so) = c5 .loop .inv .2 σ table in
     let rule = ruleReader (wordSource (a .sheet .now)) σ (c5 .loop .here) in
     let read = end-fault rule _ _ (sym (c3 .read-word-rule .ensures σ table) ∙ c .before .offset .given .1) in
-    sym (ap endOf (done-fault (wordSource (a .sheet .now)) σ (a .count) (a .at) (c5 .loop .number) (c5 .loop .here) done so
+    sym (ap endOf (done-fault (wordSource (a .sheet .now)) σ (a .count) (a .at) (c5 .loop .number) (c5 .loop .here)
+    done so
     (omega arith) _ _ read))
 
 loop-again : tie.Need-loop-again Inv-loop μ-loop
@@ -53,7 +54,8 @@ loop-again c =
       omega arith,
       omega (
         arith,
-        rule-end (a .sheet .now) τ (c5 .loop .here) _ _ (sym (c3 .read-word-rule .ensures τ cells) ∙ c .before .value .given .1),
+        rule-end (a .sheet .now) τ (c5 .loop .here) _ _ (sym (c3 .read-word-rule .ensures τ cells) ∙ c .before .value
+            .given .1),
       ),
       λ σ table.
           let (done, so) = c5 .loop .inv .2 σ table in
@@ -70,7 +72,8 @@ returns-2 c σ table =
     let c3 = c .before .before .before in
     let a = c3 .args in
     let (done, so) = c .before .loop .inv .2 σ table in
-    sym (ap endOf (done-all (wordSource (a .sheet .now)) σ (a .count) (a .at) (c .before .loop .number) (c .before .loop .here) done so
+    sym (ap endOf (done-all (wordSource (a .sheet .now)) σ (a .count) (a .at) (c .before .loop .number) (c .before
+    .loop .here) done so
     (omega arith)))
 
 pub read-word-rules-spec : {M : Type 1} → statement M

@@ -27,7 +27,8 @@ returns c =
     let c6 = c .before .before .before .before .before .before in
     let a = c6 .args in
     let arity = sym (rw (c .enum-told .given .1) at (c .before .before .field .ensures .0)) in
-    let parts = symbol-parts (sourceOf (a .packed) (a .book .now) (a .sheet .now)) (a .w0) (symbolsAt (a .table .now) 0 (a .number)) (a .at) in
+    let parts = symbol-parts (sourceOf (a .packed) (a .book .now) (a .sheet .now)) (a .w0) (symbolsAt (a .table .now)
+    0 (a .number)) (a .at) in
     (rw (c .enum-told .given .1) (parts ∙ rw arity), c6 .pre .1 .1)
 
 cast-arity : tie.Need-cast-arity
@@ -43,7 +44,8 @@ returns-2 c =
     let a = c10 .args in
     let arity = sym (rw (c4 .arity-read .given .1) at (c6 .field .ensures .0)) in
     let ac = sym (rw (c .enum-told2 .given .1) at (c .before .before .field2 .ensures .0)) in
-    let parts = symbol-parts (sourceOf (a .packed) (a .book .now) (a .sheet .now)) (a .w0) (symbolsAt (a .table .now) 0 (a .number)) (a .at) in
+    let parts = symbol-parts (sourceOf (a .packed) (a .book .now) (a .sheet .now)) (a .w0) (symbolsAt (a .table .now)
+    0 (a .number)) (a .at) in
     (rw (c .enum-told2 .given .1) (parts ∙ rw (arity, ac)), c10 .pre .1 .1)
 
 cast-ac : tie.Need-cast-ac
@@ -61,7 +63,8 @@ returns-3 c =
     let a = c13 .args in
     let arity = sym (rw (c7 .arity-read .given .1) at (c9 .field .ensures .0)) in
     let ac = sym (rw (c3 .ac-read .given .1) at (c5 .field2 .ensures .0)) in
-    let parts = symbol-parts (sourceOf (a .packed) (a .book .now) (a .sheet .now)) (a .w0) (symbolsAt (a .table .now) 0 (a .number)) (a .at) in
+    let parts = symbol-parts (sourceOf (a .packed) (a .book .now) (a .sheet .now)) (a .w0) (symbolsAt (a .table .now)
+    0 (a .number)) (a .at) in
     (parts ∙ rw (arity, ac, sym (c .before .binary-if-ac .ensures) ∙ not-true _ (c .if1 .taken)), c13 .pre .1 .1)
 
 returns-4 : tie.Need-returns-4
@@ -81,7 +84,8 @@ returns-4 c =
     let binary = sym (c6 .binary-if-ac .ensures) ∙ not-false _ (c5 .if1 .left) in
     let least = c3 .wide .ensures .0 ∙ c4 .least-weight .ensures in
     let weight = sym (rw (c .enum-told3 .given .1, least) at (c .before .before .field-at-least .ensures .0)) in
-    let parts = symbol-parts (sourceOf (a .packed) (a .book .now) (a .sheet .now)) (a .w0) (symbolsAt (a .table .now) 0 (a .number)) (a .at) in
+    let parts = symbol-parts (sourceOf (a .packed) (a .book .now) (a .sheet .now)) (a .w0) (symbolsAt (a .table .now)
+    0 (a .number)) (a .at) in
     (rw (c .enum-told3 .given .1) (parts ∙ rw (arity, ac, binary, weight)), c18 .pre .1 .1)
 
 cast-weight : tie.Need-cast-weight
@@ -91,7 +95,8 @@ cast-weight c =
 
 read-rank-requires : tie.Need-read-rank-requires
 read-rank-requires c κs =
-    let c20 = c .before .before .before .before .before .before .before .before .before .before .before .before .before .before .before .before .before .before .before .before in
+    let c20 = c .before .before .before .before .before .before .before .before .before .before .before .before
+    .before .before .before .before .before .before .before .before in
     c20 .pre .0 .0
 
 returns-5 : tie.Need-returns-5
@@ -113,8 +118,10 @@ returns-5 c =
     let binary = sym (c11 .binary-if-ac .ensures) ∙ not-false _ (c10 .if1 .left) in
     let least = c8 .wide .ensures .0 ∙ c9 .least-weight .ensures in
     let weight = sym (rw (c5 .weight-read .given .1, least) at (c7 .field-at-least .ensures .0)) in
-    let rank = sym (rw (c .enum-told4 .given .1) at (c .before .before .read-rank .ensures .0 (symbolsAt (a .table .now) 0 (a .number)) (c23 .pre .1 .0))) in
-    let parts = symbol-parts (sourceOf (a .packed) (a .book .now) (a .sheet .now)) (a .w0) (symbolsAt (a .table .now) 0 (a .number)) (a .at) in
+    let rank = sym (rw (c .enum-told4 .given .1) at (c .before .before .read-rank .ensures .0 (symbolsAt (a .table
+    .now) 0 (a .number)) (c23 .pre .1 .0))) in
+    let parts = symbol-parts (sourceOf (a .packed) (a .book .now) (a .sheet .now)) (a .w0) (symbolsAt (a .table .now)
+    0 (a .number)) (a .at) in
     (rw (c .enum-told4 .given .1) (parts ∙ rw (arity, ac, binary, weight, rank)), c23 .pre .1 .1)
 
 cast-put-symbol : tie.Need-cast-put-symbol
@@ -124,7 +131,8 @@ cast-put-symbol c =
 
 put-symbol-requires : tie.Need-put-symbol-requires
 put-symbol-requires c κs =
-    let c25 = c .before .before .before .before .before .before .before .before .before .before .before .before .before .before .before .before .before .before .before .before .before .before .before .before .before in
+    let c25 = c .before .before .before .before .before .before .before .before .before .before .before .before
+    .before .before .before .before .before .before .before .before .before .before .before .before .before in
     (c25 .pre .0 .1, c25 .pre .0 .2)
 
 element-write-taken : tie.Need-element-write-taken
@@ -168,7 +176,8 @@ returns-6 c =
         s,
         parts ∙ rw (arity, ac, binary, weight, rank),
         c .before .before .put-symbol .ensures,
-        rw (c .before .before .put-symbol .ensures) (taken-put earlier s (a .taken .now) (c28 .pre .1 .1) small (c28 .pre .1 .0)),
+        rw (c .before .before .put-symbol .ensures) (taken-put earlier s (a .taken .now) (c28 .pre .1 .1) small (c28
+            .pre .1 .0)),
       ),
       simp length-set (c28 .pre .1 .1),
     )

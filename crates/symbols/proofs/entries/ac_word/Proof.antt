@@ -1,3 +1,4 @@
+-- The AC mark as a word is 1 or 0.
 use mathlib.Core.Path.{sym, _∙_}
 use borrow.Author.Needs.{needs}
 use Rattle.symbols.proofs.entries.ac_word.Statement.{statement}

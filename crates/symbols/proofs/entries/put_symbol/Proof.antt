@@ -26,9 +26,12 @@ slice-write-table-4 c = simp length-set (omega (arith, c .front .ensures .0))
 
 returns : tie.Need-returns
 unfolding tableWords entryWords
-returns c =
-    let a = c .before .before .args in
-    rw (stored-four (a .table .now) _ _ _ _ (c .front .result) (a .arity) (a .ac) (a .weight) (a .rank) refl refl refl refl, c .front .ensures .0)
+returns c = let a = c .before .before .args in
+    rw (
+      stored-four (a .table .now) _ _ _ _ (c .front .result) (a .arity) (a .ac) (a .weight) (a .rank) refl refl refl
+          refl,
+      c .front .ensures .0,
+    )
     (symbols-put (a .table .now) (a .number) (a .arity) (a .ac) (a .weight) (a .rank) (c .before .before .pre .1))
 
 pub put-symbol-spec : {M : Type 1} → statement M

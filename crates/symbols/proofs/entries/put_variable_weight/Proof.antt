@@ -6,7 +6,8 @@ use Rattle.symbols.proofs.entries.put_variable_weight.Statement.{statem
 use Rattle.symbols.proofs.entries.put_variable_weight.Tie as tie
 
 returns : tie.Need-returns
-returns c = (getD-set-same (c .args .table .now) 0 (c .args .w0) 0 (c .pre), symbols-kept (c .args .table .now) (c .args .w0))
+returns c =
+    (getD-set-same (c .args .table .now) 0 (c .args .w0) 0 (c .pre), symbols-kept (c .args .table .now) (c .args .w0))
 
 pub put-variable-weight-spec : {M : Type 1} → statement M
 put-variable-weight-spec = tie.close (tie.spec (λ c. search needs) (λ c. search needs) returns)

@@ -1,3 +1,4 @@
+-- A store past the end leaves the words as they are.
 use mathlib.Core.Path.{sym}
 use lib.Seq.{set-out}
 use borrow.Author.Needs.{needs}

@@ -15,9 +15,12 @@ returns c =
     let c18 = c17 .before in
     let c22 = c18 .before .before .before .before in
     rw (c18 .arity .ensures .0, c13 .ac-word .ensures, c8 .weight .ensures .0, c3 .precedence .ensures)
-    at (stored-four (c22 .args .words .now) (c17 .put-word .last .0) (c12 .put-word2 .last .0) (c7 .put-word3 .last .0)
-    (c .before .before .put-word4 .last .0) (c22 .args .index) (c18 .arity .result) (c13 .ac-word .result) (c8 .weight .result)
-    (c3 .precedence .result) (c17 .put-word .ensures) (c12 .put-word2 .ensures) (c7 .put-word3 .ensures) (c .before .before .put-word4 .ensures))
+    at (stored-four (c22 .args .words .now) (c17 .put-word .last .0) (c12 .put-word2 .last .0) (c7 .put-word3 .last
+    .0)
+    (c .before .before .put-word4 .last .0) (c22 .args .index) (c18 .arity .result) (c13 .ac-word .result) (c8 .weight
+    .result)
+    (c3 .precedence .result) (c17 .put-word .ensures) (c12 .put-word2 .ensures) (c7 .put-word3 .ensures) (c .before
+    .before .put-word4 .ensures))
 
 pub write-symbol-spec : {M : Type 1} → statement M
 write-symbol-spec =

@@ -1,3 +1,4 @@
+-- Three bytes at most are whole among the bits that wait, and the rest is padded.
 use native.Mathlib.Omega.{arith}
 use Rattle.writer.specs.Writer.{shifted}
 use Rattle.writer.proofs.WriterLaws.{shifted-facts, writes-shifted}

@@ -1,3 +1,4 @@
+-- The bits that wait, with zeros after them, are the last byte; where none waits all is stored.
 use native.Mathlib.Omega.{arith}
 use Rattle.writer.proofs.WriterLaws.{padded-lt, writes-last, writes-whole}
 use borrow.Author.Needs.{needs}

@@ -1,3 +1,4 @@
+-- A value behind the bits that wait is a number of their widths together.
 use native.Mathlib.Omega.{arith}
 use Rattle.writer.proofs.WriterLaws.{push-fits}
 use borrow.Author.Needs.{needs}

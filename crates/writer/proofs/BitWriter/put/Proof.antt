@@ -1,3 +1,4 @@
+-- A value is pushed behind the bits that wait, and four bytes are stored where there are as many.
 use native.Mathlib.Omega.{arith}
 use Rattle.writer.proofs.WriterLaws.{pushed-lt, below-48, writes-push}
 use borrow.Author.Needs.{needs}

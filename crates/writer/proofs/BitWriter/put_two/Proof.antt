@@ -1,3 +1,4 @@
+-- Two values are pushed one after the other, and four bytes are stored where there are as many.
 use native.Mathlib.Omega.{arith}
 use Rattle.writer.specs.Writer.{pushed}
 use Rattle.writer.proofs.WriterLaws.{pushed-lt, below-48, writes-push}

@@ -1,3 +1,4 @@
+-- The first eight bits that wait are a byte, and the others go on waiting.
 use mathlib.Core.Path.{refl}
 use borrow.Author.Tests.{lt-ltb, le-ltb}
 use Rattle.writer.proofs.WriterLaws.{byte-lt}

@@ -1,3 +1,4 @@
+-- The first 32 bits that wait are four bytes, and the others go on waiting.
 use native.Mathlib.Omega.{arith}
 use Rattle.writer.proofs.WriterLaws.{word-lt, writes-four}
 use borrow.Author.Needs.{needs}

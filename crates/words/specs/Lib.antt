@@ -1,1 +1,0 @@
--- What words stand for is the format's.

@@ -4,7 +4,7 @@
 use mathlib.Core.List.{List}
 use mathlib.Core.Path.{_≡_, refl, sym, _∙_}
 use mathlib.Core.Bool.{Bool, true, false}
-use Prim.Native.Nat.{ℕ, _*_, _<_}
+use Prim.Native.Nat.{ℕ, _*_, _≤_, _<_}
 use native.Mathlib.Omega.{arith}
 use native.Mathlib.Nat.{div-le-self}
 use lib.ListN.{length, length-map}
@@ -13,7 +13,6 @@ use borrow.Author.Tests.{leb-true}
 use Rattle.multisets.proofs.MultisetMaps.{choose-length}
 use Rattle.multisets.proofs.Relations.{byTest}
 use Rattle.terms.specs.Signature.{Signature}
-use Rattle.terms.specs.Words.{termOf}
 use Rattle.format.specs.Errors.{wordsTooShort, bytesTooShort, fileTooLong, marksTooShort}
 use Rattle.format.specs.Layout.{maxBytes}
 use Rattle.format.specs.Reading.{Reading}
@@ -29,7 +28,8 @@ use Rattle.format.specs.Statements.IsRead.{fromBytes}
 use Rattle.operations.specs.Coding.{write, decoded, encoded}
 use Rattle.ackbo.specs.Numbers.{Small, numberOf, countOf}
 use Rattle.format.proofs.Theorems.{readable-well-formed, faults-within}
-use Rattle.operations.specs.Comparing.{comparison, comparedRight, comparedTerms, compared}
+use Rattle.operations.specs.Inputs.{TermReader, Inputs, readTerms, readInputs}
+use Rattle.operations.specs.Comparing.{comparison, compared}
 use Rattle.operations.specs.Marking.{summaryOf, marksOf, isDecreasing, decreasingCount, marked}
 use Rattle.marking.proofs.MarkLaws.{fault-small}
 
@@ -93,19 +93,32 @@ encoded-small words bytes h g =
     λ file end e. demand-small count (leb (length (packed file)) maxBytes) fileTooLong 0 (last file)
     λ t. write-small bytesTooShort (packed file) bytes g)
 
-term-small : (σ : Signature) (words : List ℕ) → Small (length words) → (code offset : ℕ) →
-    readTerm σ words ≡ fault code offset → Small offset
-term-small σ words h code offset e = omega (arith, faults-within words code offset .2 σ e)
+-- What is replied of two terms that were read, by a reader whose faults lie within the words.
+inputs-small : {A : Type 0} (m : A → ℕ) (reader : TermReader) (answer : Inputs → A) (bytes left right : List ℕ) →
+    ((σ : Signature) (words : List ℕ) (code offset : ℕ) → reader σ words ≡ fault code offset → offset ≤ length words) →
+    Small (length left) → Small (length right) →
+    ((i : Inputs) → readInputs reader bytes left right ≡ accepted i → Small (m (answer i))) →
+    Small (numberOf m (_>>=_ (readInputs reader bytes left right) λ i. accepted (answer i)))
+unfolding readInputs readTerms
+inputs-small m reader answer bytes left right within h g k =
+    go (readInputs reader bytes left right) k
+    (read-small nought 0 (readBytes bytes) (λ file. readTerms reader (file .signature) left right) (book-small bytes)
+    λ file end e. let σ = file .signature in
+    read-small nought 1 (reader σ left) _ (λ code offset e. omega (arith, within σ left code offset e))
+    λ s end e. read-small nought 2 (reader σ right) _ (λ code offset e. omega (arith, within σ right code offset e))
+    λ t end e. omega arith)
+  where
+    go : (r : Reply Inputs) → ((i : Inputs) → r ≡ accepted i → Small (m (answer i))) → Small (numberOf nought r) →
+        Small (numberOf m (_>>=_ r λ i. accepted (answer i)))
+    go (accepted i) k n = k i refl
+    go (refused e) k n = n
 
 pub compared-small : (bytes left right : List ℕ) → Small (length left) → Small (length right) →
     Small (numberOf nought (compared bytes left right))
-unfolding compared comparedTerms comparedRight
+unfolding compared
 compared-small bytes left right h g =
-    read-small nought 0 (readBytes bytes) (λ file. comparedTerms (file .signature) left right) (book-small bytes)
-    λ file end e. let σ = file .signature in
-    read-small nought 1 (readTerm σ left) (λ s. comparedRight σ (termOf σ s) right) (term-small σ left h)
-    λ s end e. read-small nought 2 (readTerm σ right) (λ t. accepted (comparison σ (termOf σ s) (termOf σ t)))
-    (term-small σ right g) λ t end e. omega arith
+    inputs-small nought readTerm (λ i. comparison (i .signature) (i .left) (i .right)) bytes left right
+    (λ σ words code offset. faults-within words code offset .2 σ) h g λ i e. omega arith
 
 -- A number of the summary is small if it is for every file of at most 1,023 rules.
 pub marked-small : (bytes marks : List ℕ) (m : Summary → ℕ) →

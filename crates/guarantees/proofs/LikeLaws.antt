@@ -1,6 +1,8 @@
--- Comparing does not tell like inputs apart.
+-- Operations on terms do not tell like inputs apart.
 --     like-reads          like inputs read alike: to AC-equivalent terms, or to the same fault
 --     comparison-like     AC-equivalent terms compare alike
+--     terms-like          two like terms read alike under one signature
+--     replies-agree       what does not tell AC-equivalent terms apart replies the same
 use mathlib.Core.List.{List}
 use mathlib.Core.Logic.{_↔_}
 use mathlib.Core.Path.{_≡_, refl, ap}
@@ -22,18 +24,14 @@ use Rattle.format.specs.Reading.{Reading}
 use Rattle.format.specs.Reading.Reading.{got, fault}
 use Rattle.format.specs.Files.{readTerm}
 use Rattle.operations.specs.Replies.{Reply, _>>=_, fromInput}
-use Rattle.operations.specs.Replies.Reply.{accepted}
+use Rattle.operations.specs.Replies.Reply.{accepted, refused}
 use Rattle.format.specs.Statements.{IsTerm}
 use Rattle.format.proofs.Theorems.{read-term-well-formed, well-formed-reads}
-use Rattle.operations.specs.declared.Comparison.{Comparison}
+use Rattle.operations.specs.declared.Error.{Error}
+use Rattle.operations.specs.Inputs.{Inputs, readTerms}
 use Rattle.operations.specs.Comparing.{relation, comparison}
 use Rattle.guarantees.specs.Guarantees.{Like}
 use Rattle.guarantees.specs.Guarantees.Like.{sameWords, equalTerms}
-
--- What comparing makes of the readings of its two terms.
-abbrev pub compares : Signature → Reading (List ℕ) → Reading (List ℕ) → Reply Comparison
-compares σ r q =
-    _>>=_ (fromInput 1 r) λ s. _>>=_ (fromInput 2 q) λ t. accepted (comparison σ (termOf σ s) (termOf σ t))
 
 module _ (σ : Signature) (A : Admissible σ) where
   -- Both give well-formed terms that are AC-equivalent, or the same fault.
@@ -85,10 +83,42 @@ module _ (σ : Signature) (A : Admissible σ) where
           measures-respect-equivalence σ t t' e .weight,
         )
 
-  pub compared-like : {r r' q q' : Reading (List ℕ)} → Alike r r' → Alike q q' →
-      compares σ r q ≡ compares σ r' q'
-  compared-like (terms {ws} {vs} v v' d) (terms {ws = us} {vs = xs} w w' e) =
-      ap accepted (comparison-like (termOf σ ws) (termOf σ vs) (termOf σ us) (termOf σ xs) v v' w w' d e)
-  compared-like (terms v v' d) faults = refl
-  compared-like faults (terms w w' e) = refl
-  compared-like faults faults = refl
+-- ---- operations on two terms
+
+-- AC-equivalent terms under one signature, or the same refusal.
+pub data AlikeInputs : Reply Inputs → Reply Inputs → Type 0 where
+  alike : {σ : Signature} {s s' t t' : Term} → Admissible σ → WellFormed σ s → WellFormed σ s' → WellFormed σ t →
+      WellFormed σ t' → Equivalent σ s s' → Equivalent σ t t' →
+      AlikeInputs (accepted (record { signature = σ; left = s; right = t }))
+      (accepted (record { signature = σ; left = s'; right = t' }))
+  refusals : {e : Error} → AlikeInputs (refused e) (refused e)
+
+-- What an operation makes of the readings of its two terms.
+abbrev fromReadings : Signature → Reading (List ℕ) → Reading (List ℕ) → Reply Inputs
+fromReadings σ r q =
+    _>>=_ (fromInput 1 r) λ s. _>>=_ (fromInput 2 q) λ t.
+    accepted (record { signature = σ; left = termOf σ s; right = termOf σ t })
+
+readings-alike : (σ : Signature) (A : Admissible σ) → {r r' q q' : Reading (List ℕ)} → Alike σ A r r' →
+    Alike σ A q q' → AlikeInputs (fromReadings σ r q) (fromReadings σ r' q')
+readings-alike σ A (terms v v' d) (terms w w' e) = alike A v v' w w' d e
+readings-alike σ A (terms v v' d) faults = refusals
+readings-alike σ A faults (terms w w' e) = refusals
+readings-alike σ A faults faults = refusals
+
+pub terms-like : (σ : Signature) (A : Admissible σ) → length (σ .symbols) ≤ firstVariable →
+    (left left' right right' : List ℕ) → Like σ left left' → Like σ right right' →
+    AlikeInputs (readTerms readTerm σ left right) (readTerms readTerm σ left' right')
+unfolding readTerms
+terms-like σ A few left left' right right' p q =
+    readings-alike σ A (like-reads σ A few p) (like-reads σ A few q)
+
+-- An operation that does not tell AC-equivalent terms apart replies the same.
+pub replies-agree : {A : Type 0} (answer : Inputs → A) → ((σ : Signature) → Admissible σ → (s s' t t' : Term) →
+    WellFormed σ s → WellFormed σ s' → WellFormed σ t → WellFormed σ t' → Equivalent σ s s' → Equivalent σ t t' →
+    answer (record { signature = σ; left = s; right = t }) ≡ answer (record { signature = σ; left = s'; right = t' })) →
+    {r r' : Reply Inputs} → AlikeInputs r r' →
+    (_>>=_ r λ (i : Inputs). accepted (answer i)) ≡ (_>>=_ r' λ (i : Inputs). accepted (answer i))
+replies-agree answer agrees (alike {σ} {s} {s'} {t} {t'} A v v' w w' d e) =
+    ap accepted (agrees σ A s s' t t' v v' w w' d e)
+replies-agree answer agrees refusals = refl

@@ -22,13 +22,14 @@ use Rattle.format.specs.Statements.{IsRead}
 use Rattle.format.specs.Statements.IsRead.{fromBytes}
 use Rattle.format.proofs.Theorems.{readable-well-formed}
 use Rattle.operations.specs.Marking.{marksOf, isDecreasing, summaryOf}
-use Rattle.operations.specs.Comparing.{comparedRight, comparedTerms, compared}
+use Rattle.operations.specs.Inputs.{readTerms, readInputs}
+use Rattle.operations.specs.Comparing.{comparison, compared}
 use Rattle.guarantees.specs.Guarantees.{Holds, ReadableOrder, FilesDescend, FilesBounded, CountedAll, CountTells}
 use Rattle.guarantees.specs.Guarantees.{Like, LikeComparisonsAgree, MarksExact, FallingCounted}
 use Rattle.guarantees.proofs.MarkedLaws.{test-of-marks, marks-of-test, all-decreasing, marks-accepted}
 use Rattle.guarantees.proofs.MarkedLaws.{counted-all, mark-written, falling-counted}
 use Rattle.guarantees.proofs.MarkedLaws.{length-rules, getD-member}
-use Rattle.guarantees.proofs.LikeLaws.{compares, like-reads, compared-like}
+use Rattle.guarantees.proofs.LikeLaws.{AlikeInputs, refusals, comparison-like, terms-like, replies-agree}
 use Rattle.guarantees.specs.RoundTrips.{DecodeThenEncode, EncodeThenDecode}
 use Rattle.guarantees.proofs.RoundTrip.{decode-encode, encode-decode}
 
@@ -86,30 +87,28 @@ count-tells bytes file h = (
 
 -- ---- like comparisons
 
--- What comparing gives, by what its bytes read as.
-compared-reads : (bytes left right : List ℕ) (r : Reading RuleFile) → readBytes bytes ≡ r → compared bytes left right ≡
-    (_>>=_ (fromInput 0 r) λ f. compares (f .signature) (readTerm (f .signature) left) (readTerm (f .signature) right))
-unfolding compared comparedTerms comparedRight
-compared-reads bytes left right r e = rw e
-
+-- Like inputs: lent the same bytes, and like terms where these are a readable book.
 module _ (bytes left left' right right' : List ℕ)
     (h : (file : RuleFile) → Holds bytes file → Like (file .signature) left left' × Like (file .signature) right right')
   where
-    like-reading : (r : Reading RuleFile) → readBytes bytes ≡ r →
-        compared bytes left right ≡ compared bytes left' right'
-    like-reading (fault code offset) e =
-        compared-reads bytes left right _ e ∙ sym (compared-reads bytes left' right' _ e)
-    like-reading (got file at) e =
-        let A = admissible bytes file (at, e) in
-        let f = few bytes file (at, e) in
-        let (p, q) = h file (at, e) in
-        compared-reads bytes left right _ e
-        ∙ compared-like (file .signature) A (like-reads (file .signature) A f p) (like-reads (file .signature) A f q)
-        ∙ sym (compared-reads bytes left' right' _ e)
+    like-inputs : AlikeInputs (readInputs readTerm bytes left right) (readInputs readTerm bytes left' right')
+    unfolding readInputs
+    like-inputs = go (readBytes bytes) refl
+      where
+        go : (r : Reading RuleFile) → readBytes bytes ≡ r →
+            AlikeInputs (_>>=_ (fromInput 0 r) λ f. readTerms readTerm (f .signature) left right)
+            (_>>=_ (fromInput 0 r) λ f. readTerms readTerm (f .signature) left' right')
+        go (fault code offset) e = refusals
+        go (got file at) e =
+            let (p, q) = h file (at, e) in
+            terms-like (file .signature) (admissible bytes file (at, e)) (few bytes file (at, e)) left left' right right'
+            p q
 
 pub like-comparisons-agree : LikeComparisonsAgree
+unfolding compared
 like-comparisons-agree bytes left left' right right' h =
-    like-reading bytes left left' right right' h (readBytes bytes) refl
+    replies-agree (λ i. comparison (i .signature) (i .left) (i .right)) comparison-like
+    (like-inputs bytes left left' right right' h)
 
 -- ---- marks
 

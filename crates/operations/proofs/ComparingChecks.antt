@@ -19,7 +19,8 @@ use Rattle.operations.specs.Replies.Reply.{accepted, refused}
 use Rattle.operations.specs.declared.Relation.{Relation}
 use Rattle.operations.specs.declared.Relation.the-variants.{Greater, Less, Equivalent, Unrelated}
 use Rattle.operations.specs.declared.Comparison.{Comparison}
-use Rattle.operations.specs.Comparing.{relation, comparedRight, comparedTerms, compared}
+use Rattle.operations.specs.Inputs.{readTerms, readInputs}
+use Rattle.operations.specs.Comparing.{relation, compared}
 
 -- Form 1, two symbols, w0 1, no rules; the symbols weigh 1 and have the ranks 1 and 0.
 abbrev book : List ℕ
@@ -58,12 +59,12 @@ cases =
     []
 
 cases-hold : map (λ (c : Case). compared book (c .left) (c .right)) cases ≡ map (λ (c : Case). c .reply) cases
-unfolding compared comparedTerms comparedRight relation readBytes readTerm wholeReader fileReader bodyReader
+unfolding compared readInputs readTerms relation readBytes readTerm wholeReader fileReader bodyReader
     symbolsReader symbolReader rulesReader ruleReader forestReader bitField wordBelow forestOf isGreater isGreaterTo
     decreasingMark rootMark flattenedMark noneOftener isEquivalent isEquivalentTo rowEqual rowGreater multisetEqual
     multisetGreater
 cases-hold = refl
 
 faulty-book : compared (0x20 ∷ []) [] [] ≡ refused (record { code = 3; input = 0; offset = 0 })
-unfolding compared readBytes wholeReader fileReader bitField
+unfolding compared readInputs readBytes wholeReader fileReader bitField
 faulty-book = refl

@@ -4,10 +4,10 @@
 --     terms-node                              a node, then the terms owed after it
 --     terms-end                               the words read are no more than the nodes allowed
 --     forest-front                            the nodes read are words in a row
---     whole-fault, whole-read, whole-longer   a term that all the words make up
+--     front-fault, front-whole, front-read, front-longer   the term at the front
 use mathlib.Core.List.{List, _∷_}
 use mathlib.Core.Path.{_≡_, refl, sym, ap, _∙_}
-use mathlib.Core.Bool.{cond, _||_}
+use mathlib.Core.Bool.{Bool, true, false, cond, _||_}
 use Prim.Native.Nat.{ℕ, suc, zero, _+_, _-_, _*_, _/_, _%_, _≤_, _<_}
 use native.Mathlib.Numerals.{add-one}
 use native.Mathlib.Omega.{arith}
@@ -23,7 +23,7 @@ use Rattle.format.specs.Layout.{maxNodes}
 use Rattle.format.specs.Reading.{Reading, Node, wordSource, wordBelow}
 use Rattle.format.specs.Reading.Reading.{got, fault}
 use Rattle.format.specs.Format.{forestReader}
-use Rattle.format.specs.Files.{readTerm}
+use Rattle.format.specs.Files.{readFirstTerm, readTerm}
 use Rattle.format.proofs.ForestLaws.{before, nothing-owed, none-allowed, node-fault}
 use Rattle.format.proofs.SideLaws.{forest-short}
 use Rattle.symbols.specs.Arities.{Arities}
@@ -31,6 +31,7 @@ use Rattle.answers.specs.declared.Answer.{Answer}
 use Rattle.answers.specs.declared.Answer.the-variants.{Got, Fault}
 use Rattle.answers.specs.Answer.{endOf}
 use Rattle.answers.proofs.CellLaws.{node-read, node-unknown}
+use Rattle.words.specs.Terms.{readerOf}
 
 -- ---- reading terms node by node
 
@@ -129,37 +130,39 @@ module _ (words : List ℕ) (σ : Signature) where
           rw (← q) (omega (arith, forest-short (wordSource words) σ a n at xs next e))
       go (fault code offset) e f p = let z : _≡_ {A = ℕ} 0 1 = cc in absurd (omega arith)
 
-  -- ---- a term that all the words make up
+  -- ---- the term at the front
 
   abbrev first : Reading (List ℕ)
   first = forestReader (wordSource words) σ maxNodes 1 0
 
-  pub whole-fault : (code offset : ℕ) → endOf first ≡ Fault offset code →
-      fault code offset ≡ readTerm σ words
-  unfolding readTerm
-  whole-fault code offset p = go first refl p
+  pub front-fault : (whole : Bool) (code offset : ℕ) → endOf first ≡ Fault offset code →
+      Fault offset code ≡ endOf (readerOf whole σ words)
+  unfolding readFirstTerm readTerm
+  front-fault whole code offset p = go whole first refl p
     where
-      go : (r : Reading (List ℕ)) → first ≡ r → endOf r ≡ Fault offset code →
-          fault code offset ≡ readTerm σ words
-      go (got xs next) e p = let z : _≡_ {A = ℕ} 0 1 = cc in absurd (omega arith)
-      go (fault k o) e p = rw e (cc)
+      go : (whole : Bool) (r : Reading (List ℕ)) → first ≡ r → endOf r ≡ Fault offset code →
+          Fault offset code ≡ endOf (readerOf whole σ words)
+      go whole (got xs next) e p = let z : _≡_ {A = ℕ} 0 1 = cc in absurd (omega arith)
+      go true (fault k o) e p = rw e (sym p)
+      go false (fault k o) e p = rw e (sym p)
 
   module _ (value end : ℕ) (p : endOf first ≡ Got value end) where
-    first-read : first ≡ got (take (end) words) (end)
-    first-read = go first refl (forest-front maxNodes 1 0) p
+    pub front-read : Got value end ≡ endOf (readFirstTerm σ words)
+    unfolding readFirstTerm
+    front-read = sym p
+
+    first-ends : (xs : List ℕ) × (first ≡ got xs end) × (value ≡ 0)
+    first-ends = go first refl p
       where
-        go : (r : Reading (List ℕ)) → first ≡ r → Front words 0 r → endOf r ≡ Got value end →
-            r ≡ got (take (end) words) (end)
-        go (got xs next) e (f, g, l) p =
-            let q : next ≡ end = cc in
-            let n : next ≡ length xs = omega arith in
-            rw (← q, n) (ap (λ (ys : List ℕ). got ys (length xs)) f)
-        go (fault code offset) e f p = let z : _≡_ {A = ℕ} 0 1 = cc in absurd (omega arith)
+        go : (r : Reading (List ℕ)) → first ≡ r → endOf r ≡ Got value end →
+            (xs : List ℕ) × (r ≡ got xs end) × (value ≡ 0)
+        go (got xs next) e p = (xs, cc, cc)
+        go (fault code offset) e p = let z : _≡_ {A = ℕ} 0 1 = cc in absurd (omega arith)
 
-    pub whole-read : end ≡ length words → got (take (end) words) (end) ≡ readTerm σ words
+    pub front-whole : end ≡ length words → Got value end ≡ endOf (readTerm σ words)
     unfolding readTerm
-    whole-read e = rw (first-read, eq-eqb (end) (length words) e)
+    front-whole e = let (xs, f, z) = first-ends in rw (f, eq-eqb end (length words) e, z)
 
-    pub whole-longer : ¬ (end ≡ length words) → fault wordsLeftOver (end) ≡ readTerm σ words
+    pub front-longer : ¬ (end ≡ length words) → Fault end wordsLeftOver ≡ endOf (readTerm σ words)
     unfolding readTerm
-    whole-longer e = rw (first-read, ne-eqb (end) (length words) e)
+    front-longer e = let (xs, f, z) = first-ends in rw (f, ne-eqb end (length words) e)

@@ -1,14 +1,13 @@
-// Reading from words: a field, a term, and the term that all the words make up.
+// Reading from words: a field, and the term at an offset or at the front.
 ghost use mathlib.Core.Path.{_≡_};
 ghost use Prim.Native.Nat.{ℕ, _+_, _*_, _^_, _≤_};
-ghost use lib.ListN.{take};
 ghost use Rattle.terms.specs.Signature.{Signature};
 ghost use Rattle.format.specs.Layout.{maxNodes};
 ghost use Rattle.format.specs.Reading.{wordBelow, wordSource};
 ghost use Rattle.format.specs.Format.{forestReader};
-ghost use Rattle.format.specs.Files.{readTerm};
 ghost use Rattle.symbols.specs.Arities.{Arities};
 ghost use Rattle.answers.specs.Answer.{readingOf, Fits, answerOf, endOf};
+ghost use Rattle.words.specs.Terms.{readerOf};
 use answers::Answer;
 use answers::pack_fault;
 use answers::pack_value;
@@ -91,24 +90,24 @@ pub fn term(arities: &[u32; NODE_WORDS], words: &[u16], at: usize) -> Answer
     unpack(terms(&words, arities, at, MAX_NODES, 1))
 }
 
-// Reads the term that all the words make up; the value is how many words there are.
-pub fn whole_term(arities: &[u32; NODE_WORDS], words: &[u16]) -> Answer
+// Reads the term at the front of the words, which is to be all of them where that is asked, and gives its end.
+pub fn front_term(arities: &[u32; NODE_WORDS], words: &[u16], whole: bool) -> Answer
     ensures { λ r. ⌜
-        ((σ : Signature) → Arities σ (now (arities .entry)) →
-        readingOf (λ (n : ℕ). take n (now (words .entry))) r ≡ readTerm σ (now (words .entry)))
+        ((σ : Signature) → Arities σ (now (arities .entry)) → r ≡ endOf (readerOf whole σ (now (words .entry))))
         ⌝ }
 {
     match term(arities, words, 0) {
         Answer::Fault { code, offset } => Answer::Fault { code, offset },
         Answer::Got { value, next } => {
-            if next == words.len() {
-                Answer::Got { value: next, next }
-            } else {
-                Answer::Fault {
-                    code: WORDS_LEFT_OVER,
-                    offset: next,
+            if whole {
+                if next != words.len() {
+                    return Answer::Fault {
+                        code: WORDS_LEFT_OVER,
+                        offset: next,
+                    };
                 }
             }
+            Answer::Got { value, next }
         }
     }
 }

@@ -1,0 +1,2 @@
+-- Laws of reading an operation's inputs.
+pub mod InputLaws

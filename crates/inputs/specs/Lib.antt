@@ -1,0 +1,2 @@
+-- What the code that reads an operation's inputs says.
+pub mod Inputs

@@ -1,0 +1,81 @@
+// Reading the inputs of an operation on a rule file and two terms.
+ghost use Prim.Native.Nat.{_≤_};
+ghost use mathlib.Core.Path.{_≡_};
+ghost use lib.ListN.{length};
+ghost use Rattle.operations.specs.Inputs.{readTerms, readInputs};
+ghost use Rattle.symbols.specs.Table.{signatureOf, maxTableWords};
+ghost use Rattle.words.specs.Terms.{readerOf};
+ghost use Rattle.inputs.specs.Inputs.{TermsRead, InputsRead};
+use answers::Answer;
+use operations::Error;
+use reader::File;
+use reader::read_file;
+use words::front_term;
+
+// How many words of the table are its front, and how many words the terms have; or the error.
+pub enum Ends {
+    Read {
+        front: usize,
+        left: usize,
+        right: usize,
+    },
+    Refused(Error),
+}
+
+// Reads the left term and then the right one under a symbol table, each to be all of its words where that is asked.
+fn read_terms(table: &[u16], left: &[u16], right: &[u16], whole: bool) -> Ends
+    requires { ⌜ length (now table) ≤ maxTableWords ⌝ }
+    ensures { λ r. ⌜
+        TermsRead (signatureOf (now (table .entry))) (length (now (table .entry))) (now (left .entry))
+        (now (right .entry))
+        (readTerms (readerOf whole) (signatureOf (now (table .entry))) (now (left .entry)) (now (right .entry))) r
+        ⌝ }
+{
+    let arities = symbols::arities(table);
+    match front_term(&arities, left, whole) {
+        Answer::Fault { code, offset } => Ends::Refused(Error {
+            code,
+            input: 1,
+            offset,
+        }),
+        Answer::Got { value: _, next: l } => match front_term(&arities, right, whole) {
+            Answer::Fault { code, offset } => Ends::Refused(Error {
+                code,
+                input: 2,
+                offset,
+            }),
+            Answer::Got { value: _, next: r } => Ends::Read {
+                front: table.len(),
+                left: l,
+                right: r,
+            },
+        },
+    }
+}
+
+// Reads a packed rule file, its symbols into the table, and then the terms.
+pub fn read_inputs(book: &[u8], left: &[u16], right: &[u16], whole: bool, table: &mut [u16]) -> Ends
+    requires { ⌜ maxTableWords ≡ length (now table) ⌝ }
+    ensures { λ r. ⌜
+        InputsRead (now (table .exit)) (now (left .entry)) (now (right .entry))
+        (readInputs (readerOf whole) (now (book .entry)) (now (left .entry)) (now (right .entry))) r
+        ⌝ }
+{
+    let mut none = [0u16; 0];
+    match read_file(book, &[0u16; 0], true, table, &mut none) {
+        File::Fault { code, offset } => Ends::Refused(Error {
+            code,
+            input: 0,
+            offset,
+        }),
+        File::Read {
+            symbols,
+            rules: _,
+            nodes: _,
+            start: _,
+        } => {
+            let front = symbols::front(symbols);
+            read_terms(&table[..front], left, right, whole)
+        }
+    }
+}

@@ -1,0 +1,2 @@
+-- What the code that reads from words says.
+pub mod Terms

@@ -1,13 +1,24 @@
-/* The four operations of libackbo.a, for C. Each is proved, for every input, to reply and to leave the lent memory as
-   its definition says (crates/operations/specs: Boundary, over Coding, Comparing and Marking).
+/* The five operations of libackbo.a, for C. Each is proved, for every input, to reply and to leave the lent memory as
+   its definition says (crates/operations/specs: Boundary, over Coding, Comparing, Picking and Marking).
 
    The caller owes this, and nothing else: each pointer is valid for its length, aligned, and not NULL even where the
    length is 0; reply has room for three numbers; what is written to overlaps nothing else that is lent.
 
    The result is 0, or the number of the refusal, 1 to 16. Of a refusal reply holds the input at fault (0 the first), the
-   place (a bit of a book, a word of a sheet or a term, from 0), and 0. A refused call changes no other buffer.
+   place (a bit of a book, a word of a sheet or a term, from 0), and 0. A refused call changes no other buffer. The
+   first fault in reading order is given, one input after another.
 
-   Stack, as measured: ackbo_decode 110 KB for every book, ackbo_encode 5 KB, ackbo_compare and ackbo_mark up to 72 KB,
+   A book, input 0 but in ackbo_encode, is refused with 1 over 32,768 bytes, 2 a field does not fit, 3 its form is not
+   1, 4 it has no symbol, 5 w0 is 0, 6 an AC symbol's arity is not 2, 7 a weight is inadmissible, 8 an earlier symbol
+   has the rank, 9 a symbol number is too great, 10 a 129th node is called for, 11 more than padding follows the last
+   rule. A term is refused, at the word of a node, with 10 a 129th node is called for, 2 the word is missing, 14 it is
+   above 271, 9 it is a symbol number too great for the book; or, at the first word after the term, 15 words are left
+   over.
+
+   Each call reads its whole book, which takes about 0.1 ms for the longest (docs/BENCHMARKS.md has times), and keeps
+   nothing for the next one.
+
+   Stack, as measured: ackbo_decode 110 KB for every book, ackbo_encode 5 KB, ackbo_compare, ackbo_pick and ackbo_mark up to 72 KB,
    where AC symbols nest 63 deep. */
 #ifndef ACKBO_H
 #define ACKBO_H
@@ -22,6 +33,9 @@ extern "C" {
 /* The relations that ackbo_compare replies. */
 enum { ACKBO_GREATER = 1, ACKBO_LESS = 2, ACKBO_EQUIVALENT = 3, ACKBO_UNRELATED = 4 };
 
+/* The sides that ackbo_pick replies, beside ACKBO_EQUIVALENT and ACKBO_UNRELATED. */
+enum { ACKBO_LEFT = 1, ACKBO_RIGHT = 2 };
+
 /* Opens a book to a sheet: writes its words at the front of words. reply: how many, 0, 0. */
 uint8_t ackbo_decode(const uint8_t *book, size_t book_len, uint16_t *words, size_t words_len, int64_t reply[3]);
 
@@ -31,6 +45,14 @@ uint8_t ackbo_encode(const uint16_t *words, size_t words_len, uint8_t *book, siz
 /* Compares two terms under a book. reply: the relation, the weight of the left less that of the right, 0. */
 uint8_t ackbo_compare(const uint8_t *book, size_t book_len, const uint16_t *left, size_t left_len,
                       const uint16_t *right, size_t right_len, int64_t reply[3]);
+
+/* Picks the greater of two terms under a book, each at the front of its words; what follows a term is never looked
+   at. reply: ACKBO_LEFT or ACKBO_RIGHT, and how many words the greater term has, the first ones of left or of right;
+   or, if neither is greater, ACKBO_EQUIVALENT or ACKBO_UNRELATED, and 0; then 0. The part that is picked is the left
+   side of a rule that falls, the other term the right one. Refused are the book, left (input 1) and right (input 2),
+   never with 15. A call costs what ackbo_compare costs of the two terms. */
+uint8_t ackbo_pick(const uint8_t *book, size_t book_len, const uint16_t *left, size_t left_len,
+                   const uint16_t *right, size_t right_len, int64_t reply[3]);
 
 /* Marks the rules of a book: writes a mark, 1 to 10, for each. reply: the rules, those that fall, the score. */
 uint8_t ackbo_mark(const uint8_t *book, size_t book_len, uint8_t *marks, size_t marks_len, int64_t reply[3]);

@@ -1,5 +1,5 @@
 -- The numbers of every reply are below 2^63, so that they fit the values that cross the boundary.
---     decoded-small, encoded-small, compared-small     of an answer's count, and of an error's offset
+--     decoded-small, encoded-small, compared-small, picked-small     of an answer's count, and of an error's offset
 --     marked-small                                     of the counts and the score, and of an error's offset
 use mathlib.Core.List.{List}
 use mathlib.Core.Path.{_≡_, refl, sym, _∙_}
@@ -18,7 +18,7 @@ use Rattle.format.specs.Layout.{maxBytes}
 use Rattle.format.specs.Reading.{Reading}
 use Rattle.format.specs.Reading.Reading.{got, fault}
 use Rattle.format.specs.Format.{RuleFile, systemOf}
-use Rattle.format.specs.Files.{readBytes, readWords, readTerm}
+use Rattle.format.specs.Files.{readBytes, readWords, readFirstTerm, readTerm}
 use Rattle.format.specs.Packing.{packed, unpacked}
 use Rattle.operations.specs.declared.Error.{Error}
 use Rattle.operations.specs.declared.Summary.{Summary}
@@ -26,10 +26,14 @@ use Rattle.operations.specs.Replies.{Reply, Written, _>>=_, _>>_, fromInput, de
 use Rattle.operations.specs.Replies.Reply.{accepted, refused}
 use Rattle.format.specs.Statements.IsRead.{fromBytes}
 use Rattle.operations.specs.Coding.{write, decoded, encoded}
-use Rattle.ackbo.specs.Numbers.{Small, numberOf, countOf}
+use Rattle.ackbo.specs.Numbers.{Small, numberOf, countOf, wordsOf}
 use Rattle.format.proofs.Theorems.{readable-well-formed, faults-within}
 use Rattle.operations.specs.Inputs.{TermReader, Inputs, readTerms, readInputs}
 use Rattle.operations.specs.Comparing.{comparison, compared}
+use Rattle.operations.specs.Picking.{greaterSide, picked}
+use Rattle.operations.proofs.PickingLaws.{SideWithin, picked-accepted, picked-within}
+use Rattle.operations.specs.declared.GreaterSide.{GreaterSide}
+use Rattle.operations.specs.declared.GreaterSide.the-variants.{Left, Right, Equivalent, Unrelated}
 use Rattle.operations.specs.Marking.{summaryOf, marksOf, isDecreasing, decreasingCount, marked}
 use Rattle.marking.proofs.MarkLaws.{fault-small}
 
@@ -118,7 +122,22 @@ pub compared-small : (bytes left right : List ℕ) → Small (length left) → S
 unfolding compared
 compared-small bytes left right h g =
     inputs-small nought readTerm (λ i. comparison (i .signature) (i .left) (i .right)) bytes left right
-    (λ σ words code offset. faults-within words code offset .2 σ) h g λ i e. omega arith
+    (λ σ words code offset. faults-within words code offset .2 σ .0) h g λ i e. omega arith
+
+pub picked-small : (bytes left right : List ℕ) → Small (length left) → Small (length right) →
+    Small (numberOf wordsOf (picked bytes left right))
+unfolding picked
+picked-small bytes left right h g =
+    inputs-small wordsOf readFirstTerm greaterSide bytes left right
+    (λ σ words code offset. faults-within words code offset .2 σ .1) h g λ i e.
+    side-small (greaterSide i)
+    (picked-within bytes left right (greaterSide i) (picked-accepted bytes left right i e))
+  where
+    side-small : (s : GreaterSide) → SideWithin (length left) (length right) s → Small (wordsOf s)
+    side-small (Left n) w = omega arith
+    side-small (Right n) w = omega arith
+    side-small Equivalent w = omega arith
+    side-small Unrelated w = omega arith
 
 -- A number of the summary is small if it is for every file of at most 1,023 rules.
 pub marked-small : (bytes marks : List ℕ) (m : Summary → ℕ) →

@@ -1,5 +1,7 @@
 -- The numbers of a reply that cross the boundary as signed ones.
 use Prim.Native.Nat.{ℕ, _<_}
+use Rattle.operations.specs.declared.GreaterSide.{GreaterSide}
+use Rattle.operations.specs.declared.GreaterSide.the-variants.{Left, Right, Equivalent, Unrelated}
 use Rattle.operations.specs.Replies.{Reply}
 use Rattle.operations.specs.Replies.Reply.{accepted, refused}
 
@@ -14,3 +16,10 @@ numberOf m (refused e) = e .offset
 
 abbrev pub countOf : ℕ → ℕ
 countOf n = n
+
+-- The count of words of the greater side; 0 where there is none.
+abbrev pub wordsOf : GreaterSide → ℕ
+wordsOf (Left n) = n
+wordsOf (Right n) = n
+wordsOf Equivalent = 0
+wordsOf Unrelated = 0

@@ -6,14 +6,17 @@ ghost use lib.IntN.{pos};
 ghost use lib.Seq.{sets};
 ghost use Rattle.operations.specs.Coding.{decoded, encoded};
 ghost use Rattle.operations.specs.Comparing.{compared};
+ghost use Rattle.operations.specs.Picking.{picked};
 ghost use Rattle.operations.specs.Enums.{countReply};
-ghost use Rattle.ackbo.specs.Numbers.{Small, numberOf, countOf};
+ghost use Rattle.ackbo.specs.Numbers.{Small, numberOf, countOf, wordsOf};
 ghost use Rattle.operations.specs.Marking.{marked};
 ghost use Rattle.operations.specs.Boundary.{codeOf, valuesOf};
-ghost use Rattle.operations.specs.Boundary.{countValues, relationValue, comparisonValues, summaryValues};
+ghost use Rattle.operations.specs.Boundary.{countValues, relationValue, comparisonValues, sideValues, summaryValues};
 use operations::CompareReply;
 use operations::CountReply;
+use operations::GreaterSide;
 use operations::MarkReply;
+use operations::PickReply;
 use operations::Relation;
 
 // Stores three values, and gives back the code.
@@ -122,6 +125,35 @@ pub extern "C" fn ackbo_compare(
             put_reply(reply, 0, relation_value(relation), comparison.margin, 0)
         }
         CompareReply::Refused(error) => put_error(reply, error.code, error.input, error.offset),
+    }
+}
+
+// Stores the greater side and the count of its words.
+fn put_side(reply: &mut [i64; 3], side: GreaterSide) -> u8
+    requires { ⌜ Small (wordsOf side) ⌝ }
+    ensures { λ r. ⌜ r ≡ 0 ⌝ }
+    ensures { λ _. ⌜ now (reply .exit) ≡ sets (now (reply .entry)) 0 (sideValues side) ⌝ }
+{
+    match side {
+        GreaterSide::Left { words } => put_counts(reply, 1, words, 0),
+        GreaterSide::Right { words } => put_counts(reply, 2, words, 0),
+        GreaterSide::Equivalent => put_counts(reply, 3, 0, 0),
+        GreaterSide::Unrelated => put_counts(reply, 4, 0, 0),
+    }
+}
+
+#[no_mangle]
+pub extern "C" fn ackbo_pick(book: &[u8], left: &[u16], right: &[u16], reply: &mut [i64; 3]) -> u8
+    ensures { λ r. ⌜ r ≡ codeOf (picked (now (book .entry)) (now (left .entry)) (now (right .entry))) ⌝ }
+    ensures { λ _. ⌜
+        now (reply .exit)
+        ≡ sets (now (reply .entry)) 0
+        (valuesOf sideValues (picked (now (book .entry)) (now (left .entry)) (now (right .entry))))
+        ⌝ }
+{
+    match picking::greater_side(book, left, right) {
+        PickReply::Accepted(side) => put_side(reply, side),
+        PickReply::Refused(error) => put_error(reply, error.code, error.input, error.offset),
     }
 }
 

@@ -8,8 +8,12 @@ use marking::mark::mark;
 use marking::report::report;
 use operations::CompareReply;
 use operations::CountReply;
+use operations::GreaterSide;
 use operations::MarkReply;
+use operations::PickReply;
 use operations::Relation;
+use picking::greater_part;
+use picking::greater_side;
 
 pub fn print(text: &[u8]) {
     io::write_all(STDOUT_FILENO, text);
@@ -106,5 +110,23 @@ pub fn print_comparison(book: &[u8], left: &[u16], right: &[u16]) {
             print_relation(relation_number(relation), comparison.margin);
         }
         CompareReply::Refused(error) => print_error(error.code, error.input, error.offset),
+    }
+}
+
+// Prints the number of the greater side, the count of its words, and the length of the part that is handed back.
+fn print_side(side: GreaterSide, part: &[u16]) {
+    match side {
+        GreaterSide::Left { words } => print_numbers(1, words as u64, part.len() as u64),
+        GreaterSide::Right { words } => print_numbers(2, words as u64, part.len() as u64),
+        GreaterSide::Equivalent => print_numbers(3, 0, part.len() as u64),
+        GreaterSide::Unrelated => print_numbers(4, 0, part.len() as u64),
+    }
+}
+
+// Prints which of two terms under a book is greater; or the error.
+pub fn print_pick<'a>(book: &[u8], left: &'a [u16], right: &'a [u16]) {
+    match greater_side(book, left, right) {
+        PickReply::Accepted(side) => print_side(side, greater_part(book, left, right)),
+        PickReply::Refused(error) => print_error(error.code, error.input, error.offset),
     }
 }

@@ -3,6 +3,7 @@
 use crate::print::close;
 use crate::print::print;
 use crate::print::print_comparison;
+use crate::print::print_pick;
 use crate::print::print_report;
 use crate::print::show;
 
@@ -123,18 +124,30 @@ fn compare_terms(book: &[u8]) {
     print_comparison(book, &[2], &[256]); // b, u
 }
 
-fn comparisons() {
-    print(b"sample, comparisons\n");
+// Picks terms under the book of the sample, with words after them.
+fn pick_terms(book: &[u8]) {
+    print_pick(book, &[3, 256, 1], &[256, 272]); // u+z, u
+    print_pick(book, &[256, 3], &[3, 256, 1, 0]); // u, u+z
+    print_pick(book, &[5, 256, 0], &[5, 256, 1]); // sub(u,o), sub(u,z)
+    print_pick(book, &[3, 1, 0], &[3, 0, 1, 9]); // z+o, o+z
+    print_pick(book, &[3, 4, 256, 0], &[3, 256, 4, 0]); // neg(u)+o, u+neg(o)
+    print_pick(book, &[0], &[3, 0]); // o, a term cut short
+}
+
+fn terms() {
     let mut book = [0u8; 256];
     let count = close(&SAMPLE, &mut book);
+    print(b"sample, comparisons\n");
     compare_terms(&book[..count]);
+    print(b"sample, picks\n");
+    pick_terms(&book[..count]);
 }
 
 pub fn run() {
     show(b"sample\n", &SAMPLE);
     show(b"sample, traps\n", &SAMPLE_TRAPS);
     show(b"traps\n", &TRAPS);
-    comparisons();
+    terms();
     print(b"listing\n");
     print_report(b"\x10\x20\x00\x10\x08\x00\x00\x40\x40\x00\x04\x00\x00\x01\x00\x80\x00");
 }

@@ -6,8 +6,11 @@ ghost use Rattle.terms.specs.Signature.{Admissible};
 ghost use Rattle.terms.specs.Words.{termOf};
 ghost use Rattle.format.specs.Statements.{IsTerm};
 ghost use Rattle.symbols.specs.Table.{signatureOf, maxTableWords};
+ghost use Rattle.operations.specs.Inputs.{readInputs};
 ghost use Rattle.operations.specs.Comparing.{comparison, compared};
 ghost use Rattle.operations.specs.Enums.{compareReply};
+ghost use Rattle.words.specs.Terms.{readerOf};
+ghost use Rattle.comparing.specs.Related.{RelatedRead};
 use inputs::Ends;
 use inputs::read_inputs;
 use measures::SUMS;
@@ -16,11 +19,22 @@ use measures::sums::sum_up;
 use measures::totals::margin;
 use operations::CompareReply;
 use operations::Comparison;
+use operations::Error;
 use order::relation::relation;
 use symbols::TABLE_WORDS;
 
+// How two terms compare, and how many words they have; or the error.
+pub enum Related {
+    Read {
+        comparison: Comparison,
+        left: usize,
+        right: usize,
+    },
+    Refused(Error),
+}
+
 // Compares two terms that were read.
-pub fn compare_read(table: &[u16], left: &[u16], right: &[u16]) -> Comparison
+fn compare_read(table: &[u16], left: &[u16], right: &[u16]) -> Comparison
     requires { ⌜ (length (now table) ≤ maxTableWords) × Admissible (signatureOf (now table)) ⌝ }
     requires { ⌜ IsTerm (signatureOf (now table)) (now left) × IsTerm (signatureOf (now table)) (now right) ⌝ }
     ensures { λ r. ⌜
@@ -40,17 +54,38 @@ pub fn compare_read(table: &[u16], left: &[u16], right: &[u16]) -> Comparison
     }
 }
 
-// Compares two terms, each as its node words, under a packed rule file.
-pub fn compare(book: &[u8], left: &[u16], right: &[u16]) -> CompareReply
-    ensures { λ r. ⌜ compareReply r ≡ compared (now (book .entry)) (now (left .entry)) (now (right .entry)) ⌝ }
+// Compares the terms at the fronts of their words under a packed rule file, each to be all of its words where that is
+// asked.
+pub fn relate(book: &[u8], left: &[u16], right: &[u16], whole: bool) -> Related
+    ensures { λ r. ⌜
+        RelatedRead (readInputs (readerOf whole) (now (book .entry)) (now (left .entry)) (now (right .entry))) r
+        ⌝ }
 {
     let mut table = [0u16; TABLE_WORDS];
-    match read_inputs(book, left, right, true, &mut table) {
-        Ends::Refused(error) => CompareReply::Refused(error),
+    match read_inputs(book, left, right, whole, &mut table) {
+        Ends::Refused(error) => Related::Refused(error),
         Ends::Read {
             front,
             left: l,
             right: r,
-        } => CompareReply::Accepted(compare_read(&table[..front], &left[..l], &right[..r])),
+        } => Related::Read {
+            comparison: compare_read(&table[..front], &left[..l], &right[..r]),
+            left: l,
+            right: r,
+        },
+    }
+}
+
+// Compares two terms, each as its node words, under a packed rule file.
+pub fn compare(book: &[u8], left: &[u16], right: &[u16]) -> CompareReply
+    ensures { λ r. ⌜ compareReply r ≡ compared (now (book .entry)) (now (left .entry)) (now (right .entry)) ⌝ }
+{
+    match relate(book, left, right, true) {
+        Related::Refused(error) => CompareReply::Refused(error),
+        Related::Read {
+            comparison,
+            left: _,
+            right: _,
+        } => CompareReply::Accepted(comparison),
     }
 }

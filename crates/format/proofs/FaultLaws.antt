@@ -3,7 +3,7 @@
 --     node-within-got, node-within-fault   the same of a node
 --     BoundedSource, whole-within          what is asked of a source, and what then holds of reading a file
 --     words-bounded, bits-bounded, bits-within, bits-node     the two sources
---     bytes-fault, words-fault, term-fault
+--     bytes-fault, words-fault, term-fault, first-fault
 use mathlib.Core.Path.{_≡_}
 use mathlib.Core.List.{List, [], _∷_, _++_}
 use mathlib.Core.Bool.{Bool, true, false, cond, _||_, not}
@@ -24,7 +24,7 @@ use Rattle.format.specs.Reading.{bitField, bitSource, wordBelow, wordSou
 use Rattle.format.specs.Reading.Reading.{got, fault}
 use Rattle.format.specs.Format.{heldBy, symbolReader, symbolsReader, forestReader, ruleReader, rulesReader}
 use Rattle.format.specs.Format.{bodyReader, fileReader}
-use Rattle.format.specs.Files.{wholeReader, readBytes, readWords, readTerm}
+use Rattle.format.specs.Files.{wholeReader, readBytes, readWords, readFirstTerm, readTerm}
 use Rattle.format.proofs.ForestLaws.{known, argumentCount}
 
 module _ (limit : ℕ) where
@@ -198,6 +198,12 @@ module _ (words : List ℕ) where
 
   pub term-fault : (σ : Signature) (code offset : ℕ) → readTerm σ words ≡ fault code offset → offset ≤ length words
   term-fault σ code offset = within-fault (length words) (readTerm σ words) code offset (term-within σ)
+
+  pub first-fault : (σ : Signature) (code offset : ℕ) → readFirstTerm σ words ≡ fault code offset →
+      offset ≤ length words
+  unfolding readFirstTerm
+  first-fault σ code offset = within-fault (length words) (readFirstTerm σ words) code offset
+      (forest-within (length words) (wordSource words) words-bounded σ maxNodes 1 0 (omega arith))
 
 module _ (bytes : List ℕ) where
   abbrev bitCount : ℕ

@@ -5,7 +5,7 @@
 use mathlib.Core.Path.{_≡_, sym, ap, _∙_}
 use mathlib.Core.List.{List, [], _∷_, map, flatMap, List·Memᴰ, List·Memᴰ·head, List·Memᴰ·tail}
 use mathlib.Core.List.{List·Memᴰ·not-nil, Memᴰ·of-map}
-use Prim.Native.Nat.{ℕ, _<_}
+use Prim.Native.Nat.{ℕ, _≤_, _<_}
 use native.Mathlib.Nat.{zero-add}
 use native.Mathlib.Omega.{arith}
 use lib.ListN.{length, getD, take}
@@ -80,7 +80,7 @@ module _ (f : RuleFile) (r : Readable f) where
 
 module _ (σ : Signature) (input nodes : List ℕ) (end : ℕ) where
   pub first-term : readFirstTerm σ input ≡ got nodes end →
-      (nodes ≡ take end input) × (end ≡ length nodes) × IsTerm σ nodes
+      (nodes ≡ take end input) × (end ≡ length nodes) × IsTerm σ nodes × (end ≤ length input)
   unfolding readFirstTerm
   first-term e =
       let (f, p) = holds-got _ _ nodes end (forest-read (wordSource input) σ maxNodes 1 0) e in
@@ -92,7 +92,7 @@ module _ (σ : Signature) (input nodes : List ℕ) (end : ℕ) where
       let each : (i : ℕ) → i < length nodes → getD nodes i 0 ≡ getD (take end input) i 0 =
       λ i h. sym (agrees-at (wordAt input) 0 nodes cells i h) ∙ ap (wordAt input) (zero-add i)
       ∙ sym (getD-take end input i 0 (omega arith)) in
-      (ext-getD 0 nodes (take end input) (omega arith) each, count, forest-term σ nodes f fits)
+      (ext-getD 0 nodes (take end input) (omega arith) each, count, forest-term σ nodes f fits, l)
 
   term-read : HoldsOf (λ ws at. (readFirstTerm σ input ≡ got ws at) × (at ≡ length input)) (readTerm σ input)
   unfolding readFirstTerm readTerm HoldsOf
@@ -104,5 +104,5 @@ module _ (σ : Signature) (input nodes : List ℕ) (end : ℕ) where
   pub whole-term : readTerm σ input ≡ got nodes end → (nodes ≡ input) × (end ≡ length nodes) × IsTerm σ nodes
   whole-term e =
       let (r, whole) = holds-got _ _ nodes end term-read e in
-      let (front, count, term) = first-term r in
+      let (front, count, term, within) = first-term r in
       (front ∙ take-all end input (omega arith), count, term)

@@ -2,7 +2,8 @@
 --     nodes-form         they have the form that reading tests
 --     words-fit          and are within the widths
 --     forest-cut         a forest of more nodes than are allowed stops after those
---     term-reads         they read as they are
+--     first-reads        they read as they are, whatever stands after them
+--     term-reads         and alone
 --     term-refused       unless they are more than are allowed
 use mathlib.Core.Path.{_≡_, refl, ap, _∙_}
 use mathlib.Core.List.{List, [], _∷_, _++_, map, map-append, append-nil, append-assoc}
@@ -25,7 +26,7 @@ use Rattle.format.specs.Layout.{maxNodes}
 use Rattle.format.specs.Reading.{Source, wordSource}
 use Rattle.format.specs.Reading.Reading.{got, fault}
 use Rattle.format.specs.Format.{forestReader}
-use Rattle.format.specs.Files.{readTerm}
+use Rattle.format.specs.Files.{readFirstTerm, readTerm}
 use Rattle.format.specs.Packing.Item.{node}
 use Rattle.format.proofs.ForestLaws.{known, argumentCount}
 use Rattle.format.proofs.SpellingLaws.{AllFit, all-fit-append, Spells, agrees-of, coded→spells}
@@ -113,14 +114,20 @@ module _ (σ : Signature) (few : length (σ .symbols) ≤ firstVariable) (t : Te
   pub nodes-form : (a : ℕ) → Forest σ (size t + a) 1 (words t)
   nodes-form a = rw (append-nil (words t)) at (forest-words σ few t h a 0 [] noTerm)
 
-  pub term-reads : size t ≤ maxNodes → readTerm σ (words t) ≡ got (words t) (size t)
-  unfolding readTerm
-  term-reads l =
-      let ws = words t in
+  pub first-reads : size t ≤ maxNodes → (rest : List ℕ) → readFirstTerm σ (words t ++ rest) ≡ got (words t) (size t)
+  unfolding readFirstTerm
+  first-reads l rest =
       let all : size t + (maxNodes - size t) ≡ maxNodes = omega arith in
-      let p = rw (append-nil ws) at (front-spells ws [] (words-fit σ few t h)) in
+      let p = front-spells (words t) rest (words-fit σ few t h) in
       let f = rw all at (nodes-form (maxNodes - size t)) in
-      rw (forest-reads (wordSource ws) σ f p, eqb-self (length ws), length-words t)
+      rw (forest-reads (wordSource (words t ++ rest)) σ f p, length-words t)
+
+  pub term-reads : size t ≤ maxNodes → readTerm σ (words t) ≡ got (words t) (size t)
+  unfolding readFirstTerm readTerm
+  term-reads l =
+      let p : forestReader (wordSource (words t)) σ maxNodes 1 0 ≡ got (words t) (size t) =
+      rw (append-nil (words t)) at (first-reads l []) in
+      rw (p, length-words t, eqb-self (size t))
 
   pub term-refused : maxNodes < size t → readTerm σ (words t) ≡ fault tooManyNodes maxNodes
   unfolding readTerm

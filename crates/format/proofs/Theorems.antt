@@ -7,9 +7,9 @@ use Rattle.format.specs.Statements.IsRead.{fromBytes, fromWords}
 use Rattle.format.proofs.FileLaws.{Readable, bytes-readable, words-readable, fileBits, packed-reads, unpacked-reads}
 use Rattle.format.proofs.PromiseLaws.{readable-formed, readable-system}
 use Rattle.format.proofs.PromiseLaws.{first-term, whole-term}
-use Rattle.format.proofs.TermReading.{term-reads, term-refused}
+use Rattle.format.proofs.TermReading.{first-reads, term-reads, term-refused}
 use Rattle.format.proofs.WellFormedLaws.{well-formed-readable}
-use Rattle.format.proofs.FaultLaws.{bytes-fault, words-fault, term-fault}
+use Rattle.format.proofs.FaultLaws.{bytes-fault, words-fault, term-fault, first-fault}
 
 readable : (file : RuleFile) → IsRead file → Readable file
 readable file (fromBytes bytes end e) = bytes-readable bytes file end e
@@ -27,8 +27,12 @@ pub read-term-well-formed : ReadTermWellFormed
 read-term-well-formed σ input nodes end = (first-term σ input nodes end, whole-term σ input nodes end)
 
 pub well-formed-reads : WellFormedReads
-well-formed-reads σ few t h = (term-reads σ few t h, term-refused σ few t h)
+well-formed-reads σ few t h =
+    (λ l. (term-reads σ few t h l, first-reads σ few t h l), term-refused σ few t h)
 
 pub faults-within : FaultsWithin
-faults-within input code offset =
-    (bytes-fault input code offset, words-fault input code offset, λ σ. term-fault input σ code offset)
+faults-within input code offset = (
+  bytes-fault input code offset,
+  words-fault input code offset,
+  λ σ. (term-fault input σ code offset, first-fault input σ code offset),
+)

@@ -2,7 +2,7 @@
 -- Renders: 01, "The order": "it stands above the reader and relies on its promise only"; "Book layout": the widths,
 -- "All ranks differ", "Admissible", "A side has at most 128 nodes, a book at most 32,768 bytes".
 -- Reading is total and has one outcome: `readBytes`, `readWords` and `readTerm` are functions into `Reading`.
-use mathlib.Core.List.{List, List·Memᴰ}
+use mathlib.Core.List.{List, _++_, List·Memᴰ}
 use mathlib.Core.Path.{_≡_}
 use Prim.Native.Nat.{ℕ, _*_, _^_, _≤_, _<_}
 use lib.ListN.{length, take}
@@ -62,13 +62,16 @@ WellFormedFilesRead = (file : RuleFile) → WellFormedFile file →
 -- A term that is read from the front of words is the words up to where it ends; with nothing after it, all of them.
 abbrev pub ReadTermWellFormed : Type 0
 ReadTermWellFormed = (σ : Signature) (input nodes : List ℕ) (end : ℕ) →
-    (readFirstTerm σ input ≡ got nodes end → (nodes ≡ take end input) × (end ≡ length nodes) × IsTerm σ nodes)
+    (readFirstTerm σ input ≡ got nodes end →
+    (nodes ≡ take end input) × (end ≡ length nodes) × IsTerm σ nodes × (end ≤ length input))
     × (readTerm σ input ≡ got nodes end → (nodes ≡ input) × (end ≡ length nodes) × IsTerm σ nodes)
 
--- The words of a well-formed term read as they are, unless a 129th node is called for.
+-- The words of a well-formed term read as they are, from the front also with words after them, unless a 129th node is
+-- called for.
 abbrev pub WellFormedReads : Type 0
 WellFormedReads = (σ : Signature) → length (σ .symbols) ≤ firstVariable → (t : Term) → WellFormed σ t →
-    (size t ≤ maxNodes → readTerm σ (words t) ≡ got (words t) (size t))
+    (size t ≤ maxNodes → (readTerm σ (words t) ≡ got (words t) (size t))
+    × ((rest : List ℕ) → readFirstTerm σ (words t ++ rest) ≡ got (words t) (size t)))
     × (maxNodes < size t → readTerm σ (words t) ≡ fault tooManyNodes maxNodes)
 
 -- A fault lies within the input, or at its end.
@@ -76,4 +79,5 @@ abbrev pub FaultsWithin : Type 0
 FaultsWithin = (input : List ℕ) (code offset : ℕ) →
     (readBytes input ≡ fault code offset → offset ≤ 8 * length input)
     × (readWords input ≡ fault code offset → offset ≤ length input)
-    × ((σ : Signature) → readTerm σ input ≡ fault code offset → offset ≤ length input)
+    × ((σ : Signature) → (readTerm σ input ≡ fault code offset → offset ≤ length input)
+    × (readFirstTerm σ input ≡ fault code offset → offset ≤ length input))

@@ -1,5 +1,6 @@
 -- The claims of specs/: from what the operations give back to the theorems of the order and of the format.
 pub mod MarkedLaws
 pub mod LikeLaws
+mod PickLaws
 pub mod RoundTrip
 pub mod Theorems

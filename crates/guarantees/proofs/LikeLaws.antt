@@ -51,7 +51,7 @@ module _ (σ : Signature) (A : Admissible σ) where
         let e : size s ≡ size t = measures-respect-equivalence σ s t d .size in
         byOrder maxNodes (size t)
         (λ h. rw (well-formed-reads σ few s v .1 (omega arith), well-formed-reads σ few t w .1 h) faults)
-        λ h. rw (well-formed-reads σ few s v .0 (omega arith), well-formed-reads σ few t w .0 h)
+        λ h. rw (well-formed-reads σ few s v .0 (omega arith) .0, well-formed-reads σ few t w .0 h .0)
         (terms {ws = words s} {vs = words t} (rw (termOf-words σ few s v) v) (rw (termOf-words σ few t w) w)
         (rw (termOf-words σ few s v, termOf-words σ few t w) d))
 

@@ -7,7 +7,7 @@ use native.Mathlib.Omega.{arith}
 use lib.ListN.{length, getD}
 use Rattle.terms.specs.Signature.{Admissible}
 use Rattle.terms.specs.Term.Term.{var}
-use Rattle.terms.specs.Words.{firstVariable}
+use Rattle.terms.specs.Words.{firstVariable, words}
 use Rattle.terms.specs.Order.{mark}
 use Rattle.terms.specs.Rewriting.{Rule, WellFormedRules, AllDecreasing}
 use Rattle.theory.proofs.Theorems.{greater-irreflexive, greater-transitive, closed-under-contexts, derivations-descend}
@@ -24,12 +24,15 @@ use Rattle.format.proofs.Theorems.{readable-well-formed}
 use Rattle.operations.specs.Marking.{marksOf, isDecreasing, summaryOf}
 use Rattle.operations.specs.Inputs.{readTerms, readInputs}
 use Rattle.operations.specs.Comparing.{comparison, compared}
+use Rattle.operations.specs.Picking.{picked}
 use Rattle.guarantees.specs.Guarantees.{Holds, ReadableOrder, FilesDescend, FilesBounded, CountedAll, CountTells}
 use Rattle.guarantees.specs.Guarantees.{Like, LikeComparisonsAgree, MarksExact, FallingCounted}
 use Rattle.guarantees.proofs.MarkedLaws.{test-of-marks, marks-of-test, all-decreasing, marks-accepted}
 use Rattle.guarantees.proofs.MarkedLaws.{counted-all, mark-written, falling-counted}
 use Rattle.guarantees.proofs.MarkedLaws.{length-rules, getD-member}
 use Rattle.guarantees.proofs.LikeLaws.{AlikeInputs, refusals, comparison-like, terms-like, replies-agree}
+use Rattle.guarantees.specs.Picks.{PartIsGreater, PartEmpty, WordsAfterIgnored, PicksAsCompared}
+use Rattle.guarantees.proofs.PickLaws.{called-picked, called-compared, handed-by, empty-of, no-side, called-part}
 use Rattle.guarantees.specs.RoundTrips.{DecodeThenEncode, EncodeThenDecode}
 use Rattle.guarantees.proofs.RoundTrip.{decode-encode, encode-decode}
 
@@ -109,6 +112,29 @@ unfolding compared
 like-comparisons-agree bytes left left' right right' h =
     replies-agree (λ i. comparison (i .signature) (i .left) (i .right)) comparison-like
     (like-inputs bytes left left' right right' h)
+
+-- ---- picking
+
+pub part-is-greater : PartIsGreater
+part-is-greater bytes left right = handed-by bytes left right (picked bytes left right) refl
+
+pub part-empty : PartEmpty
+part-empty bytes left right = (
+  no-side bytes left right (part-is-greater bytes left right),
+  empty-of bytes left right (picked bytes left right) refl,
+)
+
+pub words-after-ignored : WordsAfterIgnored
+words-after-ignored bytes left left' right right' file s t c d =
+    let f = few bytes file (c .holds) in (
+      called-picked bytes left right file f s t c ∙ sym (called-picked bytes left' right' file f s t d),
+      called-part bytes left right file f s t c ∙ sym (called-part bytes left' right' file f s t d),
+    )
+
+pub picks-as-compared : PicksAsCompared
+picks-as-compared bytes file s t c =
+    let f = few bytes file (c .holds) in
+    (called-compared bytes file f s t c, called-picked bytes (words s) (words t) file f s t c)
 
 -- ---- marks
 

@@ -9,7 +9,6 @@ use Prim.Native.Nat.{ℕ, _≤_}
 use native.Mathlib.Omega.{arith}
 use lib.ListN.{length, take}
 use lib.Seq.{length-take-le, take-all}
-use Rattle.multisets.proofs.Relations.{byOrder}
 use Rattle.terms.specs.Signature.{Signature, Admissible}
 use Rattle.format.specs.Reading.{Reading}
 use Rattle.format.specs.Reading.Reading.{got, fault}
@@ -44,10 +43,6 @@ pub record FrontRead (whole : Bool) (σ : Signature) (words : List ℕ) (n : ℕ
   pub within : n ≤ length words
   pub term : IsTerm σ (take n words)
 
-front-length : (n : ℕ) (words : List ℕ) → n ≡ length (take n words) → n ≤ length words
-front-length n words e =
-    byOrder (length words) n (λ h. omega (arith, ap length (take-all n words (omega arith)))) (λ h. h)
-
 front-read : (whole : Bool) (σ : Signature) (words nodes : List ℕ) (n : ℕ) → readerOf whole σ words ≡ got nodes n →
     FrontRead whole σ words n
 front-read true σ words nodes n e =
@@ -55,12 +50,8 @@ front-read true σ words nodes n e =
     let front : take n words ≡ nodes = take-all n words (omega (arith, ap length all)) ∙ sym all in
     record { read = rw front e; within = omega (arith, ap length all); term = rw front term }
 front-read false σ words nodes n e =
-    let (front, count, term) = read-term-well-formed σ words nodes n .0 e in
-    record {
-      read = rw (sym front) e;
-      within = front-length n words (count ∙ ap length front);
-      term = rw (sym front) term;
-    }
+    let (front, count, term, within) = read-term-well-formed σ words nodes n .0 e in
+    record { read = rw (sym front) e; within = within; term = rw (sym front) term }
 
 pub term-read : (whole : Bool) (σ : Signature) (words : List ℕ) (value n : ℕ) →
     Got value n ≡ endOf (readerOf whole σ words) → FrontRead whole σ words n

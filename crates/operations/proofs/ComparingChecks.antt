@@ -23,7 +23,7 @@ use Rattle.operations.specs.Inputs.{readTerms, readInputs}
 use Rattle.operations.specs.Comparing.{relation, compared}
 
 -- Form 1, two symbols, w0 1, no rules; the symbols weigh 1 and have the ranks 1 and 0.
-abbrev book : List ℕ
+abbrev pub book : List ℕ
 book = 0x10 ∷ 0x20 ∷ 0x00 ∷ 0x10 ∷ 0x00 ∷ 0x80 ∷ 0x00 ∷ 0x40 ∷ 0x40 ∷ 0x00 ∷ 0x04 ∷ 0x00 ∷ []
 
 record Case : Type 0 where

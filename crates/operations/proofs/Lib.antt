@@ -1,5 +1,8 @@
--- Checks of the definitions of specs/, by computation.
+-- Laws of what the operations read, and checks of the definitions of specs/, by computation.
+pub mod InputLaws
+pub mod PickingLaws
 mod CodingChecks
 mod LongFileChecks
 mod ComparingChecks
+mod PickingChecks
 mod MarkingChecks

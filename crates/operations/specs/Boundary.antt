@@ -9,6 +9,8 @@ use Rattle.operations.specs.Replies.Reply.{accepted, refused}
 use Rattle.operations.specs.declared.Relation.{Relation}
 use Rattle.operations.specs.declared.Relation.the-variants.{Greater, Less, Equivalent, Unrelated}
 use Rattle.operations.specs.declared.Comparison.{Comparison}
+use Rattle.operations.specs.declared.GreaterSide.{GreaterSide}
+use Rattle.operations.specs.declared.GreaterSide.the-variants as side
 use Rattle.operations.specs.declared.Summary.{Summary}
 
 module _ {A : Type 0} where
@@ -33,6 +35,12 @@ relationValue Unrelated = pos 4
 
 abbrev pub comparisonValues : Comparison → List ℤ
 comparisonValues c = relationValue (c .relation) ∷ c .margin ∷ pos 0 ∷ []
+
+abbrev pub sideValues : GreaterSide → List ℤ
+sideValues (side.Left n) = pos 1 ∷ pos n ∷ pos 0 ∷ []
+sideValues (side.Right n) = pos 2 ∷ pos n ∷ pos 0 ∷ []
+sideValues side.Equivalent = pos 3 ∷ pos 0 ∷ pos 0 ∷ []
+sideValues side.Unrelated = pos 4 ∷ pos 0 ∷ pos 0 ∷ []
 
 abbrev pub summaryValues : Summary → List ℤ
 summaryValues s = pos (s .rules) ∷ pos (s .decreasing) ∷ pos (s .score) ∷ []

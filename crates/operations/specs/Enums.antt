@@ -7,6 +7,9 @@ use Rattle.operations.specs.declared.CountReply.the-variants as count
 use Rattle.operations.specs.declared.Comparison.{Comparison}
 use Rattle.operations.specs.declared.CompareReply.{CompareReply}
 use Rattle.operations.specs.declared.CompareReply.the-variants as compare
+use Rattle.operations.specs.declared.GreaterSide.{GreaterSide}
+use Rattle.operations.specs.declared.PickReply.{PickReply}
+use Rattle.operations.specs.declared.PickReply.the-variants as pick
 use Rattle.operations.specs.declared.Summary.{Summary}
 use Rattle.operations.specs.declared.MarkReply.{MarkReply}
 use Rattle.operations.specs.declared.MarkReply.the-variants as mark
@@ -20,6 +23,10 @@ countReply (count.Refused e) = refused e
 abbrev pub compareReply : CompareReply → Reply Comparison
 compareReply (compare.Accepted c) = accepted c
 compareReply (compare.Refused e) = refused e
+
+abbrev pub pickReply : PickReply → Reply GreaterSide
+pickReply (pick.Accepted s) = accepted s
+pickReply (pick.Refused e) = refused e
 
 abbrev pub markReply : MarkReply → Reply Summary
 markReply (mark.Accepted s) = accepted s

@@ -3,6 +3,7 @@ pub mod Replies
 pub mod Coding
 pub mod Inputs
 pub mod Comparing
+pub mod Picking
 pub mod Marking
 pub mod Text
 pub mod Report

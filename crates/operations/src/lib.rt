@@ -33,6 +33,20 @@ pub enum CompareReply {
     Refused(Error),
 }
 
+// Which of two terms is greater, with the count of its words, or why neither is.
+pub enum GreaterSide {
+    Left { words: usize },
+    Right { words: usize },
+    Equivalent,
+    Unrelated,
+}
+
+// The greater side, or why it was not looked for.
+pub enum PickReply {
+    Accepted(GreaterSide),
+    Refused(Error),
+}
+
 // The counts of rules and of those that decrease, and the score.
 pub struct Summary {
     pub rules: usize,

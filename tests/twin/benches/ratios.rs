@@ -5,6 +5,8 @@ use std::hint::black_box;
 use std::time::{Duration, Instant};
 
 use twin::generate::{families, Book, Family, Random, Signature, MAX_RULES};
+use twin::table::MAX_NODES;
+use twin::Pick;
 
 const SEED: u64 = 32_768;
 /// The rounds whose median is taken; many short ones, so that few are interrupted.
@@ -19,6 +21,16 @@ const TYPICAL_RULES: usize = 24;
 /// The node word of a variable.
 const VARIABLE: u16 = 256;
 const SIZES: [usize; 4] = [16, 32, 64, 128];
+
+/// The words after a term where picking is measured with some.
+const WORDS_AFTER: usize = 64;
+
+/// Two terms and the packed book that they are under.
+struct Pair {
+    book: Vec<u8>,
+    left: Vec<u16>,
+    right: Vec<u16>,
+}
 
 /// Microseconds of one call.
 #[derive(Clone, Copy)]
@@ -44,6 +56,7 @@ fn main() {
     let mut report = Report { filter, rows: Vec::new() };
     println!("Times in microseconds of one call; ratio: library / twin.\n");
     report.books();
+    report.pairs();
     report.terms();
     report.summary();
 }
@@ -75,7 +88,7 @@ impl Report {
     fn decode(&mut self, name: &str, books: &[Book]) {
         let packed: Vec<Vec<u8>> = books.iter().map(Book::packed).collect();
         let (mut ours, mut twins) = (vec![0; MAX_WORDS], vec![0; MAX_WORDS]);
-        self.book_row(
+        self.row(
             name,
             &packed,
             |book| ackbo::decode(book, &mut ours).expect("the book is read"),
@@ -86,7 +99,7 @@ impl Report {
     fn encode(&mut self, name: &str, books: &[Book]) {
         let words: Vec<Vec<u16>> = books.iter().map(Book::words).collect();
         let (mut ours, mut twins) = (vec![0; MAX_BYTES], vec![0; MAX_BYTES]);
-        self.book_row(
+        self.row(
             name,
             &words,
             |words| ackbo::encode(words, &mut ours).expect("the words are read"),
@@ -97,7 +110,7 @@ impl Report {
     fn mark(&mut self, name: &str, books: &[Book]) {
         let packed: Vec<Vec<u8>> = books.iter().map(Book::packed).collect();
         let (mut ours, mut twins) = ([0; MAX_RULES], [0; MAX_RULES]);
-        self.book_row(
+        self.row(
             name,
             &packed,
             |book| ackbo::mark(book, &mut ours).expect("the book is read").falling,
@@ -106,12 +119,12 @@ impl Report {
     }
 
     /// Measures one call on each of the inputs, and takes the mean.
-    fn book_row<T>(
+    fn row<T>(
         &mut self,
         name: &str,
-        inputs: &[Vec<T>],
-        mut ours: impl FnMut(&[T]) -> usize,
-        mut twins: impl FnMut(&[T]) -> usize,
+        inputs: &[T],
+        mut ours: impl FnMut(&T) -> usize,
+        mut twins: impl FnMut(&T) -> usize,
     ) {
         if !self.wants(name) {
             return;
@@ -125,6 +138,46 @@ impl Report {
         }
         println!("| {name} | {:.2} | {:.2} | {:.2} |", mean.ours, mean.twin, mean.ratio());
         self.rows.push((name.into(), mean.ratio()));
+    }
+
+    /// Operations on the sides of a rule of a typical book, on a long and deep pair under the smallest book with its
+    /// symbols, and on the sides of the longest rule of a book of 32,768 bytes, each under its book.
+    fn pairs(&mut self) {
+        println!("\n| pairs | library | twin | ratio |\n|---|---|---|---|");
+        let mut random = Random::new(SEED);
+        let typical: Vec<Book> = (0..40).map(|_| Book::random(&mut random, TYPICAL_RULES)).collect();
+        let largest: Vec<Book> = (0..4).map(|_| Book::largest(&mut random, false)).collect();
+        for (name, pairs) in [
+            ("typical", longest_rules(&typical)),
+            ("128 nodes", vec![family_pair("mark-10"), family_pair("deepest/nearly")]),
+            ("largest", longest_rules(&largest)),
+        ] {
+            self.compare(&format!("compare {name}"), &pairs);
+            self.pick(&format!("pick {name}"), &pairs);
+            let followed: Vec<Pair> = pairs.iter().map(followed).collect();
+            self.pick(&format!("pick {name}, followed"), &followed);
+        }
+    }
+
+    fn compare(&mut self, name: &str, pairs: &[Pair]) {
+        self.row(
+            name,
+            pairs,
+            |pair| ackbo::compare(&pair.book, &pair.left, &pair.right).expect("the terms are read").relation as usize,
+            |pair| twin::compare(&pair.book, &pair.left, &pair.right).expect("the terms are read").relation as usize,
+        );
+    }
+
+    fn pick(&mut self, name: &str, pairs: &[Pair]) {
+        self.row(
+            name,
+            pairs,
+            |pair| ackbo::pick(&pair.book, &pair.left, &pair.right).expect("the terms are read").part().len(),
+            |pair| match twin::pick(&pair.book, &pair.left, &pair.right).expect("the terms are read") {
+                Pick::Left(count) | Pick::Right(count) => count,
+                Pick::Equivalent | Pick::Unrelated => 0,
+            },
+        );
     }
 
     /// Comparing pairs of terms, each family under the smallest book with its symbols. The last columns are less the
@@ -160,6 +213,28 @@ fn book_of_255_symbols(random: &mut Random) -> Book {
             return book;
         }
     }
+}
+
+/// The sides of the longest rule of each book that has rules.
+fn longest_rules(books: &[Book]) -> Vec<Pair> {
+    let longest = |book: &Book| {
+        let (left, right) = book.rules.iter().max_by_key(|(left, right)| left.len() + right.len())?.clone();
+        Some(Pair { book: book.packed(), left, right })
+    };
+    books.iter().filter_map(longest).collect()
+}
+
+/// The largest pair of a family, under its book.
+fn family_pair(name: &str) -> Pair {
+    let family = families().into_iter().find(|family| family.name == name).expect("a family's name");
+    let (left, right) = family.pair(MAX_NODES);
+    Pair { book: family.book(), left, right }
+}
+
+/// The pair with words after both terms.
+fn followed(pair: &Pair) -> Pair {
+    let after = |term: &Vec<u16>| [term.as_slice(), &[VARIABLE; WORDS_AFTER]].concat();
+    Pair { book: pair.book.clone(), left: after(&pair.left), right: after(&pair.right) }
 }
 
 /// The times of a comparison, and those without what the book costs.

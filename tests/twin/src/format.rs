@@ -155,11 +155,22 @@ fn read_side<S: Source>(source: &mut S, table: &Table, side: &mut [u16; MAX_NODE
     Ok(len)
 }
 
-/// Checks that the words of an input are one term over a table.
-pub fn check_term(table: &Table, words: &[u16], input: u8) -> Result<(), Error> {
+/// Reads a term over a table at the front of the words of an input; hands back the position after it.
+fn read_term<'a>(table: &Table, words: &'a [u16], input: u8) -> Result<WordCursor<'a>, Error> {
     let mut source = WordCursor::new(words, input);
     read_side(&mut source, table, &mut [0; MAX_NODES])?;
-    source.finish()
+    Ok(source)
+}
+
+/// Checks that the words of an input are one term over a table.
+pub fn check_term(table: &Table, words: &[u16], input: u8) -> Result<(), Error> {
+    read_term(table, words, input)?.finish()
+}
+
+/// The term over a table at the front of the words of an input; the words after it are not looked at.
+pub fn first_term<'a>(table: &Table, words: &'a [u16], input: u8) -> Result<&'a [u16], Error> {
+    let end = read_term(table, words, input)?.offset();
+    Ok(&words[..end])
 }
 
 /// 01: opening. Writes the words of a packed rule file; hands back their count.

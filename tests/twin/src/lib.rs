@@ -1,7 +1,7 @@
 //! A second implementation of the rule file format and of AC-KBO, written from the papers alone, to be compared with
-//! the first one. `format` reads and writes rule files, `order` compares terms, `marking` orients the rules of a
-//! file, and `generate` makes inputs of every kind: valid, damaged, largest and empty ones. Below, 01 is the scope
-//! paper, and 000, 001 and 004 are the articles that it cites.
+//! the first one. `format` reads and writes rule files, `order` compares terms, `picking` picks the greater one,
+//! `marking` orients the rules of a file, and `generate` makes inputs of every kind: valid, damaged, largest and empty
+//! ones. Below, 01 is the scope paper, 02 the requests after it, and 000, 001 and 004 are the articles that 01 cites.
 
 mod ackbo;
 mod bits;
@@ -11,6 +11,7 @@ pub mod generate;
 pub mod marking;
 mod multiset;
 pub mod order;
+pub mod picking;
 mod source;
 pub mod table;
 mod term;
@@ -19,3 +20,4 @@ pub use error::Error;
 pub use format::{decode, encode};
 pub use marking::{mark, report, Marked};
 pub use order::{compare, Comparison, Relation};
+pub use picking::{pick, Pick};

@@ -7,10 +7,12 @@ use std::path::{Path, PathBuf};
 
 /// The operations, each by the file of its contract. The functions for C are all of `crates/ackbo/src/lib.rt` that it
 /// exports.
-const OPERATIONS: [(&str, &str); 5] = [
+const OPERATIONS: [(&str, &str); 7] = [
     ("crates/decoder/src/lib.rt", "decode"),
     ("crates/encoder/src/lib.rt", "encode"),
     ("crates/comparing/src/lib.rt", "compare"),
+    ("crates/picking/src/lib.rt", "greater_side"),
+    ("crates/picking/src/lib.rt", "greater_part"),
     ("crates/marking/src/mark.rt", "mark"),
     ("crates/marking/src/report.rt", "report"),
 ];
@@ -117,7 +119,8 @@ fn what_must_be_believed_is_listed() {
     let mut open: Vec<String> = Vec::new();
     for (file, name) in OPERATIONS {
         let code = text(file);
-        let contract = clauses(&code, |line| line.contains(&format!("pub fn {name}(")));
+        let starts = [format!("pub fn {name}("), format!("pub fn {name}<")];
+        let contract = clauses(&code, |line| starts.iter().any(|start| line.contains(start)));
         assert!(contract.contains("ensures"), "{file} has no contract of {name}");
         assert!(!contract.contains("requires"), "{name} asks something of its callers");
         open.extend(cited(&code, &contract));

@@ -1,13 +1,13 @@
 //! 01's sample book and cases, its traps and its limits, and the examples of the articles: their marks and margins, and
-//! the text that the program `cases` prints for them.
+//! the text that the program `cases` prints for them; 02's requests on the sample book.
 
 mod common;
 mod examples;
 
 use common::{Example, Theory};
-use examples::sample::{sample, CASES, COMPARISONS};
+use examples::sample::{sample, CASES, COMPARISONS, PICKS};
 use examples::{articles, sample};
-use twin::{compare, encode, mark, report, Comparison, Error, Marked, Relation};
+use twin::{compare, encode, mark, pick, report, Comparison, Error, Marked, Pick, Relation};
 
 /// 01's listing.
 const LISTING: [u8; 17] =
@@ -39,6 +39,20 @@ fn sample_terms_compare_both_ways() {
 }
 
 #[test]
+fn sample_terms_are_picked_whatever_follows_them() {
+    let theory = sample();
+    let book = theory.book(&[]);
+    let followers: [&[u16]; 5] = [&[], &[0], &[3, 3], &[272], &[u16::MAX; 200]];
+    for (left, right, picked) in PICKS {
+        for (left_after, right_after) in followers.iter().flat_map(|s| followers.iter().map(move |t| (*s, *t))) {
+            let left_words = [&theory.term(left), left_after].concat();
+            let right_words = [&theory.term(right), right_after].concat();
+            assert_eq!(pick(&book, &left_words, &right_words), Ok(picked), "{left}, {right}");
+        }
+    }
+}
+
+#[test]
 fn listing_prints_its_text() {
     assert_eq!(report(&LISTING), b"rules 2\n0 2 0\n1 10 0\nscore 50\nreturned\n");
     assert_eq!(mark(&LISTING, &mut [0; 2]), Ok(Marked { rules: 2, falling: 1, score: 50 }));
@@ -60,7 +74,8 @@ fn score_is_rounded_down() {
 
 #[test]
 fn program_prints_what_the_twin_gives() {
-    let parts = [reports(&sample::examples()), comparisons(), listing(), reports(&articles::examples()), limits()];
+    let parts =
+        [reports(&sample::examples()), comparisons(), picks(), listing(), reports(&articles::examples()), limits()];
     assert_eq!(parts.concat(), include_str!("../../../crates/cases/stdout"));
 }
 
@@ -84,6 +99,27 @@ fn comparisons() -> String {
         format!("{number} {}\n", reply.margin)
     });
     lines.fold("sample, comparisons\n".into(), |text, line| text + &line)
+}
+
+/// A line for each pick of terms of the sample, some with words after them.
+fn picks() -> String {
+    let book = sample().book(&[]);
+    let calls: [(&[u16], &[u16]); 6] = [
+        (&[3, 256, 1], &[256, 272]),
+        (&[256, 3], &[3, 256, 1, 0]),
+        (&[5, 256, 0], &[5, 256, 1]),
+        (&[3, 1, 0], &[3, 0, 1, 9]),
+        (&[3, 4, 256, 0], &[3, 256, 4, 0]),
+        (&[0], &[3, 0]),
+    ];
+    let line = |(left, right)| match pick(&book, left, right) {
+        Ok(Pick::Left(words)) => format!("1 {words} {words}\n"),
+        Ok(Pick::Right(words)) => format!("2 {words} {words}\n"),
+        Ok(Pick::Equivalent) => "3 0 0\n".into(),
+        Ok(Pick::Unrelated) => "4 0 0\n".into(),
+        Err(error) => error_line(error),
+    };
+    calls.map(line).into_iter().fold("sample, picks\n".into(), |text: String, line| text + &line)
 }
 
 fn listing() -> String {

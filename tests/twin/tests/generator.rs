@@ -1,7 +1,7 @@
 //! Generated books are valid, round trips give them back, damage never panics, and no mark or error is missing.
 
 use twin::generate::{call, damaged_packed, damaged_words, Book, Call, Random, Reply, Signature, MAX_RULES, UNTOUCHED};
-use twin::{compare, decode, encode, mark, report, Relation};
+use twin::{compare, decode, encode, mark, report, Pick, Relation};
 
 const SEED: u64 = 43;
 const BOOKS: usize = 2_000;
@@ -108,7 +108,8 @@ fn accepted_words_are_given_back() {
 fn generated_calls_reach_every_mark_and_error() {
     let mut random = Random::new(SEED);
     let (mut marks, mut errors, mut relations) = ([0; 11], [[0; 3]; 17], [0; 4]);
-    let mut operations = [0; 4];
+    let mut picks = [0; 4];
+    let mut operations = [0; 5];
     for _ in 0..CALLS {
         let reply = call(&mut random).run();
         if let Some(error) = reply.error() {
@@ -128,15 +129,26 @@ fn generated_calls_reach_every_mark_and_error() {
                 let rules = result.map_or(0, |marked| marked.rules);
                 output[..rules].iter().for_each(|&mark| marks[usize::from(mark)] += 1);
             }
+            Reply::Pick(result) => {
+                operations[4] += 1;
+                match result {
+                    Ok(Pick::Left(_)) => picks[0] += 1,
+                    Ok(Pick::Right(_)) => picks[1] += 1,
+                    Ok(Pick::Equivalent) => picks[2] += 1,
+                    Ok(Pick::Unrelated) => picks[3] += 1,
+                    Err(_) => {}
+                }
+            }
         }
     }
-    println!("decoding, encoding, comparing, marking: {operations:?}");
+    println!("decoding, encoding, comparing, marking, picking: {operations:?}");
     println!("marks 1 to 10: {:?}", &marks[1..]);
     println!("greater, less, equivalent, unrelated: {relations:?}");
+    println!("left, right, equivalent, unrelated: {picks:?}");
     let totals = errors.map(|inputs: [usize; 3]| inputs.iter().sum::<usize>());
     println!("errors 1 to 16: {:?}", &totals[1..]);
     println!("errors 1 to 16 by input: {:?}", &errors[1..]);
-    assert!(operations.iter().chain(&relations).all(|&count| count > CALLS / 100));
+    assert!(operations.iter().chain(&relations).chain(&picks).all(|&count| count > CALLS / 100));
     assert!(marks[1..].iter().all(|&count| count > CALLS / 100), "{marks:?}");
     assert!(totals[1..].iter().all(|&count| count > CALLS / 1_000), "{totals:?}");
     let term_errors = [2, 9, 10, 14, 15];
@@ -167,7 +179,7 @@ fn refused_calls_leave_their_output() {
             Reply::Encode(Ok(len), bytes) => assert!(bytes[len..].iter().all(|&byte| byte == UNTOUCHED)),
             Reply::Mark(Ok(marked), bytes) => assert!(bytes[marked.rules..].iter().all(|&byte| byte == UNTOUCHED)),
             Reply::Compare(Ok(comparison)) => assert!(comparison.margin <= 0 || comparison.relation != Relation::Less),
-            Reply::Compare(Err(_)) => {}
+            Reply::Compare(Err(_)) | Reply::Pick(_) => {}
         }
     }
 }

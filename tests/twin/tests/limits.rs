@@ -4,7 +4,7 @@ mod packing;
 
 use packing::{book, header, node, pack, symbol, variable, FILLER, SHEET};
 use twin::generate::{Book, Random, Signature};
-use twin::{compare, decode, encode, mark, Comparison, Error, Marked, Relation};
+use twin::{compare, decode, encode, mark, pick, Comparison, Error, Marked, Pick, Relation};
 
 #[test]
 fn an_encoded_book_has_at_most_32_768_bytes() {
@@ -91,4 +91,20 @@ fn a_side_may_weigh_128_times_the_greatest_weight() {
     let full = [[1; 127].as_slice(), &[0]].concat();
     let reply = compare(&packed, &[0], &full).unwrap();
     assert_eq!(reply, Comparison { relation: Relation::Less, margin: -127 * 65_535 });
+}
+
+#[test]
+fn a_picked_term_of_128_nodes_may_be_followed() {
+    let packed = book(0, &[]);
+    let full = [[1; 127].as_slice(), &[0]].concat();
+    for after in [&[][..], &[0], &[1], &[256], &[999; 3]] {
+        let followed = [&full, after].concat();
+        assert_eq!(pick(&packed, &followed, &[0]), Ok(Pick::Left(128)));
+        assert_eq!(pick(&packed, &[0], &followed), Ok(Pick::Right(128)));
+        assert_eq!(pick(&packed, &followed, &full), Ok(Pick::Equivalent));
+        // The 129th node is refused whatever stands there.
+        let longer = [[1; 128].as_slice(), after].concat();
+        assert_eq!(pick(&packed, &longer, &followed), Err(Error { code: 10, input: 1, offset: 128 }));
+        assert_eq!(pick(&packed, &followed, &longer), Err(Error { code: 10, input: 2, offset: 128 }));
+    }
 }

@@ -3,9 +3,10 @@
 mod oracle;
 
 use twin::format::System;
-use twin::generate::{Book, Random, Signature, Tree};
+use twin::generate::{followed, Book, Random, Signature, Tree};
 use twin::order::{Comparer, Relation};
 use twin::table::{Table, MAX_NODES};
+use twin::{pick, Pick};
 
 const SEED: u64 = 20_150_312;
 const CASES: usize = 20_000;
@@ -85,6 +86,27 @@ fn marks_and_margins_agree_with_the_slow_order() {
         counts[orientation as usize] += 1;
     });
     assert!(counts[1..].iter().all(|&count| count > CASES / 100), "{counts:?}");
+}
+
+#[test]
+fn picks_agree_with_the_slow_order() {
+    let mut picked = [0; 2];
+    for_all(false, |random, signature, _| {
+        let (left, right) = pair(random, signature);
+        let expected = match (oracle::mark(signature, &left, &right), oracle::mark(signature, &right, &left)) {
+            (1..=6, _) => Pick::Left(left.size()),
+            (_, 1..=6) => Pick::Right(right.size()),
+            (9, _) => Pick::Equivalent,
+            _ => Pick::Unrelated,
+        };
+        let book = Book::empty(signature.clone()).packed();
+        let (s, t) = (left.words(), right.words());
+        assert_eq!(pick(&book, &s, &t), Ok(expected), "{signature:?} {left:?} {right:?}");
+        assert_eq!(pick(&book, &followed(random, &s), &followed(random, &t)), Ok(expected), "words after a term");
+        picked[0] += usize::from(matches!(expected, Pick::Left(_)));
+        picked[1] += usize::from(matches!(expected, Pick::Right(_)));
+    });
+    assert!(picked.iter().all(|&count| count > CASES / 20), "{picked:?}");
 }
 
 #[test]

@@ -3,7 +3,7 @@
 mod packing;
 
 use packing::{book, header, node, pack, symbol, variable, FILLER, SHEET};
-use twin::{compare, decode, encode, mark, Comparison, Error, Marked, Relation};
+use twin::{compare, decode, encode, mark, pick, Comparison, Error, Marked, Pick, Relation};
 
 /// The first bit of the rules in `book`.
 const RULES_AT: usize = 38 + 2 * 28;
@@ -15,7 +15,7 @@ fn sheet(nodes: &[u16]) -> Vec<u16> {
     words
 }
 
-/// Decoding, comparing and marking refuse a packed book alike and change nothing.
+/// Every operation on a packed book refuses it alike and changes nothing.
 fn refuse_packed(packed: &[u8], code: u8, offset: usize) {
     let error = Error { code, input: 0, offset };
     let mut words = [u16::from(FILLER); 400];
@@ -28,6 +28,8 @@ fn refuse_packed(packed: &[u8], code: u8, offset: usize) {
     assert_eq!(mark(packed, &mut []), Err(error), "the book comes before the marks");
     assert_eq!(compare(packed, &[0], &[0]), Err(error));
     assert_eq!(compare(packed, &[], &[999]), Err(error), "the book comes before the terms");
+    assert_eq!(pick(packed, &[0], &[0]), Err(error));
+    assert_eq!(pick(packed, &[], &[999]), Err(error), "the book comes before the terms");
     assert_eq!(twin::report(packed), format!("refusal {code} {offset}\n").into_bytes());
 }
 
@@ -167,23 +169,19 @@ fn the_first_fault_of_words_is_given() {
     refuse_words(&[SHEET[..3].to_vec(), vec![0, 0, 0, 1, 7, 1, 0, 1, 7, 5]].concat(), 8, 11);
 }
 
+/// Words that do not begin with a term over the two symbols of `book`, with the error and its offset.
+const BAD_TERMS: [(&[u16], u8, usize); 6] =
+    [(&[], 2, 0), (&[1, 1], 2, 2), (&[272, 9], 14, 0), (&[1, u16::MAX], 14, 1), (&[2], 9, 0), (&[1, 255, 999], 9, 1)];
+/// A term followed by other words, with the error of what must be one term, and its offset.
+const FOLLOWED_TERMS: [(&[u16], u8, usize); 2] = [(&[0, 999], 15, 1), (&[256, 0, 0], 15, 1)];
+
 #[test]
 fn terms_are_checked_left_before_right() {
     let packed = book(0, &[]);
     let refuse = |left: &[u16], right: &[u16], code, input, offset| {
         assert_eq!(compare(&packed, left, right), Err(Error { code, input, offset }), "{left:?} {right:?}");
     };
-    let bad: [(&[u16], u8, usize); 8] = [
-        (&[], 2, 0),
-        (&[1, 1], 2, 2),
-        (&[272, 9], 14, 0),
-        (&[1, u16::MAX], 14, 1),
-        (&[2], 9, 0),
-        (&[1, 255, 999], 9, 1),
-        (&[0, 999], 15, 1),
-        (&[256, 0, 0], 15, 1),
-    ];
-    for (term, code, offset) in bad {
+    for (term, code, offset) in BAD_TERMS.into_iter().chain(FOLLOWED_TERMS) {
         refuse(term, &[0], code, 1, offset);
         refuse(term, &[999], code, 1, offset);
         refuse(&[0], term, code, 2, offset);
@@ -199,6 +197,20 @@ fn terms_are_checked_left_before_right() {
     // The rules and the padding of the book are read too.
     let refused = Error { code: 11, input: 0, offset: RULES_AT };
     assert_eq!(compare(&book(0, &[(1, 2)]), &[], &[]), Err(refused));
+}
+
+#[test]
+fn terms_to_pick_from_are_checked_left_before_right() {
+    let packed = book(0, &[]);
+    for (term, code, offset) in BAD_TERMS {
+        let [left, right] = [1, 2].map(|input| Err(Error { code, input, offset }));
+        assert_eq!(pick(&packed, term, &[0]), left, "{term:?}");
+        assert_eq!(pick(&packed, term, &[999]), left, "{term:?}");
+        assert_eq!(pick(&packed, &[0], term), right, "{term:?}");
+        assert_eq!(pick(&packed, &[0, 999], term), right, "{term:?}");
+    }
+    assert_eq!(pick(&packed, &[0, 999], &[1, 0, 999]), Ok(Pick::Right(2)));
+    assert_eq!(pick(&packed, &[1, 256, 0], &[256, 0, 0]), Ok(Pick::Left(2)));
 }
 
 #[test]

@@ -1,8 +1,8 @@
-//! Whole calls of the four operations, with outputs of every length.
+//! Whole calls of the operations, with outputs of every length.
 
-use super::{damaged_packed, damaged_term, damaged_words, Book, Random};
+use super::{damaged_packed, damaged_term, damaged_words, followed, Book, Random};
 use crate::table::MAX_NODES;
-use crate::{compare, decode, encode, mark, Comparison, Error, Marked};
+use crate::{compare, decode, encode, mark, pick, Comparison, Error, Marked, Pick};
 
 /// The rules of most generated rule files.
 const FEW_RULES: usize = 24;
@@ -16,6 +16,7 @@ pub enum Call {
     Encode { words: Vec<u16>, room: usize },
     Compare { book: Vec<u8>, left: Vec<u16>, right: Vec<u16> },
     Mark { book: Vec<u8>, room: usize },
+    Pick { book: Vec<u8>, left: Vec<u16>, right: Vec<u16> },
 }
 
 /// The reply to a call, and the output after it; the output held `UNTOUCHED` in each place before.
@@ -25,6 +26,7 @@ pub enum Reply {
     Encode(Result<usize, Error>, Vec<u8>),
     Compare(Result<Comparison, Error>),
     Mark(Result<Marked, Error>, Vec<u8>),
+    Pick(Result<Pick, Error>),
 }
 
 impl Call {
@@ -44,6 +46,7 @@ impl Call {
                 let mut marks = vec![UNTOUCHED; *room];
                 Reply::Mark(mark(book, &mut marks), marks)
             }
+            Call::Pick { book, left, right } => Reply::Pick(pick(book, left, right)),
         }
     }
 }
@@ -55,6 +58,7 @@ impl Reply {
             Reply::Decode(result, _) | Reply::Encode(result, _) => result.err(),
             Reply::Compare(result) => result.err(),
             Reply::Mark(result, _) => result.err(),
+            Reply::Pick(result) => result.err(),
         }
     }
 }
@@ -64,17 +68,21 @@ pub fn call(random: &mut Random) -> Call {
     let many_rules = random.one_in(2);
     let book = if random.one_in(256) { Book::largest(random, many_rules) } else { Book::random(random, FEW_RULES) };
     let intact = random.one_in(2);
-    match random.below(4) {
+    match random.below(5) {
         0 => {
             let packed = if intact { book.packed() } else { damaged_packed(random, &book) };
             Call::Decode { book: packed, room: room(random, book.words().len()) }
         }
         1 => encode_call(random, &book, intact),
-        2 => compare_call(random, &book, intact),
-        _ => {
+        2 => {
+            let (book, left, right) = terms(random, &book, intact);
+            Call::Compare { book, left, right }
+        }
+        3 => {
             let packed = if intact { book.packed() } else { damaged_packed(random, &book) };
             Call::Mark { book: packed, room: room(random, book.rules.len()) }
         }
+        _ => pick_call(random, &book, intact),
     }
 }
 
@@ -104,8 +112,19 @@ fn overlong_words(random: &mut Random) -> Vec<u16> {
     book.words()
 }
 
-/// Terms aimed at a mark, or random ones, at times too long or otherwise at fault.
-fn compare_call(random: &mut Random, book: &Book, intact: bool) -> Call {
+/// Terms at times followed by other words.
+fn pick_call(random: &mut Random, book: &Book, intact: bool) -> Call {
+    let (book, mut left, mut right) = terms(random, book, intact);
+    for term in [&mut left, &mut right] {
+        if random.one_in(2) {
+            *term = followed(random, term);
+        }
+    }
+    Call::Pick { book, left, right }
+}
+
+/// A packed rule file and two terms: aimed at a mark, or random ones, at times too long or otherwise at fault.
+fn terms(random: &mut Random, book: &Book, intact: bool) -> (Vec<u8>, Vec<u16>, Vec<u16>) {
     let mark = random.between(1, 11) as u8;
     let size = if random.one_in(8) { MAX_NODES / 4 } else { 8 };
     let (left, right) = book.signature.pair_in_context(random, mark, size);
@@ -126,5 +145,5 @@ fn compare_call(random: &mut Random, book: &Book, intact: bool) -> Call {
             }
         }
     }
-    Call::Compare { book: packed, left, right }
+    (packed, left, right)
 }

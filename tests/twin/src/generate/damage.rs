@@ -53,6 +53,18 @@ pub fn damaged_term(random: &mut Random, book: &Book, term: &[u16]) -> Vec<u16> 
     words
 }
 
+/// The words of a term and some after it: of one value that nodes have or lack, or of any values.
+pub fn followed(random: &mut Random, term: &[u16]) -> Vec<u16> {
+    let count = if random.one_in(8) { MAX_NODES } else { random.between(1, 4) };
+    let any = |random: &mut Random| random.bits() as u16;
+    let drawn = [0, FIRST_VARIABLE, LAST_VARIABLE, LAST_VARIABLE + 1, u16::MAX, any(random)];
+    let after: Vec<u16> = match random.choose(&drawn) {
+        Some(&word) if random.one_in(2) => vec![word; count],
+        _ => (0..count).map(|_| any(random)).collect(),
+    };
+    [term, &after].concat()
+}
+
 /// Nodes of one symbol that calls for arguments, at times more than a term may have.
 fn grown(random: &mut Random, book: &Book) -> Vec<u16> {
     let inner = book.signature.numbers(|symbol| symbol.arity > 0);

@@ -4,7 +4,7 @@
 use std::fmt::Debug;
 
 use ackbo::sys;
-use twin::{Comparison, Error, Marked, Relation};
+use twin::{Comparison, Error, Marked, Pick, Relation};
 
 use crate::lent::{pattern, Around, Element, Lent};
 
@@ -13,6 +13,12 @@ const UNWRITTEN: [i64; 3] = [-71, -72, -73];
 
 /// The result of a C function and the three numbers of its reply.
 type Numbers = (u8, [i64; 3]);
+
+/// A C function over a book and two terms.
+type OverTerms = unsafe extern "C" fn(*const u8, usize, *const u16, usize, *const u16, usize, *mut [i64; 3]) -> u8;
+
+/// A book and two terms.
+type Terms<'a> = (&'a [u8], &'a [u16], &'a [u16]);
 
 /// Opens a book into `room` words.
 pub fn decode(book: &[u8], room: usize) -> Result<usize, Error> {
@@ -65,16 +71,28 @@ pub fn mark(book: &[u8], room: usize) -> Result<(Marked, Vec<u8>), Error> {
 /// Compares two terms under a book.
 pub fn compare(book: &[u8], left: &[u16], right: &[u16]) -> Result<Comparison, Error> {
     let result = twin::compare(book, left, right);
-    with_terms(book, left, right, Around::Zeros, |book, left, right| {
-        let (s, t) = (left.as_ptr(), right.as_ptr());
-        let (s_len, t_len) = (left.len(), right.len());
-        let ours = raw(|reply| unsafe { sys::ackbo_compare(book.as_ptr(), book.len(), s, s_len, t, t_len, reply) });
-        let reply = |comparison: Comparison| [relation_number(comparison.relation), comparison.margin, 0];
-        agree(ours, numbers(result, reply), &(book, left, right));
-    });
-    with_terms(book, left, right, Around::Ones, |book, left, right| {
+    let reply = |comparison: Comparison| [relation_number(comparison.relation), comparison.margin, 0];
+    over_terms((book, left, right), sys::ackbo_compare, numbers(result, reply));
+    with_terms((book, left, right), Around::Ones, |(book, left, right)| {
         let ours = ackbo::compare(book, left, right).map_err(error);
         let same = |reply: ackbo::Comparison| Comparison { relation: relation(reply.relation), margin: reply.margin };
+        agree(ours.map(same), result, &(book, left, right));
+    });
+    result
+}
+
+/// Picks the greater of two terms under a book; a part is the front of the words that were lent.
+pub fn pick(book: &[u8], left: &[u16], right: &[u16]) -> Result<Pick, Error> {
+    let result = twin::pick(book, left, right);
+    over_terms((book, left, right), sys::ackbo_pick, numbers(result, pick_numbers));
+    with_terms((book, left, right), Around::Ones, |(book, left, right)| {
+        let ours = ackbo::pick(book, left, right).map_err(error);
+        let same = |side| match side {
+            ackbo::Side::Left(part) => Pick::Left(front_len(part, left)),
+            ackbo::Side::Right(part) => Pick::Right(front_len(part, right)),
+            ackbo::Side::Equivalent => Pick::Equivalent,
+            ackbo::Side::Unrelated => Pick::Unrelated,
+        };
         agree(ours.map(same), result, &(book, left, right));
     });
     result
@@ -90,12 +108,27 @@ fn with_output<A: Element, B: Element>(input: &[A], expected: &[B], around: Arou
     assert!(output == Lent::new(expected, around), "an output of {} is not as expected", expected.len());
 }
 
+/// Calls a C function over a book and two terms, which owes the numbers.
+fn over_terms(terms: Terms, function: OverTerms, owed: Numbers) {
+    with_terms(terms, Around::Zeros, |(book, left, right)| {
+        let (s, t) = (left.as_ptr(), right.as_ptr());
+        let ours = raw(|reply| unsafe { function(book.as_ptr(), book.len(), s, left.len(), t, right.len(), reply) });
+        agree(ours, owed, &(book, left, right));
+    });
+}
+
 /// Lends a book and two terms; afterwards they and all guards are as before.
-fn with_terms(book: &[u8], left: &[u16], right: &[u16], around: Around, call: impl FnOnce(&[u8], &[u16], &[u16])) {
+fn with_terms((book, left, right): Terms, around: Around, call: impl FnOnce(Terms)) {
     let lend = || (Lent::new(book, around), Lent::new(left, around), Lent::new(right, around));
     let lent = lend();
-    call(lent.0.content(), lent.1.content(), lent.2.content());
+    call((lent.0.content(), lent.1.content(), lent.2.content()));
     assert!(lent == lend(), "an input was changed");
+}
+
+/// The length of a part that is the front of some words, in their own memory.
+fn front_len(part: &[u16], words: &[u16]) -> usize {
+    assert!(std::ptr::eq(part, &words[..part.len()]), "a part is not the front of its side");
+    part.len()
 }
 
 fn raw(call: impl FnOnce(*mut [i64; 3]) -> u8) -> Numbers {
@@ -137,5 +170,15 @@ fn relation_number(relation: Relation) -> i64 {
         Relation::Less => 2,
         Relation::Equivalent => 3,
         Relation::Unrelated => 4,
+    }
+}
+
+/// The numbers of a pick in `include/ackbo.h`.
+fn pick_numbers(pick: Pick) -> [i64; 3] {
+    match pick {
+        Pick::Left(count) => [1, count as i64, 0],
+        Pick::Right(count) => [2, count as i64, 0],
+        Pick::Equivalent => [3, 0, 0],
+        Pick::Unrelated => [4, 0, 0],
     }
 }

@@ -86,7 +86,7 @@ fn compare_terms(random: &mut Random, tally: &mut Tally, book: &Book) {
 }
 
 /// A term of 128 nodes or a few less or more, and one that is equivalent, lowered by a symbol, or unlike it.
-fn large_pair(random: &mut Random, signature: &Signature) -> (Vec<u16>, Vec<u16>) {
+pub fn large_pair(random: &mut Random, signature: &Signature) -> (Vec<u16>, Vec<u16>) {
     let size = if random.one_in(8) { MAX_NODES + random.between(1, 80) } else { MAX_NODES };
     let left = signature.sized_words(random, size);
     let tree = Tree::from_words(&signature.symbols, &left);

@@ -1,5 +1,5 @@
 //! The library `libackbo.a` against the twin: every reply and every lent buffer, on valid and on damaged inputs. The
-//! counts of replies and errors are printed, and none of 01's errors and marks may be missing.
+//! counts of replies and errors are printed, and none of the errors, marks and answers may be missing.
 
 mod check;
 mod comparing;
@@ -8,6 +8,7 @@ mod decoding;
 mod encoding;
 mod lent;
 mod marking;
+mod picking;
 mod slices;
 
 /// The seed of all inputs.

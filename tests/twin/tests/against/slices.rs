@@ -22,6 +22,7 @@ fn empty_inputs_agree_with_the_twin() {
     assert_eq!(ackbo::encode(&[], &mut bytes).map_err(error), twin::encode(&[], &mut [7; 4]));
     assert_eq!(ackbo::mark(&[], &mut bytes).map_err(error).err(), twin::mark(&[], &mut [7; 4]).err());
     assert_eq!(ackbo::compare(&[], &[], &[]).map_err(error).err(), twin::compare(&[], &[], &[]).err());
+    assert_eq!(ackbo::pick(&[], &[], &[]).map_err(error).err(), twin::pick(&[], &[], &[]).err());
     assert_eq!((words, bytes), ([7; 4], [7; 4]));
 }
 
@@ -48,6 +49,7 @@ fn empty_terms_agree_with_the_twin() {
             let refused = twin::compare(&book, left, right);
             assert_eq!(code(&refused), 2);
             assert_eq!(ackbo::compare(&book, left, right).map_err(error).err(), refused.err());
+            assert_eq!(ackbo::pick(&book, left, right).map_err(error).err(), refused.err());
         }
     }
 }
@@ -59,6 +61,7 @@ fn a_term_is_equivalent_to_itself_in_one_memory() {
         for term in [left, right] {
             let same = ackbo::Comparison { relation: ackbo::Relation::Equivalent, margin: 0 };
             assert_eq!(ackbo::compare(&family.book(), &term, &term), Ok(same));
+            assert_eq!(ackbo::pick(&family.book(), &term, &term), Ok(ackbo::Side::Equivalent));
         }
     }
 }

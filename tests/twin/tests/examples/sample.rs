@@ -1,6 +1,7 @@
 //! 01's sample and its traps: theories with rules, each with its mark and margin.
 
 use crate::common::{Case, Example, Theory};
+use twin::Pick;
 use twin::Relation::{self, Equivalent, Greater, Less, Unrelated};
 
 /// The sample of 01.
@@ -51,6 +52,20 @@ pub const COMPARISONS: [(&str, &str, Relation, i64); 9] = [
     ("u", "o", Unrelated, 0),
     ("o", "u", Unrelated, 0),
     ("b", "u", Unrelated, 2),
+];
+
+/// Terms of the sample, and what is picked of them.
+pub const PICKS: [(&str, &str, Pick); 10] = [
+    ("u+z", "u", Pick::Left(3)),
+    ("u", "u+z", Pick::Right(3)),
+    ("z", "o", Pick::Left(1)),
+    ("o", "neg(o)", Pick::Right(2)),
+    ("sub(u,o)", "sub(u,z)", Pick::Right(3)),
+    ("(z+z)+z", "z+b", Pick::Left(5)),
+    ("z+o", "o+z", Pick::Equivalent),
+    ("neg(o)+(z+o)", "(o+neg(o))+z", Pick::Equivalent),
+    ("neg(u)+o", "u+neg(o)", Pick::Unrelated),
+    ("b", "u", Pick::Unrelated),
 ];
 
 /// Traps that show in the sample.

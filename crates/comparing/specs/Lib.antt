@@ -1,0 +1,2 @@
+-- What the code of comparing says.
+pub mod Related

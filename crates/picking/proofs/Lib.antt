@@ -1,0 +1,2 @@
+-- Laws of picking the greater term.
+pub mod PickLaws

@@ -122,7 +122,7 @@ fn read_symbol(
 }
 
 // Reads that many symbols into the table, with w0.
-pub fn read_symbols(
+fn read_symbols_from(
     book: &[u8],
     sheet: &[u16],
     packed: bool,
@@ -152,4 +152,26 @@ pub fn read_symbols(
         value: 0,
         next: here,
     }
+}
+
+// The same by one branch on the source, so that the compiler makes a loop for each.
+pub fn read_symbols(
+    book: &[u8],
+    sheet: &[u16],
+    packed: bool,
+    table: &mut [u16],
+    w0: u16,
+    count: usize,
+    at: usize,
+) -> Answer
+    requires { ⌜ (length (now book) ≤ maxBytes) × (count < 256) × (tableWords count ≤ length (now table)) ⌝ }
+    ensures { λ r. ⌜
+        SymbolsPut w0 count
+        (symbolsReader (sourceOf packed (now (book .entry)) (now (sheet .entry))) w0 count [] at) r (now (table .exit))
+        ⌝ }
+{
+    if packed {
+        return read_symbols_from(book, sheet, true, table, w0, count, at);
+    }
+    read_symbols_from(book, sheet, false, table, w0, count, at)
 }

@@ -3,7 +3,7 @@
 --     field-bits, node-bits                    the bits of an item
 --     flat-nil, bits-more, bits-le, bits-mono  the bits of the first items; an item takes at most 16
 --     node-more, two-more, room-one, room-two  one node more, or two, and that there is room for them
---     fields-length                            how many bits the fields take
+--     pair-more, symbol-widths, fields-length  two fields more; how many bits the fields take
 use mathlib.Core.List.{List, [], _∷_, _++_, flatMap, append-nil}
 use mathlib.Core.Path.{_≡_, refl, sym, ap, _∙_}
 use Prim.Native.Nat.{ℕ, suc, zero, _+_, _-_, _*_, _%_, _≤_, _<_}
@@ -143,6 +143,34 @@ module _ (words : List ℕ) (nodes : ℕ) where
   field-more i j w e h k =
       length-more i j e ∙ rw (field-bits i h, length-bits (fieldWidth i) (getD words i 0), k)
 
+  -- Two fields of widths m and n more, for which there is room.
+  pub pair-more : (i m n : ℕ) → i + 1 < nodes → fieldWidth i ≡ m → fieldWidth (i + 1) ≡ n →
+      (bitsTo words nodes (i + 2)
+      ≡ (bitsTo words nodes i ++ bitsOf m (getD words i 0)) ++ bitsOf n (getD words (i + 1) 0))
+      × (length (bitsTo words nodes i) + m + n ≤ length (bitsTo words nodes nodes))
+  pair-more i m n h e f =
+      let k : i + 2 ≡ i + 1 + 1 = omega arith in (
+        rw (k, bits-more (i + 1), bits-more i, field-bits i (omega arith), field-bits (i + 1) h, e, f),
+        omega (
+          arith,
+          field-more i (i + 1) m refl (omega arith) e,
+          field-more (i + 1) (i + 2) n k h f,
+          bits-mono (i + 2) nodes (omega arith),
+        ),
+      )
+
+  pub symbol-widths : (i : ℕ) → i % 4 ≡ 0 → 4 ≤ i → (fieldWidth i ≡ 3) × (fieldWidth (i + 1) ≡ 1)
+      × (fieldWidth (i + 2) ≡ 16) × (fieldWidth (i + 2 + 1) ≡ 8)
+  symbol-widths i e h =
+      let e₁ : (i + 1) % 4 ≡ 1 = omega arith in
+      let e₂ : (i + 2) % 4 ≡ 2 = omega arith in
+      let e₃ : (i + 2 + 1) % 4 ≡ 3 = omega arith in (
+        rw (le-ltb i 4 h, e),
+        rw (le-ltb (i + 1) 4 (omega arith), e₁),
+        rw (le-ltb (i + 2) 4 (omega arith), e₂),
+        rw (le-ltb (i + 2 + 1) 4 (omega arith), e₃),
+      )
+
   header-length : 4 ≤ nodes → length (bitsTo words nodes 4) ≡ 38
   unfolding flatMap
   header-length h = omega (
@@ -156,15 +184,13 @@ module _ (words : List ℕ) (nodes : ℕ) where
   symbol-more : (i : ℕ) → i % 4 ≡ 0 → 4 ≤ i → i + 4 ≤ nodes →
       length (bitsTo words nodes (i + 4)) ≡ length (bitsTo words nodes i) + 28
   symbol-more i e h k =
-      let e₁ : (i + 1) % 4 ≡ 1 = omega arith in
-      let e₂ : (i + 2) % 4 ≡ 2 = omega arith in
-      let e₃ : (i + 3) % 4 ≡ 3 = omega arith in
+      let (arity, ac, weight, rank) = symbol-widths i e h in
       omega (
         arith,
-        field-more i (i + 1) 3 refl (omega arith) (rw (le-ltb i 4 h, e)),
-        field-more (i + 1) (i + 2) 1 (omega arith) (omega arith) (rw (le-ltb (i + 1) 4 (omega arith), e₁)),
-        field-more (i + 2) (i + 3) 16 (omega arith) (omega arith) (rw (le-ltb (i + 2) 4 (omega arith), e₂)),
-        field-more (i + 3) (i + 4) 8 (omega arith) (omega arith) (rw (le-ltb (i + 3) 4 (omega arith), e₃)),
+        field-more i (i + 1) 3 refl (omega arith) arity,
+        field-more (i + 1) (i + 2) 1 (omega arith) (omega arith) ac,
+        field-more (i + 2) (i + 2 + 1) 16 refl (omega arith) weight,
+        field-more (i + 2 + 1) (i + 4) 8 (omega arith) (omega arith) rank,
       )
 
   -- A header takes 38 bits, a symbol 28.

@@ -2,20 +2,13 @@
 ghost use mathlib.Core.Path.{_≡_};
 ghost use mathlib.Core.List.{List, _++_};
 ghost use Prim.Native.Nat.{ℕ, _+_, _*_, _^_, _<_, _≤_};
-ghost use lib.ListN.{length};
+ghost use lib.ListN.{length, getD};
 ghost use lib.Seq.{sets};
 ghost use Rattle.format.specs.Packing.{bitsOf, itemBits, bytesOf};
 ghost use Rattle.format.specs.Packing.Item.{node};
 ghost use Rattle.writer.specs.Writer.{Writes};
-ghost use Rattle.encoder.specs.Items.{fieldWidth, bitsTo};
-use format::AC_WIDTH;
-use format::ARITY_WIDTH;
+ghost use Rattle.encoder.specs.Items.{bitsTo};
 use format::FIRST_VARIABLE;
-use format::FORM_WIDTH;
-use format::RANK_WIDTH;
-use format::RULE_COUNT_WIDTH;
-use format::SYMBOL_COUNT_WIDTH;
-use format::WEIGHT_WIDTH;
 use writer::BitWriter;
 use writer::last_bits;
 
@@ -25,27 +18,6 @@ const HEADER_BITS: usize = 38;
 const SYMBOL_BITS: usize = 28;
 
 const SYMBOL_NODE_BITS: usize = 9;
-
-// The width of the field at word i, in the header or in a symbol.
-fn field_width(i: usize) -> usize
-    ensures { λ r. ⌜ (r ≡ fieldWidth i) × (r ≤ 16) ⌝ }
-{
-    if i < 4 {
-        match i {
-            0 => FORM_WIDTH,
-            1 => SYMBOL_COUNT_WIDTH,
-            2 => WEIGHT_WIDTH,
-            _ => RULE_COUNT_WIDTH,
-        }
-    } else {
-        match i % 4 {
-            0 => ARITY_WIDTH,
-            1 => AC_WIDTH,
-            2 => WEIGHT_WIDTH,
-            _ => RANK_WIDTH,
-        }
-    }
-}
 
 // The tag of a node: 1 for a variable, which takes four bits fewer than a symbol.
 fn tag(word: u16) -> u32
@@ -89,25 +61,79 @@ pub fn packed_bits(words: &[u16], symbols: usize, nodes: usize) -> usize
         - 4 * variables as usize
 }
 
-// Writes the bits of the fields, which are before word `nodes`, to the front of the bytes.
+// Writes the bits of two fields, of those widths, from word i on.
+fn write_pair(
+    writer: BitWriter,
+    words: &[u16],
+    i: usize,
+    m: usize,
+    n: usize,
+    bytes: &mut [u8],
+) -> BitWriter
+    requires { ⌜ (i + 1 < length (now words)) × (m ≤ 16) × (n ≤ 16) ⌝ }
+    requires { ⌜ (writer .count < 32) × (writer .pending < 2 ^ writer .count) ⌝ }
+    requires { ⌜ 8 * writer .stored + writer .count + m + n ≤ 8 * length (now bytes) ⌝ }
+    ensures { λ r. ⌜ r .count < 32 ⌝ }
+    ensures { λ r. ⌜
+        ((old bits : List ℕ) → Writes old bits writer (now (bytes .entry)) →
+        Writes old
+        ((bits ++ bitsOf m (getD (now (words .entry)) i 0)) ++ bitsOf n (getD (now (words .entry)) (i + 1) 0)) r
+        (now (bytes .exit)))
+        ⌝ }
+{
+    let first = last_bits(words[i], m);
+    writer.put_two(bytes, m, first, n, last_bits(words[i + 1], n))
+}
+
+// Writes the bits of the fields, those of the header and of so many symbols, to the front of the bytes.
 fn write_fields(words: &[u16], nodes: usize, bytes: &mut [u8]) -> BitWriter
-    requires { ⌜ nodes ≤ length (now words) ⌝ }
+    requires { ⌜ ((symbols : ℕ) × (nodes ≡ 4 + 4 * symbols)) × (nodes ≤ length (now words)) ⌝ }
     requires { ⌜ length (bitsTo (now words) nodes nodes) ≤ 8 * length (now bytes) ⌝ }
     ensures { λ r. ⌜ r .count < 32 ⌝ }
     ensures { λ r. ⌜
         Writes (now (bytes .entry)) (bitsTo (now (words .entry)) nodes nodes) r (now (bytes .exit))
         ⌝ }
 {
-    let mut writer = BitWriter {
+    let start = BitWriter {
         stored: 0,
         pending: 0,
         count: 0,
     };
-    let mut i = 0;
+    let half = write_pair(
+        start,
+        words,
+        0,
+        format::FORM_WIDTH,
+        format::SYMBOL_COUNT_WIDTH,
+        bytes,
+    );
+    let mut writer = write_pair(
+        half,
+        words,
+        2,
+        format::WEIGHT_WIDTH,
+        format::RULE_COUNT_WIDTH,
+        bytes,
+    );
+    let mut i = 4;
     while i < nodes {
-        let width = field_width(i);
-        writer = writer.put(bytes, width, last_bits(words[i], width));
-        i += 1;
+        let front = write_pair(
+            writer,
+            words,
+            i,
+            format::ARITY_WIDTH,
+            format::AC_WIDTH,
+            bytes,
+        );
+        writer = write_pair(
+            front,
+            words,
+            i + 2,
+            format::WEIGHT_WIDTH,
+            format::RANK_WIDTH,
+            bytes,
+        );
+        i += 4;
     }
     writer
 }
@@ -149,7 +175,7 @@ fn write_two(writer: BitWriter, first: u16, second: u16, bytes: &mut [u8]) -> Bi
 
 // Writes the bits of all items, with zeros up to a whole byte, to the front of the bytes; the nodes two by two.
 pub fn write_items(words: &[u16], nodes: usize, bytes: &mut [u8])
-    requires { ⌜ nodes ≤ length (now words) ⌝ }
+    requires { ⌜ ((symbols : ℕ) × (nodes ≡ 4 + 4 * symbols)) × (nodes ≤ length (now words)) ⌝ }
     requires { ⌜ length (bitsTo (now words) nodes (length (now words))) ≤ 8 * length (now bytes) ⌝ }
     ensures { λ _. ⌜
         now (bytes .exit)

@@ -73,7 +73,7 @@ write-items-requires c κs =
     let a = c15 .args in
     let (file, end, read, parts) = rw (c5 .symbols .given .1) at (c9 .read-file .ensures) in
     let listed = file-listed (a .words .now) _ _ _ file end _ _ _ _ (sym (read-words (a .words .now)) ∙ read) parts in
-    (listed .within, omega (arith, rw (c3 .packed-bits .ensures) at (c .before .if2 .left)))
+    (((_, listed .begin), listed .within), omega (arith, rw (c3 .packed-bits .ensures) at (c .before .if2 .left)))
 
 returns-3 : tie.Need-returns-3
 unfolding entryWords

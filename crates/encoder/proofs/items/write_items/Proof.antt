@@ -28,7 +28,7 @@ write-fields-requires c κs =
     let c3 = c .before .before .before in
     let l = c3 .args .words .now in
     let n = c3 .args .nodes in
-    (c3 .pre .0, omega (arith, bits-mono l n n (length l) (c3 .pre .0)))
+    (c3 .pre .0, omega (arith, bits-mono l n n (length l) (c3 .pre .0 .1)))
 
 loop-holds : tie.Need-loop-holds Inv-loop μ-loop
 loop-holds c = (omega arith, omega arith, refl, c .before .before .write-fields .ensures .0, λ old h. h)

@@ -164,8 +164,7 @@ fn read_rest(
         (now (words .entry)) (now (words .exit))
         ⌝ }
 {
-    let arities = symbols::arities(table);
-    match read_rules(book, sheet, packed, &arities, words, count, at) {
+    match read_rules(book, sheet, packed, table, words, count, at) {
         Answer::Fault { code, offset } => Answer::Fault { code, offset },
         Answer::Got { value, next } => match end(book, sheet, packed, next) {
             Answer::Fault { code, offset } => Answer::Fault { code, offset },

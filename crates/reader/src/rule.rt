@@ -6,6 +6,7 @@ ghost use Rattle.terms.specs.Signature.{Signature};
 ghost use Rattle.format.specs.Layout.{maxBytes};
 ghost use Rattle.format.specs.Reading.{bitSource, wordSource};
 ghost use Rattle.format.specs.Format.{ruleReader, rulesReader};
+ghost use Rattle.symbols.specs.Table.{signatureOf, maxTableWords};
 ghost use Rattle.symbols.specs.Arities.{Arities};
 ghost use Rattle.answers.specs.Answer.{endOf};
 ghost use Rattle.sides.specs.Side.{WordsRead, rulesWords};
@@ -89,28 +90,27 @@ fn read_word_rules(arities: &[u32; NODE_WORDS], sheet: &[u16], count: usize, at:
     }
 }
 
-// Reads that many rules; the value is how many words are stored.
+// Reads that many rules under a symbol table; the value is how many words are stored.
 pub fn read_rules(
     book: &[u8],
     sheet: &[u16],
     packed: bool,
-    arities: &[u32; NODE_WORDS],
+    table: &[u16],
     words: &mut [u16],
     count: usize,
     at: usize,
 ) -> Answer
-    requires { ⌜ (length (now book) ≤ maxBytes) × (count < 1024) ⌝ }
+    requires { ⌜ (length (now book) ≤ maxBytes) × (length (now table) ≤ maxTableWords) × (count < 1024) ⌝ }
     requires { ⌜ ((fields : ℕ) × (fields ≤ 2 ^ 16) × Reached packed (now book) (now sheet) fields at) ⌝ }
-    requires { ⌜ ((σ : Signature) × Arities σ (now arities)) ⌝ }
     ensures { λ r. ⌜
-        ((σ : Signature) → Arities σ (now (arities .entry)) →
         WordsRead (storedWords packed)
-        (rulesReader (sourceOf packed (now (book .entry)) (now (sheet .entry))) σ count at)
-        0 (now (words .entry)) r (now (words .exit)))
+        (rulesReader (sourceOf packed (now (book .entry)) (now (sheet .entry))) (signatureOf (now (table .entry)))
+        count at)
+        0 (now (words .entry)) r (now (words .exit))
         ⌝ }
 {
     if packed {
-        return read_packed_rules(book, arities, words, count, at);
+        return read_packed_rules(book, &symbols::arities(table), words, count, at);
     }
-    read_word_rules(arities, sheet, count, at)
+    read_word_rules(&symbols::arities(table), sheet, count, at)
 }

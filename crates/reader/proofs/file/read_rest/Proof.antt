@@ -6,41 +6,23 @@ use borrow.Author.Needs.{needs}
 use Rattle.reader.proofs.file.read_rest.Statement.{statement}
 use Rattle.reader.proofs.file.read_rest.Tie as tie
 
-read-rules-requires : tie.Need-read-rules-requires
-read-rules-requires c κs =
-    let c7 = c .before .before .before .before .before .before .before in (
-      (c7 .pre .0 .0, c7 .pre .0 .2),
-      (
-        c7 .pre .1,
-        (
-          signatureOf (c7 .args .table .now),
-          c .before .before .arities
-              .ensures,
-        ),
-      ),
-    )
-
 returns : tie.Need-returns
 returns c =
     let c5 = c .before .before .before .before .before in
-    let c8 = c5 .before .before .before in
-    let c13 = c8 .before .before .before .before .before in
-    let a = c13 .args in
-    let σ = signatureOf (a .table .now) in
-    rest-unread (a .packed) (a .book .now) (a .sheet .now) σ (a .count) (a .at) _ _
-    (rw (c .before .offset .given .1) at (c5 .read-rules .ensures σ (c8 .arities .ensures)))
+    let c11 = c5 .before .before .before .before .before .before in
+    let a = c11 .args in
+    rest-unread (a .packed) (a .book .now) (a .sheet .now) (signatureOf (a .table .now)) (a .count) (a .at) _ _
+    (rw (c .before .offset .given .1) at (c5 .read-rules .ensures))
 
 returns-2 : tie.Need-returns-2
 returns-2 c =
     let c3 = c .before .before .before in
     let c5 = c3 .before .before in
     let c9 = c5 .before .before .before .before in
-    let c12 = c9 .before .before .before in
-    let c17 = c12 .before .before .before .before .before in
-    let a = c17 .args in
-    let σ = signatureOf (a .table .now) in
-    let (rules, e, long, stored) = rw (c5 .value .given .1) at (c9 .read-rules .ensures σ (c12 .arities .ensures)) in
-    rest-unended (a .packed) (a .book .now) (a .sheet .now) σ (a .count) (a .at) rules _ e _ _
+    let c15 = c9 .before .before .before .before .before .before in
+    let a = c15 .args in
+    let (rules, e, long, stored) = rw (c5 .value .given .1) at (c9 .read-rules .ensures) in
+    rest-unended (a .packed) (a .book .now) (a .sheet .now) (signatureOf (a .table .now)) (a .count) (a .at) rules _ e _ _
     (sym (rw (c .before .offset2 .given .1) at (c3 .end .ensures)))
 
 returns-3 : tie.Need-returns-3
@@ -48,13 +30,10 @@ returns-3 c =
     let c3 = c .before .before .before in
     let c5 = c3 .before .before in
     let c9 = c5 .before .before .before .before in
-    let c12 = c9 .before .before .before in
-    let c17 = c12 .before .before .before .before .before in
-    let a = c17 .args in
-    let σ = signatureOf (a .table .now) in
-    rest-read (a .packed) (a .book .now) (a .sheet .now) σ (a .count) (a .at) _ _ _ (a .words .now)
-    (c9 .read-rules .last .1 .1 .1 .1 .0) (rw (c5 .value .given .1) at (c9 .read-rules .ensures σ (c12 .arities
-    .ensures)))
+    let c15 = c9 .before .before .before .before .before .before in
+    let a = c15 .args in
+    rest-read (a .packed) (a .book .now) (a .sheet .now) (signatureOf (a .table .now)) (a .count) (a .at) _ _ _
+    (a .words .now) (c9 .read-rules .last .1 .1 .1 .1 .0) (rw (c5 .value .given .1) at (c9 .read-rules .ensures))
     (sym (rw (c .before .none .given .1) at (c3 .end .ensures)))
 
 pub read-rest-spec : {M : Type 1} → statement M
@@ -62,7 +41,6 @@ read-rest-spec =
     tie.close
     (tie.spec
     (λ c κs. search needs)
-    read-rules-requires
     (λ c. search needs)
     (λ c. search needs)
     (λ c κs. search needs)

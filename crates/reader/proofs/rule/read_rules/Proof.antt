@@ -4,6 +4,7 @@ use mathlib.Core.Path.{refl, sym, ap, _∙_}
 use native.Mathlib.Omega.{arith}
 use Rattle.format.specs.Reading.{wordSource}
 use Rattle.format.specs.Format.{rulesReader}
+use Rattle.symbols.specs.Table.{signatureOf}
 use Rattle.reader.specs.Source.{sourceOf, Reached}
 use Rattle.reader.specs.File.{storedWords}
 use Rattle.reader.proofs.RuleLaws.{words-kept}
@@ -14,33 +15,43 @@ use Rattle.reader.proofs.rule.read_rules.Tie as tie
 read-packed-rules-requires : tie.Need-read-packed-rules-requires
 unfolding sourceOf storedWords Reached
 read-packed-rules-requires c κs =
-    let c5 = c .before .before .before .before .before in
-    let (fields, few, reached) = c5 .pre .1 .0 in
-    (c5 .pre .0 .0, rw (c .before .if1 .taken) at reached, c5 .pre .0 .1)
+    let c3 = c .before .before .before in
+    let c8 = c3 .before .before .before .before .before in
+    let (fields, few, reached) = c8 .pre .1 in
+    (c8 .pre .0 .0, rw (c3 .if1 .taken) at reached, c8 .pre .0 .2)
 
 returns : tie.Need-returns
 unfolding sourceOf storedWords Reached
 returns c =
-    let c4 = c .before .before .before .before in
-    λ σ k. rw (c4 .if1 .taken) (c .before .before .read-packed-rules .ensures σ k)
+    let c5 = c .before .before .before .before .before in
+    let c6 = c5 .before in
+    rw (c6 .if1 .taken) (c .before .before .read-packed-rules .ensures _ (c5 .arities .ensures))
 
 read-word-rules-requires : tie.Need-read-word-rules-requires
 unfolding sourceOf storedWords Reached
 read-word-rules-requires c κs =
-    let c4 = c .before .before .before .before in
-    let (fields, few, reached) = c4 .pre .1 .0 in
-    let at = rw (c .if1 .left) at reached in
-    ((omega (arith, at .0, few), c4 .pre .0 .1), c4 .pre .1 .1)
+    let c7 = c .before .before .before .before .before .before .before in
+    let (fields, few, reached) = c7 .pre .1 in
+    let at = rw (c .before .before .if1 .left) at reached in
+    ((omega (arith, at .0, few), c7 .pre .0 .2), (signatureOf (c7 .args .table .now), c .before .arities2 .ensures))
 
 returns-2 : tie.Need-returns-2
 unfolding sourceOf storedWords Reached
 returns-2 c =
-    let c5 = c .before .before .before .before .before in
-    let a = c5 .args in
-    λ σ k. rw (c .before .if1 .left, c .read-word-rules .ensures σ k)
-    (words-kept (rulesReader (wordSource (a .sheet .now)) σ (a .count) (a .at)) (a .words .now))
+    let c3 = c .before .before .before in
+    let c8 = c3 .before .before .before .before .before in
+    let a = c8 .args in
+    rw (c3 .if1 .left, c .read-word-rules .ensures (signatureOf (a .table .now)) (c .before .before .arities2 .ensures))
+    (words-kept (rulesReader (wordSource (a .sheet .now)) (signatureOf (a .table .now)) (a .count) (a .at)) (a .words .now))
 
 pub read-rules-spec : {M : Type 1} → statement M
 read-rules-spec =
     tie.close
-    (tie.spec read-packed-rules-requires (λ c. search needs) returns read-word-rules-requires returns-2)
+    (tie.spec
+    (λ c κs. search needs)
+    read-packed-rules-requires
+    (λ c. search needs)
+    returns
+    (λ c κs. search needs)
+    read-word-rules-requires
+    returns-2)

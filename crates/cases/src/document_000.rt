@@ -1,9 +1,7 @@
 // The examples of the article 000.
 // A sheet has a line for the header, each symbol (arity, AC mark, weight, rank) and each rule (left side, right side).
 use crate::print::print;
-use crate::print::print_numbers;
 use crate::print::show;
-use crate::print::show_sheet;
 
 // 000, example 5.3: f > + > g > a > b > h.
 #[rattlefmt::skip]
@@ -103,13 +101,13 @@ fn show_clause(p: u16, q: u16, r: u16, d: u16, e0: u16, e1: u16, e2: u16) {
     sheet[38] = e0;
     sheet[42] = e1;
     sheet[46] = e2;
-    show_sheet(&sheet);
+    crate::print::show_sheet(&sheet);
 }
 
 // Where x alone is false, so is the clause.
 fn show_false(e0: u16, e1: u16, e2: u16) {
     print(b"document 000, example 6.6, x alone false, ");
-    print_numbers(e0 as u64, e1 as u64, e2 as u64);
+    crate::print::print_numbers(e0 as u64, e1 as u64, e2 as u64);
     show_clause(3, 12, 13, 1, e0, e1, e2);
 }
 

@@ -2,7 +2,6 @@
 // A sheet has a line for the header, each symbol (arity, AC mark, weight, rank) and each rule (left side, right side).
 use crate::print::print;
 use crate::print::show;
-use crate::print::show_sheet;
 
 // 000, examples 4.5, 4.8 and 4.11, and 004, examples 3.7 and 3.9, f of weight 1, not 0.
 #[rattlefmt::skip]
@@ -34,7 +33,7 @@ fn show_r1(a: u16, plus: u16, weight: u16) {
     sheet[7] = a;
     sheet[10] = weight;
     sheet[11] = plus;
-    show_sheet(&sheet);
+    crate::print::show_sheet(&sheet);
 }
 
 fn system_r1() {

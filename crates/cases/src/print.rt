@@ -1,11 +1,7 @@
 // Printing what the operations give back.
 ghost use Prim.Native.Nat.{_<_};
 ghost use Rattle.io.specs.Counts.{Counts};
-use comparing::compare;
-use encoder::encode;
 use libc::STDOUT_FILENO;
-use marking::mark::mark;
-use marking::report::report;
 use operations::CompareReply;
 use operations::CountReply;
 use operations::GreaterSide;
@@ -38,7 +34,7 @@ fn print_error(code: u8, input: u8, offset: usize) {
 pub fn close(sheet: &[u16], book: &mut [u8]) -> usize
     ensures { λ r. ⌜ Counts r (now (book .exit)) ⌝ }
 {
-    match encode(sheet, book) {
+    match encoder::encode(sheet, book) {
         CountReply::Accepted(count) => count,
         CountReply::Refused(error) => {
             print_error(error.code, error.input, error.offset);
@@ -50,7 +46,7 @@ pub fn close(sheet: &[u16], book: &mut [u8]) -> usize
 // Prints what `marker` prints for a book.
 pub fn print_report(book: &[u8]) {
     let mut text = io::large_buffer();
-    let end = report(book, &mut text);
+    let end = marking::report::report(book, &mut text);
     print(&text[..end]);
 }
 
@@ -69,7 +65,7 @@ pub fn show(title: &[u8], sheet: &[u16]) {
 
 // Prints how many rules a book has, how many of them decrease, and the score; or the error.
 pub fn print_marking(book: &[u8], marks: &mut [u8]) {
-    match mark(book, marks) {
+    match marking::mark::mark(book, marks) {
         MarkReply::Accepted(summary) => print_numbers(
             summary.rules as u64,
             summary.decreasing as u64,
@@ -104,7 +100,7 @@ fn print_relation(number: u64, margin: i64)
 
 // Prints how two terms compare under a book; or the error.
 pub fn print_comparison(book: &[u8], left: &[u16], right: &[u16]) {
-    match compare(book, left, right) {
+    match comparing::compare(book, left, right) {
         CompareReply::Accepted(comparison) => {
             let relation = comparison.relation;
             print_relation(relation_number(relation), comparison.margin);

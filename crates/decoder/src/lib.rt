@@ -11,14 +11,7 @@ ghost use Rattle.operations.specs.Coding.{decoded};
 ghost use Rattle.operations.specs.Enums.{countReply};
 ghost use Rattle.symbols.specs.Table.{signatureOf, entryWords, maxTableWords};
 ghost use Rattle.sides.specs.Side.{rulesWords};
-use format::FORM;
-use format::WORDS_TOO_SHORT;
 use operations::CountReply;
-use operations::Error;
-use reader::File;
-use reader::read_file;
-use sides::put_words;
-use symbols::TABLE_WORDS;
 use symbols::put_word;
 
 const HEADER_WORDS: usize = 4;
@@ -37,12 +30,12 @@ fn put_file(table: &[u16], words: &mut [u16], rules: usize, nodes: &[u16])
         ⌝ }
 {
     let count = symbols::count(table);
-    put_word(words, 0, FORM);
+    put_word(words, 0, format::FORM);
     put_word(words, 1, count as u16);
     put_word(words, 2, symbols::variable_weight(table) as u16);
     put_word(words, 3, rules as u16);
     symbols::write_symbols(table, words, HEADER_WORDS);
-    put_words(words, HEADER_WORDS + symbols::entry_words(count), nodes);
+    sides::put_words(words, HEADER_WORDS + symbols::entry_words(count), nodes);
 }
 
 // Decodes a packed file into the front of the words. Its nodes are kept elsewhere until no fault is
@@ -52,14 +45,14 @@ fn decode_through(book: &[u8], words: &mut [u16], nodes: &mut [u16]) -> CountRep
     ensures { λ r. ⌜ countReply r ≡ decoded (now (book .entry)) (now (words .entry)) .reply ⌝ }
     ensures { λ r. ⌜ now (words .exit) ≡ decoded (now (book .entry)) (now (words .entry)) .output ⌝ }
 {
-    let mut table = [0u16; TABLE_WORDS];
-    match read_file(book, &[0u16; 0], true, &mut table, nodes) {
-        File::Fault { code, offset } => CountReply::Refused(Error {
+    let mut table = [0u16; symbols::TABLE_WORDS];
+    match reader::read_file(book, &[0u16; 0], true, &mut table, nodes) {
+        reader::File::Fault { code, offset } => CountReply::Refused(operations::Error {
             code,
             input: 0,
             offset,
         }),
-        File::Read {
+        reader::File::Read {
             symbols,
             rules,
             nodes: count,
@@ -67,8 +60,8 @@ fn decode_through(book: &[u8], words: &mut [u16], nodes: &mut [u16]) -> CountRep
         } => {
             let total = HEADER_WORDS + symbols::entry_words(symbols) + count;
             if words.len() < total {
-                return CountReply::Refused(Error {
-                    code: WORDS_TOO_SHORT,
+                return CountReply::Refused(operations::Error {
+                    code: format::WORDS_TOO_SHORT,
                     input: 1,
                     offset: 0,
                 });

@@ -8,9 +8,7 @@ ghost use Rattle.format.specs.Packing.{bitsOf, itemBits, bytesOf};
 ghost use Rattle.format.specs.Packing.Item.{node};
 ghost use Rattle.writer.specs.Writer.{Writes};
 ghost use Rattle.encoder.specs.Items.{bitsTo};
-use format::FIRST_VARIABLE;
 use writer::BitWriter;
-use writer::last_bits;
 
 // The bits of the header, of a symbol, and of a node that is one.
 const HEADER_BITS: usize = 38;
@@ -23,7 +21,7 @@ const SYMBOL_NODE_BITS: usize = 9;
 fn tag(word: u16) -> u32
     ensures { λ r. ⌜ (length (itemBits (node word)) + 4 * r ≡ 9) × (r ≤ 1) ⌝ }
 {
-    if word < FIRST_VARIABLE { 0 } else { 1 }
+    if word < format::FIRST_VARIABLE { 0 } else { 1 }
 }
 
 // How many bits a node takes.
@@ -39,7 +37,7 @@ fn node_value(word: u16) -> u16
         (bitsOf (length (itemBits (node word))) r ≡ itemBits (node word)) × (r < 2 ^ length (itemBits (node word)))
         ⌝ }
 {
-    if word < FIRST_VARIABLE {
+    if word < format::FIRST_VARIABLE {
         word
     } else {
         16 + word % 16
@@ -81,8 +79,8 @@ fn write_pair(
         (now (bytes .exit)))
         ⌝ }
 {
-    let first = last_bits(words[i], m);
-    writer.put_two(bytes, m, first, n, last_bits(words[i + 1], n))
+    let first = writer::last_bits(words[i], m);
+    writer.put_two(bytes, m, first, n, writer::last_bits(words[i + 1], n))
 }
 
 // Writes the bits of the fields, those of the header and of so many symbols, to the front of the bytes.

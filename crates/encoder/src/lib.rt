@@ -2,16 +2,8 @@
 ghost use mathlib.Core.Path.{_≡_};
 ghost use Rattle.operations.specs.Coding.{encoded};
 ghost use Rattle.operations.specs.Enums.{countReply};
-use crate::items::packed_bits;
-use crate::items::write_items;
-use format::BYTES_TOO_SHORT;
-use format::FILE_TOO_LONG;
-use format::MAX_BYTES;
 use operations::CountReply;
 use operations::Error;
-use reader::File;
-use reader::read_file;
-use symbols::TABLE_WORDS;
 
 mod items;
 
@@ -20,36 +12,36 @@ pub fn encode(words: &[u16], bytes: &mut [u8]) -> CountReply
     ensures { λ r. ⌜ countReply r ≡ encoded (now (words .entry)) (now (bytes .entry)) .reply ⌝ }
     ensures { λ _. ⌜ now (bytes .exit) ≡ encoded (now (words .entry)) (now (bytes .entry)) .output ⌝ }
 {
-    let mut table = [0u16; TABLE_WORDS];
+    let mut table = [0u16; symbols::TABLE_WORDS];
     let mut none = [0u16; 0];
-    match read_file(&[0u8; 0], words, false, &mut table, &mut none) {
-        File::Fault { code, offset } => CountReply::Refused(Error {
+    match reader::read_file(&[0u8; 0], words, false, &mut table, &mut none) {
+        reader::File::Fault { code, offset } => CountReply::Refused(Error {
             code,
             input: 0,
             offset,
         }),
-        File::Read {
+        reader::File::Read {
             symbols,
             rules,
             nodes,
             start,
         } => {
-            let count = (packed_bits(words, symbols, start) + 7) / 8;
-            if MAX_BYTES < count {
+            let count = (crate::items::packed_bits(words, symbols, start) + 7) / 8;
+            if format::MAX_BYTES < count {
                 return CountReply::Refused(Error {
-                    code: FILE_TOO_LONG,
+                    code: format::FILE_TOO_LONG,
                     input: 0,
                     offset: 0,
                 });
             }
             if bytes.len() < count {
                 return CountReply::Refused(Error {
-                    code: BYTES_TOO_SHORT,
+                    code: format::BYTES_TOO_SHORT,
                     input: 1,
                     offset: 0,
                 });
             }
-            write_items(words, start, bytes);
+            crate::items::write_items(words, start, bytes);
             CountReply::Accepted(count)
         }
     }

@@ -40,7 +40,7 @@ module _ (bytes : List ℕ) (σ : Signature) where
 module _ (σ : Signature) where
   -- A right side that was read, after its left side.
   pub right-marked : (reading : Reading (List ℕ)) (left right : List ℕ) (n : ℕ) (m : MarkedRule) →
-      got right n ≡ reading → m .next .at ≡ n → Marks σ (record { left = left; right = right }) m →
+      got right n ≡ reading → m .next ≡ n → Marks σ (record { left = left; right = right }) m →
       MarksRead σ (λ (l : List ℕ). record { left = left; right = l }) reading (Got m)
   right-marked reading left right n m e same x = (right, sym (rw same e), x)
 

@@ -18,7 +18,6 @@ use Rattle.format.specs.Reading.{Source}
 use Rattle.format.specs.Reading.Reading.{got, fault}
 use Rattle.format.specs.Format.{Sides, RuleFile, ruleReader, rulesReader, systemOf}
 use Rattle.reader.proofs.RuleLaws.{Done, done-none, done-fault, done-more, done-all}
-use Rattle.bits.specs.declared.BitCursor.{BitCursor}
 use Rattle.operations.specs.Marking.{marksOf, marginsOf, isDecreasing, decreasingCount}
 use Rattle.marking.specs.declared.rule.MarkedRule.{MarkedRule}
 use Rattle.marking.specs.declared.rule.RuleReading.the-variants as rule
@@ -73,13 +72,13 @@ module _ (source : Source) (σ : Signature) (count start : ℕ) (marks₀ : List
     pub listed-more : i < count → (n : ℕ) (m : MarkedRule) (marks' : List ℕ) (margins' : List ℤ) →
         MarksRead σ sidesThemselves (ruleReader source σ at) (rule.Got m) → n ≡ decreasingCount (m .mark ∷ []) →
         marks' ≡ set marks i (m .mark) → margins' ≡ set margins i (m .margin) →
-        ListedSoFar (i + 1) (m .next .at) (decreasing + n) marks' margins'
+        ListedSoFar (i + 1) (m .next) (decreasing + n) marks' margins'
     listed-more h n m marks' margins' (r, e, x) one mark put =
         let (done, d, l, so') = so in
         let added : map (sidesMark σ) (done ++ (r ∷ [])) ≡ map (sidesMark σ) done ++ (m .mark ∷ []) =
         map-append (sidesMark σ) done (r ∷ []) ∙ rw (x .mark) in (
           done ++ (r ∷ []),
-          done-more source σ count start i at done d h r (m .next .at) e,
+          done-more source σ count start i at done d h r (m .next) e,
           omega (arith, length-append done (r ∷ [])),
           record {
             falling = rw (added, decreasing-append (map (sidesMark σ) done) (m .mark ∷ []), ← so' .falling, ← one);
@@ -89,7 +88,7 @@ module _ (source : Source) (σ : Signature) (count start : ℕ) (marks₀ : List
           },
         )
 
-    pub listed-all : count ≤ i → (next : BitCursor) → next .at ≡ at →
+    pub listed-all : count ≤ i → (next : ℕ) → next ≡ at →
         AllMarked σ (rulesReader source σ count start) (rules.Marked decreasing next) marks₀ marks margins₀ margins
     listed-all h next same =
         let (done, d, l, so') = so in (done, rw same (done-all source σ count start i at done d h), so')

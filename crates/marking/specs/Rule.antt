@@ -38,9 +38,9 @@ module _ (σ : Signature) where
     pub mark : m .mark ≡ sidesMark r
     pub margin : m .margin ≡ sidesMargin r
 
-  -- What was read, the sides that it makes, and the answer: the rule is marked, and the cursor stands past it.
+  -- What was read, the sides that it makes, and the answer: the rule is marked, and the next offset is past it.
   abbrev pub MarksRead : {A : Type 0} → (A → Sides) → Reading A → RuleReading → Type 0
-  MarksRead {A} sidesOf reading (rule.Got m) = (a : A) × (reading ≡ got a (m .next .at)) × Marks (sidesOf a) m
+  MarksRead {A} sidesOf reading (rule.Got m) = (a : A) × (reading ≡ got a (m .next)) × Marks (sidesOf a) m
   MarksRead sidesOf reading (rule.Fault code offset) = reading ≡ fault code offset
 
   -- So many of the rules decrease, and their marks and margins stand first in the lists, as far as there is room.
@@ -53,17 +53,17 @@ module _ (σ : Signature) where
   -- What was read of all rules, the answer, and the lists before and after.
   abbrev pub AllMarked : Reading (List Sides) → RulesMarked → List ℕ → List ℕ → List ℤ → List ℤ → Type 0
   AllMarked reading (rules.Marked decreasing next) marks₀ marks margins₀ margins =
-      (rs : List Sides) × (reading ≡ got rs (next .at)) × Listed rs decreasing marks₀ marks margins₀ margins
+      (rs : List Sides) × (reading ≡ got rs (next)) × Listed rs decreasing marks₀ marks margins₀ margins
   AllMarked reading (rules.Fault code offset) marks₀ marks margins₀ margins = reading ≡ fault code offset
 
 -- The rule ends by that offset.
 abbrev pub MarkedWithin : ℕ → RuleReading → Type 0
-MarkedWithin end (rule.Got m) = m .next .at ≤ end
+MarkedWithin end (rule.Got m) = m .next ≤ end
 MarkedWithin end (rule.Fault code offset) = Unit {0}
 
 -- That many rules decrease at most, and the last ends by that offset.
 abbrev pub AllWithin : ℕ → ℕ → RulesMarked → Type 0
-AllWithin most end (rules.Marked decreasing next) = (decreasing ≤ most) × (next .at ≤ end)
+AllWithin most end (rules.Marked decreasing next) = (decreasing ≤ most) × (next ≤ end)
 AllWithin most end (rules.Fault code offset) = Unit {0}
 
 -- A file's rules are counted, with those that decrease, and their marks and margins stand first in the lists, as far as

@@ -5,15 +5,12 @@ ghost use Rattle.operations.specs.Replies.Reply.{refused as refusedOf};
 ghost use Rattle.operations.specs.Marking.{scoreOf, marked};
 ghost use Rattle.operations.specs.Enums.{markReply};
 use crate::walk::FileMarked;
-use crate::walk::mark_file;
-use operations::Error;
 use operations::MarkReply;
-use operations::Summary;
 
 fn refused(code: u8, input: u8, offset: usize) -> MarkReply
     ensures { λ r. ⌜ markReply r ≡ refusedOf (record { code = code; input = input; offset = offset }) ⌝ }
 {
-    MarkReply::Refused(Error {
+    MarkReply::Refused(operations::Error {
         code,
         input,
         offset,
@@ -40,7 +37,7 @@ pub fn mark(book: &[u8], marks: &mut [u8]) -> MarkReply
 {
     let mut found = [0u8; format::MAX_RULES];
     let mut none = [0i64; 0];
-    match mark_file(book, &mut found, &mut none) {
+    match crate::walk::mark_file(book, &mut found, &mut none) {
         FileMarked::Fault { code, offset } => refused(code, 0, offset),
         FileMarked::Marked { rules, decreasing } => {
             if marks.len() < rules {
@@ -48,7 +45,7 @@ pub fn mark(book: &[u8], marks: &mut [u8]) -> MarkReply
             }
             text::put_bytes(marks, 0, &found[..rules]);
             let score = score(decreasing, rules);
-            MarkReply::Accepted(Summary {
+            MarkReply::Accepted(operations::Summary {
                 rules,
                 decreasing,
                 score,

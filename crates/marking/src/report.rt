@@ -12,7 +12,6 @@ use crate::lines::put_refusal;
 use crate::lines::put_rules;
 use crate::mark::score;
 use crate::walk::FileMarked;
-use crate::walk::mark_file;
 
 // Room for the longest text.
 pub const TEXT_BYTES: usize = 65536;
@@ -41,7 +40,7 @@ pub fn report(book: &[u8], out: &mut [u8; TEXT_BYTES]) -> usize
 {
     let mut marks = [0u8; format::MAX_RULES];
     let mut margins = [0i64; format::MAX_RULES];
-    match mark_file(book, &mut marks, &mut margins) {
+    match crate::walk::mark_file(book, &mut marks, &mut margins) {
         FileMarked::Fault { code, offset } => put_refusal(out, long(code), offset as u64),
         FileMarked::Marked { rules, decreasing } => {
             let start = put_count(out, 0, b"rules", rules as u64);

@@ -13,18 +13,14 @@ ghost use Rattle.format.specs.Format.{ruleReader};
 ghost use Rattle.measures.specs.Nodes.{NodeSums};
 ghost use Rattle.marking.specs.Rule.{IsTable, Marks, MarksRead, MarkedWithin};
 use answers::Answer;
-use bits::BitCursor;
 use measures::NODE_SUMS;
-use measures::totals::margin;
 use measures::totals::total;
-use order::mark::mark;
-use sides::read_side;
 
-// A rule's mark and margin, and the cursor past it.
+// A rule's mark and margin, and the offset past it.
 pub struct MarkedRule {
     pub mark: u8,
     pub margin: i64,
-    pub next: BitCursor,
+    pub next: usize,
 }
 
 // A rule that was marked, or an error's code and offset.
@@ -39,7 +35,7 @@ fn mark_sides(
     adds: &[u64; NODE_SUMS],
     left: &[u16],
     right: &[u16],
-    next: BitCursor,
+    next: usize,
 ) -> MarkedRule
     requires { ⌜
         IsTable (now table) × IsTerm (signatureOf (now table)) (now left) × IsTerm (signatureOf (now table)) (now right)
@@ -48,13 +44,13 @@ fn mark_sides(
     ensures { λ r. ⌜
         Marks (signatureOf (now (table .entry))) (record { left = now (left .entry); right = now (right .entry) }) r
         ⌝ }
-    ensures { λ r. ⌜ r .next .at ≡ next .at ⌝ }
+    ensures { λ r. ⌜ r .next ≡ next ⌝ }
 {
     let s = total(table, adds, left);
     let t = total(table, adds, right);
     MarkedRule {
-        mark: mark(table, adds, left, s, right, t),
-        margin: margin(s, t),
+        mark: order::mark::mark(table, adds, left, s, right, t),
+        margin: measures::totals::margin(s, t),
         next,
     }
 }
@@ -66,9 +62,9 @@ fn mark_right(
     arities: &[u32; format::NODE_WORDS],
     adds: &[u64; NODE_SUMS],
     left: &[u16],
-    cursor: BitCursor,
+    at: usize,
 ) -> RuleReading
-    requires { ⌜ (length (now book) ≤ maxBytes) × (cursor .at ≤ 8 * length (now book)) ⌝ }
+    requires { ⌜ (length (now book) ≤ maxBytes) × (at ≤ 8 * length (now book)) ⌝ }
     requires { ⌜
         IsTable (now table) × Arities (signatureOf (now table)) (now arities)
         × IsTerm (signatureOf (now table)) (now left) × NodeSums (signatureOf (now table)) (now adds)
@@ -76,19 +72,19 @@ fn mark_right(
     ensures { λ r. ⌜
         MarksRead (signatureOf (now (table .entry)))
         (λ (right : List ℕ). record { left = now (left .entry); right = right })
-        (forestReader (bitSource (now (book .entry))) (signatureOf (now (table .entry))) maxNodes 1 (cursor .at)) r
+        (forestReader (bitSource (now (book .entry))) (signatureOf (now (table .entry))) maxNodes 1 (at)) r
         ⌝ }
     ensures { λ r. ⌜ MarkedWithin (8 * length (now (book .entry))) r ⌝ }
 {
     let mut right = [0u16; format::MAX_NODES];
-    match read_side(book, arities, &mut right, cursor.at) {
+    match sides::read_side(book, arities, &mut right, at) {
         Answer::Fault { code, offset } => RuleReading::Fault { code, offset },
         Answer::Got { value, next } => RuleReading::Got(mark_sides(
             table,
             adds,
             left,
             &right[..value],
-            BitCursor { at: next },
+            next,
         )),
     }
 }
@@ -99,31 +95,24 @@ pub fn mark_rule(
     table: &[u16],
     arities: &[u32; format::NODE_WORDS],
     adds: &[u64; NODE_SUMS],
-    cursor: BitCursor,
+    at: usize,
 ) -> RuleReading
-    requires { ⌜ (length (now book) ≤ maxBytes) × (cursor .at ≤ 8 * length (now book)) ⌝ }
+    requires { ⌜ (length (now book) ≤ maxBytes) × (at ≤ 8 * length (now book)) ⌝ }
     requires { ⌜
         IsTable (now table) × Arities (signatureOf (now table)) (now arities)
         × NodeSums (signatureOf (now table)) (now adds)
         ⌝ }
     ensures { λ r. ⌜
         MarksRead (signatureOf (now (table .entry))) (λ (sides : Sides). sides)
-        (ruleReader (bitSource (now (book .entry))) (signatureOf (now (table .entry))) (cursor .at)) r
+        (ruleReader (bitSource (now (book .entry))) (signatureOf (now (table .entry))) (at)) r
         ⌝ }
     ensures { λ r. ⌜ MarkedWithin (8 * length (now (book .entry))) r ⌝ }
 {
     let mut left = [0u16; format::MAX_NODES];
-    match read_side(book, arities, &mut left, cursor.at) {
+    match sides::read_side(book, arities, &mut left, at) {
         Answer::Fault { code, offset } => RuleReading::Fault { code, offset },
         Answer::Got { value, next } => {
-            mark_right(
-                book,
-                table,
-                arities,
-                adds,
-                &left[..value],
-                BitCursor { at: next },
-            )
+            mark_right(book, table, arities, adds, &left[..value], next)
         }
     }
 }

@@ -15,17 +15,10 @@ ghost use Rattle.measures.specs.Nodes.{NodeSums};
 ghost use Rattle.reader.specs.File.{restReader};
 ghost use Rattle.marking.specs.Rule.{IsTable, AllMarked, AllWithin, WholeMarked};
 use crate::rule::RuleReading;
-use crate::rule::mark_rule;
-use bits::BitCursor;
-use measures::NODE_SUMS;
-use measures::nodes::node_sums;
-use reader::Head;
-use reader::read_head;
-use symbols::TABLE_WORDS;
 
-// How many rules decrease and the cursor past them, or an error's code and offset.
+// How many rules decrease and the offset past them, or an error's code and offset.
 pub enum RulesMarked {
-    Marked { decreasing: usize, next: BitCursor },
+    Marked { decreasing: usize, next: usize },
     Fault { code: u8, offset: usize },
 }
 
@@ -71,13 +64,13 @@ fn mark_rules(
     book: &[u8],
     table: &[u16],
     arities: &[u32; format::NODE_WORDS],
-    adds: &[u64; NODE_SUMS],
+    adds: &[u64; measures::NODE_SUMS],
     marks: &mut [u8],
     margins: &mut [i64],
     count: usize,
-    cursor: BitCursor,
+    at: usize,
 ) -> RulesMarked
-    requires { ⌜ (length (now book) ≤ maxBytes) × (cursor .at ≤ 8 * length (now book)) ⌝ }
+    requires { ⌜ (length (now book) ≤ maxBytes) × (at ≤ 8 * length (now book)) ⌝ }
     requires { ⌜
         IsTable (now table) × Arities (signatureOf (now table)) (now arities)
         × NodeSums (signatureOf (now table)) (now adds)
@@ -85,16 +78,16 @@ fn mark_rules(
     requires { ⌜ (count ≤ length (now marks)) × (count < 1024) ⌝ }
     ensures { λ r. ⌜
         AllMarked (signatureOf (now (table .entry)))
-        (rulesReader (bitSource (now (book .entry))) (signatureOf (now (table .entry))) count (cursor .at)) r
+        (rulesReader (bitSource (now (book .entry))) (signatureOf (now (table .entry))) count (at)) r
         (now (marks .entry)) (now (marks .exit)) (now (margins .entry)) (now (margins .exit))
         ⌝ }
     ensures { λ r. ⌜ AllWithin count (8 * length (now (book .entry))) r ⌝ }
 {
-    let mut here = cursor;
+    let mut here = at;
     let mut decreasing = 0;
     let mut i = 0;
     while i < count {
-        match mark_rule(book, table, arities, adds, here) {
+        match crate::rule::mark_rule(book, table, arities, adds, here) {
             RuleReading::Fault { code, offset } => return RulesMarked::Fault { code, offset },
             RuleReading::Got(rule) => {
                 put_mark(marks, i, rule.mark);
@@ -118,21 +111,22 @@ fn mark_under(
     marks: &mut [u8],
     margins: &mut [i64],
     count: usize,
-    cursor: BitCursor,
+    at: usize,
 ) -> FileMarked
-    requires { ⌜ (length (now book) ≤ maxBytes) × (cursor .at ≤ 8 * length (now book)) ⌝ }
+    requires { ⌜ (length (now book) ≤ maxBytes) × (at ≤ 8 * length (now book)) ⌝ }
     requires { ⌜ IsTable (now table) × (count < 1024) × (1023 ≤ length (now marks)) ⌝ }
     ensures { λ r. ⌜
-        WholeMarked (restReader true (now (book .entry)) [] (signatureOf (now (table .entry))) count (cursor .at)) r
+        WholeMarked (restReader true (now (book .entry)) [] (signatureOf (now (table .entry))) count (at)) r
         (now (marks .entry)) (now (marks .exit)) (now (margins .entry)) (now (margins .exit))
         ⌝ }
 {
     let arities = symbols::arities(table);
-    let adds = node_sums(table);
-    match mark_rules(book, table, &arities, &adds, marks, margins, count, cursor) {
+    let adds = measures::nodes::node_sums(table);
+    match mark_rules(book, table, &arities, &adds, marks, margins, count, at) {
         RulesMarked::Fault { code, offset } => FileMarked::Fault { code, offset },
         RulesMarked::Marked { decreasing, next } => {
-            if next.is_padding(book) {
+            let cursor = bits::BitCursor { at: next };
+            if cursor.is_padding(book) {
                 return FileMarked::Marked {
                     rules: count,
                     decreasing,
@@ -140,7 +134,7 @@ fn mark_under(
             }
             FileMarked::Fault {
                 code: format::BAD_PADDING,
-                offset: next.at,
+                offset: next,
             }
         }
     }
@@ -154,23 +148,16 @@ pub fn mark_file(book: &[u8], marks: &mut [u8], margins: &mut [i64]) -> FileMark
         (now (margins .entry)) (now (margins .exit))
         ⌝ }
 {
-    let mut table = [0u16; TABLE_WORDS];
-    match read_head(book, &[0u16; 0], true, &mut table) {
-        Head::Fault { code, offset } => FileMarked::Fault { code, offset },
-        Head::Read {
+    let mut table = [0u16; symbols::TABLE_WORDS];
+    match reader::read_head(book, &[0u16; 0], true, &mut table) {
+        reader::Head::Fault { code, offset } => FileMarked::Fault { code, offset },
+        reader::Head::Read {
             symbols,
             rules,
             next,
         } => {
             let front = symbols::front(symbols);
-            mark_under(
-                book,
-                &table[..front],
-                marks,
-                margins,
-                rules,
-                BitCursor { at: next },
-            )
+            mark_under(book, &table[..front], marks, margins, rules, next)
         }
     }
 }

@@ -8,9 +8,6 @@ ghost use Rattle.answers.specs.Answer.{readingOf, Fits};
 ghost use Rattle.reader.specs.Source.{sourceOf, tested};
 use answers::Answer;
 use bits::BitCursor;
-use format::BAD_PADDING;
-use format::WORDS_LEFT_OVER;
-use words::word_below;
 
 // The field of that width at an offset, in bits of the book if the file is packed, in words of the sheet if not.
 pub fn field(book: &[u8], sheet: &[u16], packed: bool, at: usize, width: usize) -> Answer
@@ -24,7 +21,7 @@ pub fn field(book: &[u8], sheet: &[u16], packed: bool, at: usize, width: usize) 
         let cursor = BitCursor { at };
         return cursor.field(book, width);
     }
-    word_below(sheet, at, 1usize << width)
+    words::word_below(sheet, at, 1usize << width)
 }
 
 // The same for a field that is to be at least so much, with that error where it is less.
@@ -71,7 +68,7 @@ pub fn end(book: &[u8], sheet: &[u16], packed: bool, at: usize) -> Answer
             return Answer::Got { value: 0, next: at };
         }
         return Answer::Fault {
-            code: BAD_PADDING,
+            code: format::BAD_PADDING,
             offset: at,
         };
     }
@@ -79,7 +76,7 @@ pub fn end(book: &[u8], sheet: &[u16], packed: bool, at: usize) -> Answer
         return Answer::Got { value: 0, next: at };
     }
     Answer::Fault {
-        code: WORDS_LEFT_OVER,
+        code: format::WORDS_LEFT_OVER,
         offset: at,
     }
 }

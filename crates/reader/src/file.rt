@@ -5,22 +5,11 @@ ghost use Rattle.format.specs.Layout.{maxBytes};
 ghost use Rattle.symbols.specs.Table.{signatureOf, tableWords, maxTableWords};
 ghost use Rattle.reader.specs.Source.{Reached, readSource};
 ghost use Rattle.reader.specs.File.{tableReader, countsReader, HeadRead, RestRead, FileRead};
-use crate::field::end;
 use crate::field::field;
 use crate::field::field_at_least;
-use crate::rule::read_rules;
-use crate::symbol::read_symbols;
 use answers::Answer;
-use format::FILE_TOO_LONG;
-use format::FORM;
-use format::FORM_WIDTH;
-use format::MAX_BYTES;
 use format::NO_SYMBOLS;
-use format::RULE_COUNT_WIDTH;
 use format::SYMBOL_COUNT_WIDTH;
-use format::VARIABLE_WEIGHTLESS;
-use format::WEIGHT_WIDTH;
-use format::WRONG_FORM;
 
 // A file's counts of symbols and of rules and the offset of its rules, or an error's code and offset.
 pub enum Head {
@@ -68,7 +57,7 @@ fn read_table(
         (tableReader packed (now (book .entry)) (now (sheet .entry)) w0 symbols rules at) r (now (table .exit))
         ⌝ }
 {
-    match read_symbols(book, sheet, packed, table, w0, symbols, at) {
+    match crate::symbol::read_symbols(book, sheet, packed, table, w0, symbols, at) {
         Answer::Fault { code, offset } => Head::Fault { code, offset },
         Answer::Got { value, next } => Head::Read {
             symbols,
@@ -98,16 +87,16 @@ fn read_counts(book: &[u8], sheet: &[u16], packed: bool, table: &mut [u16], at: 
                 sheet,
                 packed,
                 w0_at,
-                WEIGHT_WIDTH,
+                format::WEIGHT_WIDTH,
                 1,
-                VARIABLE_WEIGHTLESS,
+                format::VARIABLE_WEIGHTLESS,
             ) {
                 Answer::Fault { code, offset } => Head::Fault { code, offset },
                 Answer::Got {
                     value: w0,
                     next: rules_at,
                 } => {
-                    match field(book, sheet, packed, rules_at, RULE_COUNT_WIDTH) {
+                    match field(book, sheet, packed, rules_at, format::RULE_COUNT_WIDTH) {
                         Answer::Fault { code, offset } => Head::Fault { code, offset },
                         Answer::Got { value: rules, next } => {
                             read_table(book, sheet, packed, table, w0 as u16, symbols, rules, next)
@@ -127,18 +116,18 @@ pub fn read_head(book: &[u8], sheet: &[u16], packed: bool, table: &mut [u16]) ->
         (readSource packed (now (book .entry)) (now (sheet .entry))) r (now (table .exit))
         ⌝ }
 {
-    if MAX_BYTES < book.len() {
+    if format::MAX_BYTES < book.len() {
         return Head::Fault {
-            code: FILE_TOO_LONG,
+            code: format::FILE_TOO_LONG,
             offset: 0,
         };
     }
-    match field(book, sheet, packed, 0, FORM_WIDTH) {
+    match field(book, sheet, packed, 0, format::FORM_WIDTH) {
         Answer::Fault { code, offset } => Head::Fault { code, offset },
         Answer::Got { value, next } => {
-            if value != FORM as usize {
+            if value != format::FORM as usize {
                 return Head::Fault {
-                    code: WRONG_FORM,
+                    code: format::WRONG_FORM,
                     offset: 0,
                 };
             }
@@ -164,9 +153,9 @@ fn read_rest(
         (now (words .entry)) (now (words .exit))
         ⌝ }
 {
-    match read_rules(book, sheet, packed, table, words, count, at) {
+    match crate::rule::read_rules(book, sheet, packed, table, words, count, at) {
         Answer::Fault { code, offset } => Answer::Fault { code, offset },
-        Answer::Got { value, next } => match end(book, sheet, packed, next) {
+        Answer::Got { value, next } => match crate::field::end(book, sheet, packed, next) {
             Answer::Fault { code, offset } => Answer::Fault { code, offset },
             Answer::Got {
                 value: none,

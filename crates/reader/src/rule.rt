@@ -14,8 +14,6 @@ ghost use Rattle.reader.specs.Source.{sourceOf, Reached};
 ghost use Rattle.reader.specs.File.{storedWords};
 use answers::Answer;
 use format::NODE_WORDS;
-use sides::read_rule_into;
-use words::term;
 
 // Reads that many rules from bits, their words stored at the front; the value is how many words there are.
 fn read_packed_rules(
@@ -36,7 +34,7 @@ fn read_packed_rules(
     let mut here = at;
     let mut number = 0;
     while number < count {
-        match read_rule_into(book, arities, words, end, here) {
+        match sides::read_rule_into(book, arities, words, end, here) {
             Answer::Fault { code, offset } => return Answer::Fault { code, offset },
             Answer::Got { value, next } => {
                 end = value;
@@ -60,9 +58,9 @@ fn read_word_rule(arities: &[u32; NODE_WORDS], sheet: &[u16], at: usize) -> Answ
         r ≡ endOf (ruleReader (wordSource (now (sheet .entry))) σ at))
         ⌝ }
 {
-    match term(arities, sheet, at) {
+    match words::term(arities, sheet, at) {
         Answer::Fault { code, offset } => Answer::Fault { code, offset },
-        Answer::Got { value, next } => term(arities, sheet, next),
+        Answer::Got { value, next } => words::term(arities, sheet, next),
     }
 }
 

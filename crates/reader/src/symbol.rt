@@ -13,16 +13,8 @@ ghost use Rattle.answers.specs.Answer.{readingOf, Fits};
 ghost use Rattle.reader.specs.Source.{sourceOf, tested};
 ghost use Rattle.reader.specs.Symbol.{TakenBy, SymbolPut, SymbolsPut};
 use crate::field::field;
-use crate::field::field_at_least;
 use answers::Answer;
-use format::AC_NOT_BINARY;
-use format::AC_WIDTH;
-use format::ARITY_WIDTH;
-use format::RANK_TAKEN;
-use format::RANK_WIDTH;
 use format::RANKS;
-use format::WEIGHT_INADMISSIBLE;
-use format::WEIGHT_WIDTH;
 
 // The rank here, which is to be none of those taken.
 fn read_rank(book: &[u8], sheet: &[u16], packed: bool, taken: &[bool; RANKS], at: usize) -> Answer
@@ -35,12 +27,12 @@ fn read_rank(book: &[u8], sheet: &[u16], packed: bool, taken: &[bool; RANKS], at
         ⌝ }
     ensures { λ r. ⌜ Fits 256 r ⌝ }
 {
-    match field(book, sheet, packed, at, RANK_WIDTH) {
+    match field(book, sheet, packed, at, format::RANK_WIDTH) {
         Answer::Fault { code, offset } => Answer::Fault { code, offset },
         Answer::Got { value, next } => {
             if taken[value] {
                 return Answer::Fault {
-                    code: RANK_TAKEN,
+                    code: format::RANK_TAKEN,
                     offset: at,
                 };
             }
@@ -70,55 +62,43 @@ fn read_symbol(
         ⌝ }
     ensures { λ r. ⌜ length (now (taken .exit)) ≡ 256 ⌝ }
 {
-    let arity_read = field(book, sheet, packed, at, ARITY_WIDTH);
-    let Answer::Got { value, next: ac_at } = arity_read else {
-        return arity_read;
+    let read = field(book, sheet, packed, at, format::ARITY_WIDTH);
+    let Answer::Got { value, next } = read else {
+        return read;
     };
     let arity = value as u16;
-    let ac_read = field(book, sheet, packed, ac_at, AC_WIDTH);
-    let Answer::Got {
-        value,
-        next: weight_at,
-    } = ac_read
-    else {
-        return ac_read;
+    let read = field(book, sheet, packed, next, format::AC_WIDTH);
+    let Answer::Got { value, next } = read else {
+        return read;
     };
     let ac = value as u16;
     if !symbols::binary_if_ac(arity, ac) {
         return Answer::Fault {
-            code: AC_NOT_BINARY,
+            code: format::AC_NOT_BINARY,
             offset: at,
         };
     }
     let least = symbols::wide(symbols::least_weight(w0, arity));
-    let weight_read = field_at_least(
+    let read = crate::field::field_at_least(
         book,
         sheet,
         packed,
-        weight_at,
-        WEIGHT_WIDTH,
+        next,
+        format::WEIGHT_WIDTH,
         least,
-        WEIGHT_INADMISSIBLE,
+        format::WEIGHT_INADMISSIBLE,
     );
-    let Answer::Got {
-        value,
-        next: rank_at,
-    } = weight_read
-    else {
-        return weight_read;
+    let Answer::Got { value, next } = read else {
+        return read;
     };
     let weight = value as u16;
-    let rank_read = read_rank(book, sheet, packed, taken, rank_at);
-    let Answer::Got {
-        value: rank,
-        next: _,
-    } = rank_read
-    else {
-        return rank_read;
+    let read = read_rank(book, sheet, packed, taken, next);
+    let Answer::Got { value, next: _ } = read else {
+        return read;
     };
-    symbols::put_symbol(table, number, arity, ac, weight, rank as u16);
-    taken[rank] = true;
-    rank_read
+    symbols::put_symbol(table, number, arity, ac, weight, value as u16);
+    taken[value] = true;
+    read
 }
 
 // Reads that many symbols into the table, with w0.

@@ -13,13 +13,8 @@ ghost use Rattle.answers.specs.Answer.{readingOf, answerOf, Within};
 ghost use Rattle.sides.specs.Side.{TermsRead, WordsRead, sideWords};
 use answers::Answer;
 use answers::pack_fault;
-use answers::pack_value;
-use answers::unpack;
-use bits::BitCursor;
 use format::MAX_NODES;
-use format::NO_SUCH_SYMBOL;
 use format::NODE_WORDS;
-use format::TOO_MANY_NODES;
 
 // Reads as many terms as are owed, their words stored after the first ones. It reads a node and calls itself for what
 // is then owed, with one node fewer allowed. The answer is a number, so that this call in last place is a jump.
@@ -42,12 +37,12 @@ fn read_terms(
     ensures { λ r. ⌜ length (now (words .exit)) ≡ maxNodes ⌝ }
 {
     if owed == 0 {
-        return pack_value(count, at);
+        return answers::pack_value(count, at);
     }
     if count == MAX_NODES {
-        return pack_fault(TOO_MANY_NODES, at);
+        return pack_fault(format::TOO_MANY_NODES, at);
     }
-    let cursor = BitCursor { at };
+    let cursor = bits::BitCursor { at };
     match cursor.node(*book) {
         Answer::Fault { code, offset } => pack_fault(code, offset),
         Answer::Got { value, next } => {
@@ -55,7 +50,7 @@ fn read_terms(
             words[count] = word;
             let cell = symbols::cell_at(arities, word);
             if cell == 0 {
-                return pack_fault(NO_SUCH_SYMBOL, at + 1);
+                return pack_fault(format::NO_SUCH_SYMBOL, at + 1);
             }
             read_terms(book, arities, words, count + 1, next, cell - 1 + (owed - 1))
         }
@@ -78,7 +73,7 @@ pub fn read_side(
     ensures { λ r. ⌜ Within maxNodes (8 * length (now (book .entry))) r ⌝ }
     ensures { λ r. ⌜ length (now (words .exit)) ≡ maxNodes ⌝ }
 {
-    unpack(read_terms(&book, arities, words, 0, at, 1))
+    answers::unpack(read_terms(&book, arities, words, 0, at, 1))
 }
 
 // Stores words from an index on, where there is room for all of them, and none where there is not.

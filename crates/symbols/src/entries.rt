@@ -11,14 +11,12 @@ ghost use Rattle.format.specs.Packing.{itemWord, symbolItems};
 ghost use Rattle.symbols.specs.Table.{weightOf, symbolsAt, signatureOf, entryWords, tableWords, maxTableWords};
 ghost use Rattle.symbols.specs.Table.{symbolsWords};
 use crate::arity;
-use crate::is_ac;
 use crate::precedence;
 use crate::weight;
 use crate::wide;
-use format::MAX_SYMBOLS;
 
 // How many words a symbol table may have.
-pub const TABLE_WORDS: usize = 1 + 4 * MAX_SYMBOLS;
+pub const TABLE_WORDS: usize = 1 + 4 * format::MAX_SYMBOLS;
 
 // How many words the entries of so many symbols take.
 pub fn entry_words(symbols: usize) -> usize
@@ -81,7 +79,7 @@ pub fn put_word(words: &mut [u16], index: usize, word: u16)
 fn ac_word(table: &[u16], symbol: u16) -> u16
     ensures { λ r. ⌜ r ≡ cond (symbolOf (signatureOf (now (table .entry))) symbol .ac) 1 0 ⌝ }
 {
-    if is_ac(table, symbol) { 1 } else { 0 }
+    if crate::is_ac(table, symbol) { 1 } else { 0 }
 }
 
 // Writes the words of a symbol into a sheet from an index on.

@@ -7,7 +7,6 @@ ghost use lib.ListN.{length, getD};
 ghost use Rattle.terms.specs.Signature.{symbolOf, leastWeight};
 ghost use Rattle.symbols.specs.Table.{signatureOf, maxTableWords};
 ghost use Rattle.symbols.specs.Arities.{cellOf, Arities, Between};
-use format::FIRST_VARIABLE;
 use format::NODE_WORDS;
 
 mod entries;
@@ -104,7 +103,7 @@ pub fn has_symbol(table: &[u16], f: u16) -> bool
 fn cell(table: &[u16], word: u16) -> u32
     ensures { λ r. ⌜ r ≡ cellOf (signatureOf (now (table .entry))) word ⌝ }
 {
-    if FIRST_VARIABLE <= word {
+    if format::FIRST_VARIABLE <= word {
         return 1;
     }
     if has_symbol(table, word) {
@@ -135,7 +134,7 @@ pub fn arities(table: &[u16]) -> [u32; NODE_WORDS]
 {
     let mut cells = [0u32; NODE_WORDS];
     put_cells(table, &mut cells, 0, count(table) as u16);
-    put_cells(table, &mut cells, FIRST_VARIABLE, NODE_WORDS as u16);
+    put_cells(table, &mut cells, format::FIRST_VARIABLE, NODE_WORDS as u16);
     cells
 }
 

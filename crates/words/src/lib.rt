@@ -10,15 +10,7 @@ ghost use Rattle.answers.specs.Answer.{readingOf, Fits, answerOf, endOf};
 ghost use Rattle.words.specs.Terms.{readerOf};
 use answers::Answer;
 use answers::pack_fault;
-use answers::pack_value;
-use answers::unpack;
-use format::FIELD_MISSING;
-use format::MAX_NODES;
-use format::NO_SUCH_SYMBOL;
 use format::NODE_WORDS;
-use format::TOO_MANY_NODES;
-use format::WORD_TOO_WIDE;
-use format::WORDS_LEFT_OVER;
 
 // The word at an offset, which is to be below a bound.
 pub fn word_below(words: &[u16], at: usize, bound: usize) -> Answer
@@ -27,14 +19,14 @@ pub fn word_below(words: &[u16], at: usize, bound: usize) -> Answer
 {
     if words.len() <= at {
         return Answer::Fault {
-            code: FIELD_MISSING,
+            code: format::FIELD_MISSING,
             offset: at,
         };
     }
     let word = symbols::wide(words[at]);
     if bound <= word {
         return Answer::Fault {
-            code: WORD_TOO_WIDE,
+            code: format::WORD_TOO_WIDE,
             offset: at,
         };
     }
@@ -60,21 +52,21 @@ fn terms(
         ⌝ }
 {
     if owed == 0 {
-        return pack_value(0, at);
+        return answers::pack_value(0, at);
     }
     if allowed == 0 {
-        return pack_fault(TOO_MANY_NODES, at);
+        return pack_fault(format::TOO_MANY_NODES, at);
     }
     if words.len() <= at {
-        return pack_fault(FIELD_MISSING, at);
+        return pack_fault(format::FIELD_MISSING, at);
     }
     let word = words[at];
     if NODE_WORDS <= symbols::wide(word) {
-        return pack_fault(WORD_TOO_WIDE, at);
+        return pack_fault(format::WORD_TOO_WIDE, at);
     }
     let cell = symbols::cell_at(arities, word);
     if cell == 0 {
-        return pack_fault(NO_SUCH_SYMBOL, at);
+        return pack_fault(format::NO_SUCH_SYMBOL, at);
     }
     terms(words, arities, at + 1, allowed - 1, (cell - 1) + (owed - 1))
 }
@@ -87,7 +79,7 @@ pub fn term(arities: &[u32; NODE_WORDS], words: &[u16], at: usize) -> Answer
         r ≡ endOf (forestReader (wordSource (now (words .entry))) σ maxNodes 1 at))
         ⌝ }
 {
-    unpack(terms(&words, arities, at, MAX_NODES, 1))
+    answers::unpack(terms(&words, arities, at, format::MAX_NODES, 1))
 }
 
 // Reads the term at the front of the words, which is to be all of them where that is asked, and gives its end.
@@ -102,7 +94,7 @@ pub fn front_term(arities: &[u32; NODE_WORDS], words: &[u16], whole: bool) -> An
             if whole {
                 if next != words.len() {
                     return Answer::Fault {
-                        code: WORDS_LEFT_OVER,
+                        code: format::WORDS_LEFT_OVER,
                         offset: next,
                     };
                 }

@@ -27,7 +27,7 @@ mark-sides-requires c κs =
     let a = c9 .args in
     let σ = signatureOf (a .table .now) in
     let e = rw (c .before .before .value .given .1) at (c4 .read-side .ensures .0 σ (c9 .pre .1 .1)) in
-    (c9 .pre .1 .0, c9 .pre .1 .2, side-term (a .book .now) σ (a .cursor .at) _ _ (sym e), c9 .pre .1 .3)
+    (c9 .pre .1 .0, c9 .pre .1 .2, side-term (a .book .now) σ (a .at) _ _ (sym e), c9 .pre .1 .3)
 
 returns : tie.Need-returns
 returns c =

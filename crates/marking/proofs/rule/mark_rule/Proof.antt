@@ -33,7 +33,7 @@ mark-right-requires c κs =
       (
         c8 .pre .1 .0,
         c8 .pre .1 .1,
-        side-term (a .book .now) σ (a .cursor .at) _ _ (sym e),
+        side-term (a .book .now) σ (a .at) _ _ (sym e),
         c8 .pre .1 .2,
       ),
     )
@@ -44,7 +44,7 @@ returns c =
     let c7 = c3 .before .before .before .before in
     let a = c7 .args in
     let σ = signatureOf (a .table .now) in (
-      left-unread σ (bitSource (a .book .now)) (a .cursor .at) _ _ (rw (c .before .offset .given .1) at (c3 .read-side
+      left-unread σ (bitSource (a .book .now)) (a .at) _ _ (rw (c .before .offset .given .1) at (c3 .read-side
           .ensures .0 σ (c7 .pre .1 .1))),
       tt,
     )
@@ -57,7 +57,7 @@ returns-2 c =
     let a = c9 .args in
     let σ = signatureOf (a .table .now) in
     let e = rw (c3 .value .given .1) at (c5 .read-side .ensures .0 σ (c9 .pre .1 .1)) in (
-      rule-marked σ (bitSource (a .book .now)) (a .cursor .at) _ _ e (c .mark-right .result) (c .mark-right
+      rule-marked σ (bitSource (a .book .now)) (a .at) _ _ e (c .mark-right .result) (c .mark-right
           .ensures .0),
       c .mark-right .ensures .1,
     )

@@ -34,7 +34,7 @@ returns c =
 cast-arity : tie.Need-cast-arity
 cast-arity c =
     let c3 = c .before .before .before in
-    omega (arith, rw (c .before .arity-read .given .1) at (c3 .field .ensures .1))
+    omega (arith, rw (c .before .read .given .1) at (c3 .field .ensures .1))
 
 returns-2 : tie.Need-returns-2
 returns-2 c =
@@ -42,7 +42,7 @@ returns-2 c =
     let c6 = c4 .before .before in
     let c10 = c6 .before .before .before .before in
     let a = c10 .args in
-    let arity = sym (rw (c4 .arity-read .given .1) at (c6 .field .ensures .0)) in
+    let arity = sym (rw (c4 .read .given .1) at (c6 .field .ensures .0)) in
     let ac = sym (rw (c .enum-told2 .given .1) at (c .before .before .field2 .ensures .0)) in
     let parts = symbol-parts (sourceOf (a .packed) (a .book .now) (a .sheet .now)) (a .w0) (symbolsAt (a .table .now)
     0 (a .number)) (a .at) in
@@ -51,7 +51,7 @@ returns-2 c =
 cast-ac : tie.Need-cast-ac
 cast-ac c =
     let c3 = c .before .before .before in
-    omega (arith, rw (c .before .ac-read .given .1) at (c3 .field2 .ensures .1))
+    omega (arith, rw (c .before .read2 .given .1) at (c3 .field2 .ensures .1))
 
 returns-3 : tie.Need-returns-3
 returns-3 c =
@@ -61,8 +61,8 @@ returns-3 c =
     let c9 = c7 .before .before in
     let c13 = c9 .before .before .before .before in
     let a = c13 .args in
-    let arity = sym (rw (c7 .arity-read .given .1) at (c9 .field .ensures .0)) in
-    let ac = sym (rw (c3 .ac-read .given .1) at (c5 .field2 .ensures .0)) in
+    let arity = sym (rw (c7 .read .given .1) at (c9 .field .ensures .0)) in
+    let ac = sym (rw (c3 .read2 .given .1) at (c5 .field2 .ensures .0)) in
     let parts = symbol-parts (sourceOf (a .packed) (a .book .now) (a .sheet .now)) (a .w0) (symbolsAt (a .table .now)
     0 (a .number)) (a .at) in
     (parts ∙ rw (arity, ac, sym (c .before .binary-if-ac .ensures) ∙ not-true _ (c .if1 .taken)), c13 .pre .1 .1)
@@ -79,8 +79,8 @@ returns-4 c =
     let c14 = c12 .before .before in
     let c18 = c14 .before .before .before .before in
     let a = c18 .args in
-    let arity = sym (rw (c12 .arity-read .given .1) at (c14 .field .ensures .0)) in
-    let ac = sym (rw (c8 .ac-read .given .1) at (c10 .field2 .ensures .0)) in
+    let arity = sym (rw (c12 .read .given .1) at (c14 .field .ensures .0)) in
+    let ac = sym (rw (c8 .read2 .given .1) at (c10 .field2 .ensures .0)) in
     let binary = sym (c6 .binary-if-ac .ensures) ∙ not-false _ (c5 .if1 .left) in
     let least = c3 .wide .ensures .0 ∙ c4 .least-weight .ensures in
     let weight = sym (rw (c .enum-told3 .given .1, least) at (c .before .before .field-at-least .ensures .0)) in
@@ -91,7 +91,7 @@ returns-4 c =
 cast-weight : tie.Need-cast-weight
 cast-weight c =
     let c3 = c .before .before .before in
-    omega (arith, rw (c .before .weight-read .given .1) at (c3 .field-at-least .ensures .1))
+    omega (arith, rw (c .before .read3 .given .1) at (c3 .field-at-least .ensures .1))
 
 read-rank-requires : tie.Need-read-rank-requires
 read-rank-requires c κs =
@@ -113,11 +113,11 @@ returns-5 c =
     let c19 = c17 .before .before in
     let c23 = c19 .before .before .before .before in
     let a = c23 .args in
-    let arity = sym (rw (c17 .arity-read .given .1) at (c19 .field .ensures .0)) in
-    let ac = sym (rw (c13 .ac-read .given .1) at (c15 .field2 .ensures .0)) in
+    let arity = sym (rw (c17 .read .given .1) at (c19 .field .ensures .0)) in
+    let ac = sym (rw (c13 .read2 .given .1) at (c15 .field2 .ensures .0)) in
     let binary = sym (c11 .binary-if-ac .ensures) ∙ not-false _ (c10 .if1 .left) in
     let least = c8 .wide .ensures .0 ∙ c9 .least-weight .ensures in
-    let weight = sym (rw (c5 .weight-read .given .1, least) at (c7 .field-at-least .ensures .0)) in
+    let weight = sym (rw (c5 .read3 .given .1, least) at (c7 .field-at-least .ensures .0)) in
     let rank = sym (rw (c .enum-told4 .given .1) at (c .before .before .read-rank .ensures .0 (symbolsAt (a .table
     .now) 0 (a .number)) (c23 .pre .1 .0))) in
     let parts = symbol-parts (sourceOf (a .packed) (a .book .now) (a .sheet .now)) (a .w0) (symbolsAt (a .table .now)
@@ -127,7 +127,7 @@ returns-5 c =
 cast-put-symbol : tie.Need-cast-put-symbol
 cast-put-symbol c =
     let c4 = c .before .before .before .before in
-    omega (arith, rw (c .before .before .rank-read .given .1) at (c4 .read-rank .ensures .1))
+    omega (arith, rw (c .before .before .read4 .given .1) at (c4 .read-rank .ensures .1))
 
 put-symbol-requires : tie.Need-put-symbol-requires
 put-symbol-requires c κs =
@@ -139,7 +139,7 @@ element-write-taken : tie.Need-element-write-taken
 element-write-taken c =
     let c5 = c .before .before .before .before .before in
     let c7 = c5 .before .before in
-    omega (arith, rw (c5 .rank-read .given .1) at (c7 .read-rank .ensures .1))
+    omega (arith, rw (c5 .read4 .given .1) at (c7 .read-rank .ensures .1))
 
 returns-6 : tie.Need-returns-6
 returns-6 c =
@@ -158,19 +158,19 @@ returns-6 c =
     let c28 = c24 .before .before .before .before in
     let a = c28 .args in
     let earlier = symbolsAt (a .table .now) 0 (a .number) in
-    let arity = sym (rw (c22 .arity-read .given .1) at (c24 .field .ensures .0)) in
-    let ac = sym (rw (c18 .ac-read .given .1) at (c20 .field2 .ensures .0)) in
+    let arity = sym (rw (c22 .read .given .1) at (c24 .field .ensures .0)) in
+    let ac = sym (rw (c18 .read2 .given .1) at (c20 .field2 .ensures .0)) in
     let binary = sym (c16 .binary-if-ac .ensures) ∙ not-false _ (c15 .if1 .left) in
     let least = c13 .wide .ensures .0 ∙ c14 .least-weight .ensures in
-    let weight = sym (rw (c10 .weight-read .given .1, least) at (c12 .field-at-least .ensures .0)) in
-    let rank = sym (rw (c5 .rank-read .given .1) at (c7 .read-rank .ensures .0 earlier (c28 .pre .1 .0))) in
-    let small = rw (c5 .rank-read .given .1) at (c7 .read-rank .ensures .1) in
+    let weight = sym (rw (c10 .read3 .given .1, least) at (c12 .field-at-least .ensures .0)) in
+    let rank = sym (rw (c5 .read4 .given .1) at (c7 .read-rank .ensures .0 earlier (c28 .pre .1 .0))) in
+    let small = rw (c5 .read4 .given .1) at (c7 .read-rank .ensures .1) in
     let parts = symbol-parts (sourceOf (a .packed) (a .book .now) (a .sheet .now)) (a .w0) earlier (a .at) in
     let s : Symbol = record {
-      arity = c22 .arity-read .given .0 .0;
-      ac = eqb (c18 .ac-read .given .0 .0) 1;
-      weight = c10 .weight-read .given .0 .0;
-      precedence = c5 .rank-read .given .0 .0;
+      arity = c22 .read .given .0 .0;
+      ac = eqb (c18 .read2 .given .0 .0) 1;
+      weight = c10 .read3 .given .0 .0;
+      precedence = c5 .read4 .given .0 .0;
     } in (
       (
         s,

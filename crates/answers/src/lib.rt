@@ -43,3 +43,14 @@ pub fn unpack(number: usize) -> Answer
         offset,
     }
 }
+
+// The error of a refusal.
+pub fn refusal(code: u8, input: u8, offset: usize) -> operations::Error
+    ensures { λ r. ⌜ r ≡ record { code = code; input = input; offset = offset } ⌝ }
+{
+    operations::Error {
+        code,
+        input,
+        offset,
+    }
+}

@@ -47,11 +47,11 @@ fn decode_through(book: &[u8], words: &mut [u16], nodes: &mut [u16]) -> CountRep
 {
     let mut table = [0u16; symbols::TABLE_WORDS];
     match reader::read_file(book, &[0u16; 0], true, &mut table, nodes) {
-        reader::File::Fault { code, offset } => CountReply::Refused(operations::Error {
+        reader::File::Fault { code, offset } => CountReply::Refused(answers::refusal(
             code,
-            input: 0,
+            0,
             offset,
-        }),
+        )),
         reader::File::Read {
             symbols,
             rules,
@@ -60,11 +60,7 @@ fn decode_through(book: &[u8], words: &mut [u16], nodes: &mut [u16]) -> CountRep
         } => {
             let total = HEADER_WORDS + symbols::entry_words(symbols) + count;
             if words.len() < total {
-                return CountReply::Refused(operations::Error {
-                    code: format::WORDS_TOO_SHORT,
-                    input: 1,
-                    offset: 0,
-                });
+                return CountReply::Refused(answers::refusal(format::WORDS_TOO_SHORT, 1, 0));
             }
             let front = symbols::front(symbols);
             put_file(&table[..front], words, rules, &nodes[..count]);

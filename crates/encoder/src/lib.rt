@@ -3,7 +3,6 @@ ghost use mathlib.Core.Path.{_≡_};
 ghost use Rattle.operations.specs.Coding.{encoded};
 ghost use Rattle.operations.specs.Enums.{countReply};
 use operations::CountReply;
-use operations::Error;
 
 mod items;
 
@@ -15,11 +14,11 @@ pub fn encode(words: &[u16], bytes: &mut [u8]) -> CountReply
     let mut table = [0u16; symbols::TABLE_WORDS];
     let mut none = [0u16; 0];
     match reader::read_file(&[0u8; 0], words, false, &mut table, &mut none) {
-        reader::File::Fault { code, offset } => CountReply::Refused(Error {
+        reader::File::Fault { code, offset } => CountReply::Refused(answers::refusal(
             code,
-            input: 0,
+            0,
             offset,
-        }),
+        )),
         reader::File::Read {
             symbols,
             rules,
@@ -28,18 +27,10 @@ pub fn encode(words: &[u16], bytes: &mut [u8]) -> CountReply
         } => {
             let count = (crate::items::packed_bits(words, symbols, start) + 7) / 8;
             if format::MAX_BYTES < count {
-                return CountReply::Refused(Error {
-                    code: format::FILE_TOO_LONG,
-                    input: 0,
-                    offset: 0,
-                });
+                return CountReply::Refused(answers::refusal(format::FILE_TOO_LONG, 0, 0));
             }
             if bytes.len() < count {
-                return CountReply::Refused(Error {
-                    code: format::BYTES_TOO_SHORT,
-                    input: 1,
-                    offset: 0,
-                });
+                return CountReply::Refused(answers::refusal(format::BYTES_TOO_SHORT, 1, 0));
             }
             crate::items::write_items(words, start, bytes);
             CountReply::Accepted(count)

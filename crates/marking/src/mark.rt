@@ -1,21 +1,10 @@
 // The operation that marks the rules of a packed file.
 ghost use mathlib.Core.Path.{_≡_};
 ghost use Prim.Native.Nat.{_<_};
-ghost use Rattle.operations.specs.Replies.Reply.{refused as refusedOf};
 ghost use Rattle.operations.specs.Marking.{scoreOf, marked};
 ghost use Rattle.operations.specs.Enums.{markReply};
 use crate::walk::FileMarked;
 use operations::MarkReply;
-
-fn refused(code: u8, input: u8, offset: usize) -> MarkReply
-    ensures { λ r. ⌜ markReply r ≡ refusedOf (record { code = code; input = input; offset = offset }) ⌝ }
-{
-    MarkReply::Refused(operations::Error {
-        code,
-        input,
-        offset,
-    })
-}
 
 // The percentage of decreasing rules.
 pub fn score(decreasing: usize, rules: usize) -> usize
@@ -38,10 +27,10 @@ pub fn mark(book: &[u8], marks: &mut [u8]) -> MarkReply
     let mut found = [0u8; format::MAX_RULES];
     let mut none = [0i64; 0];
     match crate::walk::mark_file(book, &mut found, &mut none) {
-        FileMarked::Fault { code, offset } => refused(code, 0, offset),
+        FileMarked::Fault { code, offset } => MarkReply::Refused(answers::refusal(code, 0, offset)),
         FileMarked::Marked { rules, decreasing } => {
             if marks.len() < rules {
-                return refused(format::MARKS_TOO_SHORT, 1, 0);
+                return MarkReply::Refused(answers::refusal(format::MARKS_TOO_SHORT, 1, 0));
             }
             text::put_bytes(marks, 0, &found[..rules]);
             let score = score(decreasing, rules);

@@ -30,16 +30,16 @@ add-total-2 c =
 
 returns : tie.Need-returns
 returns c =
-    let c3 = c .before .before .before in
-    let c8 = c3 .before .before .before .before .before in
-    let c15 = c8 .before .before .before .before .before .before .before in
-    let a = c15 .args in
-    let (file, end, read, parts) = rw (c3 .symbols .given .1) at (c8 .read-file .ensures) in
-    let count = word-count (a .book .now) (c8 .read-file .last .1 .1 .1 .0) (a .nodes .now) (c8 .read-file .last .1 .1
+    let c4 = c .before .before .before .before in
+    let c9 = c4 .before .before .before .before .before in
+    let c16 = c9 .before .before .before .before .before .before .before in
+    let a = c16 .args in
+    let (file, end, read, parts) = rw (c4 .symbols .given .1) at (c9 .read-file .ensures) in
+    let count = word-count (a .book .now) (c9 .read-file .last .1 .1 .1 .0) (a .nodes .now) (c9 .read-file .last .1 .1
     .1 .1 .0) file
     _ _ _ _ parts in
-    decode-short (a .book .now) (a .words .now) file end (sym (read-packed (a .book .now) []) ∙ read)
-    (omega (arith, count, c .before .entry-words .ensures .0))
+    rw (c .refusal2 .ensures) (decode-short (a .book .now) (a .words .now) file end
+    (sym (read-packed (a .book .now) []) ∙ read) (omega (arith, count, c .before .before .entry-words .ensures .0)))
 
 front-requires : tie.Need-front-requires
 front-requires c κs =
@@ -119,11 +119,11 @@ put-file-requires c κs =
 
 returns-2 : tie.Need-returns-2
 returns-2 c =
-    let c6 = c .before .before .before .before .before .before in
-    let c13 = c6 .before .before .before .before .before .before .before in
-    let a = c13 .args in
-    decode-fault (a .book .now) (a .words .now) _ _ (sym (read-packed (a .book .now) []) ∙ rw (c .before .code .given
-    .1) at (c6 .read-file .ensures))
+    let c7 = c .before .before .before .before .before .before .before in
+    let c14 = c7 .before .before .before .before .before .before .before in
+    let a = c14 .args in
+    rw (c .refusal .ensures) (decode-fault (a .book .now) (a .words .now) _ _
+    (sym (read-packed (a .book .now) []) ∙ rw (c .before .before .code .given .1) at (c7 .read-file .ensures)))
 
 returns-3 : tie.Need-returns-3
 returns-3 c =
@@ -154,10 +154,12 @@ decode-through-spec =
     (λ c. search needs)
     (λ c κs. search needs)
     (λ c. search needs)
+    (λ c κs. search needs)
     (λ c. search needs)
     entry-words-requires
     (λ c. search needs)
     add-total-2
+    (λ c κs. search needs)
     (λ c. search needs)
     returns
     front-requires

@@ -39,29 +39,30 @@ add-count c =
 returns : tie.Need-returns
 unfolding entryWords
 returns c =
-    let c3 = c .before .before .before in
-    let c7 = c3 .before .before .before .before in
-    let c13 = c7 .before .before .before .before .before .before in
-    let a = c13 .args in
-    let (file, end, read, parts) = rw (c3 .symbols .given .1) at (c7 .read-file .ensures) in
-    let whole = sym (read-words (a .words .now)) ∙ read in
-    encode-long (a .words .now) (a .bytes .now) file end _ _ whole
-    (file-listed (a .words .now) _ _ _ file end _ _ _ _ whole parts) (rw (c .before .packed-bits .ensures) at (c .if1
-    .taken))
-
-returns-2 : tie.Need-returns-2
-unfolding entryWords
-returns-2 c =
     let c4 = c .before .before .before .before in
     let c8 = c4 .before .before .before .before in
     let c14 = c8 .before .before .before .before .before .before in
     let a = c14 .args in
     let (file, end, read, parts) = rw (c4 .symbols .given .1) at (c8 .read-file .ensures) in
     let whole = sym (read-words (a .words .now)) ∙ read in
-    encode-short (a .words .now) (a .bytes .now) file end _ _ whole
-    (file-listed (a .words .now) _ _ _ file end _ _ _ _ whole parts) (rw (c .before .before .packed-bits .ensures) at
-    (c .before .if1 .left))
-    (rw (c .before .before .packed-bits .ensures) at (c .if2 .taken))
+    rw (c .refusal2 .ensures) (encode-long (a .words .now) (a .bytes .now) file end _ _ whole
+    (file-listed (a .words .now) _ _ _ file end _ _ _ _ whole parts)
+    (rw (c .before .before .packed-bits .ensures) at (c .before .if1 .taken)))
+
+returns-2 : tie.Need-returns-2
+unfolding entryWords
+returns-2 c =
+    let c3 = c .before .before .before in
+    let c5 = c3 .before .before in
+    let c9 = c5 .before .before .before .before in
+    let c15 = c9 .before .before .before .before .before .before in
+    let a = c15 .args in
+    let (file, end, read, parts) = rw (c5 .symbols .given .1) at (c9 .read-file .ensures) in
+    let whole = sym (read-words (a .words .now)) ∙ read in
+    rw (c .refusal3 .ensures) (encode-short (a .words .now) (a .bytes .now) file end _ _ whole
+    (file-listed (a .words .now) _ _ _ file end _ _ _ _ whole parts)
+    (rw (c3 .packed-bits .ensures) at (c .before .before .if1 .left))
+    (rw (c3 .packed-bits .ensures) at (c .before .if2 .taken)))
 
 write-items-requires : tie.Need-write-items-requires
 unfolding entryWords
@@ -78,11 +79,11 @@ write-items-requires c κs =
 returns-3 : tie.Need-returns-3
 unfolding entryWords
 returns-3 c =
-    let c5 = c .before .before .before .before .before in
-    let c11 = c5 .before .before .before .before .before .before in
-    let a = c11 .args in
-    encode-fault (a .words .now) (a .bytes .now) _ _
-    (sym (read-words (a .words .now)) ∙ rw (c .before .code .given .1) at (c5 .read-file .ensures))
+    let c6 = c .before .before .before .before .before .before in
+    let c12 = c6 .before .before .before .before .before .before in
+    let a = c12 .args in
+    rw (c .refusal .ensures) (encode-fault (a .words .now) (a .bytes .now) _ _
+    (sym (read-words (a .words .now)) ∙ rw (c .before .before .code .given .1) at (c6 .read-file .ensures)))
 
 returns-4 : tie.Need-returns-4
 unfolding entryWords
@@ -111,10 +112,13 @@ encode-spec =
     (λ c. search needs)
     (λ c κs. search needs)
     (λ c. search needs)
+    (λ c κs. search needs)
     (λ c. search needs)
     packed-bits-requires
     add-count
+    (λ c κs. search needs)
     returns
+    (λ c κs. search needs)
     returns-2
     write-items-requires
     returns-3

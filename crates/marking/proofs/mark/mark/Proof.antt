@@ -15,7 +15,7 @@ returns c =
     let a = c12 .args in
     let (f, end, e, m) = rw (c3 .rules .given .1) at (c7 .mark-file .ensures) in
     let (reply, output) = mark-short (a .book .now) (a .marks .now) f end e _ _ _ _ _ _ m (c .before .if1 .taken) in
-    (c .refused2 .ensures ∙ reply, output)
+    rw (c .refusal2 .ensures) (reply, output)
 
 array-share-prefix-found : tie.Need-array-share-prefix-found
 array-share-prefix-found c =
@@ -58,7 +58,7 @@ returns-2 c =
     let a = c11 .args in
     let (reply, output) = mark-fault (a .book .now) (a .marks .now) _ _ (rw (c .before .before .code .given .1) at (c6
     .mark-file .ensures)) in
-    (c .refused .ensures ∙ reply, output)
+    rw (c .refusal .ensures) (reply, output)
 
 returns-3 : tie.Need-returns-3
 returns-3 c =

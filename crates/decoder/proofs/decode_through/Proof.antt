@@ -148,28 +148,8 @@ returns-3 c =
 
 pub decode-through-spec : {M : Type 1} → statement M
 decode-through-spec =
-    tie.close
-    (tie.spec
-    (λ c. search needs)
-    (λ c. search needs)
-    (λ c κs. search needs)
-    (λ c. search needs)
-    (λ c κs. search needs)
-    (λ c. search needs)
-    entry-words-requires
-    (λ c. search needs)
-    add-total-2
-    (λ c κs. search needs)
-    (λ c. search needs)
-    returns
-    front-requires
-    array-share-prefix-table
-    slice-aggregate-put-file
-    slice-reshare-prefix-put-file
-    slice-aggregate-put-file-2
-    put-file-requires
-    (λ c. search needs)
-    returns-2
-    (λ c. search needs)
-    (λ c. search needs)
-    returns-3)
+    tie.close (tie.spec (λ c. search needs) (λ c. search needs) (λ c κs. search needs) (λ c. search needs)
+    (λ c κs. search needs) (λ c. search needs) entry-words-requires (λ c. search needs) add-total-2
+    (λ c κs. search needs) (λ c. search needs) returns front-requires array-share-prefix-table
+    slice-aggregate-put-file slice-reshare-prefix-put-file slice-aggregate-put-file-2 put-file-requires
+    (λ c. search needs) returns-2 (λ c. search needs) (λ c. search needs) returns-3)

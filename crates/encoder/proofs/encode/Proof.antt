@@ -105,22 +105,7 @@ returns-4 c =
 
 pub encode-spec : {M : Type 1} → statement M
 encode-spec =
-    tie.close
-    (tie.spec
-    (λ c. search needs)
-    (λ c. search needs)
-    (λ c. search needs)
-    (λ c κs. search needs)
-    (λ c. search needs)
-    (λ c κs. search needs)
-    (λ c. search needs)
-    packed-bits-requires
-    add-count
-    (λ c κs. search needs)
-    returns
-    (λ c κs. search needs)
-    returns-2
-    write-items-requires
-    returns-3
-    (λ c. search needs)
-    returns-4)
+    tie.close (tie.spec (λ c. search needs) (λ c. search needs) (λ c. search needs) (λ c κs. search needs)
+    (λ c. search needs) (λ c κs. search needs) (λ c. search needs) packed-bits-requires add-count
+    (λ c κs. search needs) returns (λ c κs. search needs) returns-2 write-items-requires returns-3
+    (λ c. search needs) returns-4)

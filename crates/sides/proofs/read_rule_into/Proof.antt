@@ -42,13 +42,5 @@ returns-2 c =
 
 pub read-rule-into-spec : {M : Type 1} → statement M
 read-rule-into-spec =
-    tie.close
-    (tie.spec
-    (λ c κs. search needs)
-    (λ c. search needs)
-    (λ c. search needs)
-    read-side-into-requires-2
-    (λ c. search needs)
-    returns
-    (λ c. search needs)
-    returns-2)
+    tie.close (tie.spec (λ c κs. search needs) (λ c. search needs) (λ c. search needs) read-side-into-requires-2
+    (λ c. search needs) returns (λ c. search needs) returns-2)

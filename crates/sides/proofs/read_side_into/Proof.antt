@@ -76,15 +76,5 @@ returns-2 c =
 
 pub read-side-into-spec : {M : Type 1} → statement M
 read-side-into-spec =
-    tie.close
-    (tie.spec
-    (λ c κs. search needs)
-    (λ c. search needs)
-    (λ c. search needs)
-    array-share-prefix-side
-    slice-aggregate-put-words
-    put-words-requires
-    add-t19
-    returns
-    (λ c. search needs)
-    returns-2)
+    tie.close (tie.spec (λ c κs. search needs) (λ c. search needs) (λ c. search needs) array-share-prefix-side
+    slice-aggregate-put-words put-words-requires add-t19 returns (λ c. search needs) returns-2)

@@ -65,18 +65,6 @@ returns-2 c =
 
 pub mark-file-spec : {M : Type 1} → statement M
 mark-file-spec =
-    tie.close
-    (tie.spec
-    (λ c. search needs)
-    (λ c. search needs)
-    (λ c κs. search needs)
-    (λ c. search needs)
-    (λ c. search needs)
-    front-requires
-    (λ c. search needs)
-    slice-aggregate-mark-under
-    mark-under-requires
-    returns
-    (λ c. search needs)
-    (λ c. search needs)
-    returns-2)
+    tie.close (tie.spec (λ c. search needs) (λ c. search needs) (λ c κs. search needs) (λ c. search needs)
+    (λ c. search needs) front-requires (λ c. search needs) slice-aggregate-mark-under mark-under-requires
+    returns (λ c. search needs) (λ c. search needs) returns-2)

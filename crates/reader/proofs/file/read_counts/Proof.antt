@@ -87,21 +87,6 @@ returns-4 c =
 
 pub read-counts-spec : {M : Type 1} → statement M
 read-counts-spec =
-    tie.close
-    (tie.spec
-    (λ c κs. search needs)
-    (λ c. search needs)
-    (λ c. search needs)
-    (λ c κs. search needs)
-    (λ c. search needs)
-    (λ c. search needs)
-    (λ c κs. search needs)
-    (λ c. search needs)
-    (λ c. search needs)
-    cast-read-table
-    read-table-requires
-    returns
-    returns-2
-    returns-3
-    (λ c. search needs)
-    returns-4)
+    tie.close (tie.spec (λ c κs. search needs) (λ c. search needs) (λ c. search needs) (λ c κs. search needs)
+    (λ c. search needs) (λ c. search needs) (λ c κs. search needs) (λ c. search needs) (λ c. search needs)
+    cast-read-table read-table-requires returns returns-2 returns-3 (λ c. search needs) returns-4)

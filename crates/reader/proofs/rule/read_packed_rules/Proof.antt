@@ -81,18 +81,5 @@ returns-2 c =
 
 pub read-packed-rules-spec : {M : Type 1} → statement M
 read-packed-rules-spec =
-    tie.close
-    (tie.spec
-    Inv-loop
-    μ-loop
-    loop-holds
-    read-rule-into-requires
-    (λ c. search needs)
-    same-length
-    returns
-    (λ c. search needs)
-    (λ c. search needs)
-    (λ c. search needs)
-    loop-again
-    same-length-2
-    returns-2)
+    tie.close (tie.spec Inv-loop μ-loop loop-holds read-rule-into-requires (λ c. search needs) same-length
+    returns (λ c. search needs) (λ c. search needs) (λ c. search needs) loop-again same-length-2 returns-2)

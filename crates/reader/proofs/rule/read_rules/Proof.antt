@@ -46,12 +46,5 @@ returns-2 c =
 
 pub read-rules-spec : {M : Type 1} → statement M
 read-rules-spec =
-    tie.close
-    (tie.spec
-    (λ c κs. search needs)
-    read-packed-rules-requires
-    (λ c. search needs)
-    returns
-    (λ c κs. search needs)
-    read-word-rules-requires
-    returns-2)
+    tie.close (tie.spec (λ c κs. search needs) read-packed-rules-requires (λ c. search needs) returns
+    (λ c κs. search needs) read-word-rules-requires returns-2)

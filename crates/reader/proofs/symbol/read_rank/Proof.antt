@@ -57,12 +57,5 @@ returns-3 c =
 
 pub read-rank-spec : {M : Type 1} → statement M
 read-rank-spec =
-    tie.close
-    (tie.spec
-    (λ c κs. search needs)
-    (λ c. search needs)
-    (λ c. search needs)
-    element-copy-out-if1
-    returns
-    returns-2
-    returns-3)
+    tie.close (tie.spec (λ c κs. search needs) (λ c. search needs) (λ c. search needs) element-copy-out-if1
+    returns returns-2 returns-3)

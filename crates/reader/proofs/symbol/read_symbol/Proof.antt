@@ -184,33 +184,8 @@ returns-6 c =
 
 pub read-symbol-spec : {M : Type 1} → statement M
 read-symbol-spec =
-    tie.close
-    (tie.spec
-    (λ c κs. search needs)
-    (λ c. search needs)
-    (λ c. search needs)
-    returns
-    cast-arity
-    (λ c κs. search needs)
-    (λ c. search needs)
-    (λ c. search needs)
-    returns-2
-    cast-ac
-    (λ c κs. search needs)
-    returns-3
-    (λ c κs. search needs)
-    (λ c κs. search needs)
-    (λ c κs. search needs)
-    (λ c. search needs)
-    (λ c. search needs)
-    returns-4
-    cast-weight
-    read-rank-requires
-    (λ c. search needs)
-    (λ c. search needs)
-    returns-5
-    cast-put-symbol
-    put-symbol-requires
-    element-write-taken
-    (λ c. search needs)
-    returns-6)
+    tie.close (tie.spec (λ c κs. search needs) (λ c. search needs) (λ c. search needs) returns cast-arity
+    (λ c κs. search needs) (λ c. search needs) (λ c. search needs) returns-2 cast-ac (λ c κs. search needs)
+    returns-3 (λ c κs. search needs) (λ c κs. search needs) (λ c κs. search needs) (λ c. search needs)
+    (λ c. search needs) returns-4 cast-weight read-rank-requires (λ c. search needs) (λ c. search needs)
+    returns-5 cast-put-symbol put-symbol-requires element-write-taken (λ c. search needs) returns-6)

@@ -100,19 +100,6 @@ returns-2 c =
 
 pub read-symbols-from-spec : {M : Type 1} → statement M
 read-symbols-from-spec =
-    tie.close
-    (tie.spec
-    Inv-loop
-    μ-loop
-    loop-holds
-    read-symbol-requires
-    (λ c. search needs)
-    same-length
-    returns
-    (λ c. search needs)
-    (λ c. search needs)
-    (λ c. search needs)
-    loop-again
-    put-variable-weight-requires
-    same-length-2
-    returns-2)
+    tie.close (tie.spec Inv-loop μ-loop loop-holds read-symbol-requires (λ c. search needs) same-length returns
+    (λ c. search needs) (λ c. search needs) (λ c. search needs) loop-again put-variable-weight-requires
+    same-length-2 returns-2)

@@ -36,19 +36,6 @@ returns c = let a = c .before .before .args in
 
 pub put-symbol-spec : {M : Type 1} → statement M
 put-symbol-spec =
-    tie.close
-    (tie.spec
-    (λ c κs. search needs)
-    (λ c. search needs)
-    slice-write-table
-    (λ c. search needs)
-    (λ c. search needs)
-    slice-write-table-2
-    (λ c. search needs)
-    (λ c. search needs)
-    slice-write-table-3
-    (λ c. search needs)
-    (λ c. search needs)
-    slice-write-table-4
-    (λ c. search needs)
-    returns)
+    tie.close (tie.spec (λ c κs. search needs) (λ c. search needs) slice-write-table (λ c. search needs)
+    (λ c. search needs) slice-write-table-2 (λ c. search needs) (λ c. search needs) slice-write-table-3
+    (λ c. search needs) (λ c. search needs) slice-write-table-4 (λ c. search needs) returns)

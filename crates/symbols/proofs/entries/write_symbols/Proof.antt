@@ -64,19 +64,6 @@ returns c =
 
 pub write-symbols-spec : {M : Type 1} → statement M
 write-symbols-spec =
-    tie.close
-    (tie.spec
-    Inv-loop
-    μ-loop
-    (λ c κs. search needs)
-    cast-count
-    loop-holds
-    (λ c κs. search needs)
-    entry-words-requires
-    add-write-symbol
-    write-symbol-requires
-    (λ c. search needs)
-    (λ c. search needs)
-    loop-again
-    same-length
-    returns)
+    tie.close (tie.spec Inv-loop μ-loop (λ c κs. search needs) cast-count loop-holds (λ c κs. search needs)
+    entry-words-requires add-write-symbol write-symbol-requires (λ c. search needs) (λ c. search needs)
+    loop-again same-length returns)

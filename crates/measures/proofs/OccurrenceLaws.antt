@@ -1,31 +1,22 @@
 -- Occurrences of eight variables as digits of one number: comparing digits compares occurrences.
---     packed-small                         each digit is small
---     halves-none                          the test of all sixteen variables
---     totals-none-oftener                  that test, by the sums of two terms
---     few-small, few-halves                that test, by the sums at two offsets
-use mathlib.Core.List.{List}
-use mathlib.Core.Path.{_≡_, refl}
-use mathlib.Core.Bool.{Bool, true, cond, _&&_, and-eq-true-iff as both}
+--     packed-small                               each digit is small
+--     packed-first                               the first digit that is greater
+--     counts-small                               the digits in the totals of a term
+--     counted-low, counted-high, counted-none    the first variable that occurs oftener, by the totals of two terms
+use mathlib.Core.Path.{_≡_, refl, ap, _∙_}
+use mathlib.Core.Bool.{cond}
 use Prim.Native.Nat.{ℕ, suc, zero, _+_, _*_, _/_, _%_, _≤_, _<_}
 use native.Mathlib.Omega.{arith}
-use lib.Dec.{eqb, leb}
-use lib.ListN.{length}
-use borrow.Author.Tests.{leb-true, le-leb}
-use Rattle.multisets.proofs.Relations.{byTest, byOrder, sameTest}
-use Rattle.terms.specs.Signature.{Signature}
+use lib.Dec.{eqb, ltb}
+use Rattle.multisets.proofs.Relations.{byTest}
 use Rattle.terms.specs.Term.{Term, Terms, size, sizes, measures, occurrences, variableCount}
 use Rattle.terms.specs.Term.Term.{var, app}
 use Rattle.terms.specs.Term.Terms.{nil, cons}
-use Rattle.terms.specs.Words.{termOf}
-use Rattle.terms.specs.Order.{noneOftener}
-use Rattle.terms.proofs.OrderLaws.{noneOftener-facts}
-use Rattle.symbols.specs.Table.{signatureOf}
-use Rattle.equivalence.specs.Parts.{partAt}
-use Rattle.equivalence.proofs.StepLaws.{part-small}
+use Rattle.terms.specs.Oftener.{oftenerFrom, firstOftener}
+use Rattle.terms.proofs.OftenerLaws.{First, oftener-first, first-oftener, first-low, first-high}
 use Rattle.measures.specs.declared.totals.Totals.{Totals}
-use Rattle.measures.specs.Digits.{digit, packed, digitsWithin, SmallDigits}
-use Rattle.measures.specs.Totals.{Totalled}
-use Rattle.measures.specs.Sums.{Scale}
+use Rattle.measures.specs.Digits.{digit, packed, firstGreater, SmallDigits}
+use Rattle.measures.specs.Totals.{Counted, Counts}
 
 -- ---- digits are occurrences
 
@@ -78,70 +69,44 @@ module _ (t : Term) (h : size t ≤ 128) where
   packed-small (suc n) k =
       let (e, d) = step k n in rw (e, d) (occurrences-few k t h, packed-small n (suc k))
 
-module _ (s t : Term) (p : size s ≤ 128) (q : size t ≤ 128) where
-  within-all : (n k : ℕ) → ((x : ℕ) → k ≤ x → x < k + n → occurrences x t ≤ occurrences x s) →
-      digitsWithin n (packed k n s) (packed k n t) ≡ true
-  unfolding digitsWithin
-  within-all zero k h = refl
-  within-all (suc n) k h =
-      let (a, b) = step s p k n in
-      let (c, d) = step t q k n in
-      rw (a, b, c, d, le-leb _ _ (h k (omega arith) (omega arith)))
-      (within-all n (suc k) λ x l m. h x (omega arith) (omega arith))
+-- The first digit that is greater is that of the first variable that occurs oftener.
+packed-first : (s t : Term) → size s ≤ 128 → size t ≤ 128 → (n k : ℕ) →
+    k + firstGreater n (packed k n s) (packed k n t) ≡ oftenerFrom k n s t
+unfolding firstGreater oftenerFrom
+packed-first s t p q zero k = omega arith
+packed-first s t p q (suc n) k =
+    let (a, b) = step s p k n in
+    let (c, d) = step t q k n in
+    rw (a, b, c, d) (byTest (ltb (occurrences k s) (occurrences k t)) (λ e. rw e (omega arith))
+    λ e. rw e (omega (arith, packed-first s t p q n (suc k))))
 
-  within-each : (n k : ℕ) → digitsWithin n (packed k n s) (packed k n t) ≡ true → (x : ℕ) → k ≤ x → x < k + n →
-      occurrences x t ≤ occurrences x s
-  unfolding digitsWithin
-  within-each zero k e x l m = absurd (omega arith)
-  within-each (suc n) k e x l m =
-      let (a, b) = step s p k n in
-      let (c, d) = step t q k n in
-      let f = rw (a, b, c, d) at e in
-      let g = both (leb (occurrences k t) (occurrences k s)) _ .0 f in
-      byOrder k x (λ z. within-each n (suc k) (g .1) x (omega arith) (omega arith))
-      λ z. let y : x ≡ k = omega arith in rw y (leb-true _ _ (g .0))
+-- ---- by the totals of two terms
 
-  -- The digits of both halves, and all sixteen variables.
-  abbrev halves : Bool
-  halves = digitsWithin 8 (packed 0 8 s) (packed 0 8 t) && digitsWithin 8 (packed 8 8 s) (packed 8 8 t)
+pub counts-small : {r : Totals} → Counts r → SmallDigits 8 (r .low) × SmallDigits 8 (r .high)
+counts-small (t, A) =
+    (rw (A .low) (packed-small t (A .short) 8 0), rw (A .high) (packed-small t (A .short) 8 8))
 
-  pub halves-none : halves ≡ noneOftener variableCount s t
-  halves-none =
-      let facts = noneOftener-facts variableCount s t in
-      sameTest halves (noneOftener variableCount s t)
-      (λ e. let (low, high) = both (digitsWithin 8 (packed 0 8 s) (packed 0 8 t)) _ .0 e in
-      facts .1 λ x l. byOrder x 8 (λ a. within-each 8 0 low x (omega arith) (omega arith))
-      λ a. within-each 8 8 high x a (omega arith))
-      λ d. both _ _ .1 (
-        within-all 8 0 (λ x l m. facts .0 d x (omega arith)),
-        within-all 8 8 (λ x l m. facts .0 d x (omega arith)),
-      )
+module _ {s t : Term} {a b : Totals} (A : Counted s a) (B : Counted t b) {q r : ℕ}
+    (d : q ≡ firstGreater 8 (a .low) (b .low)) (e : r ≡ firstGreater 8 (a .high) (b .high)) where
+  low-first : First s t 0 8 q
+  low-first =
+      let f = packed-first s t (A .short) (B .short) 8 0 in
+      let g : q ≡ oftenerFrom 0 8 s t = rw (A .low, B .low) at d ∙ omega (arith, f) in
+      rw g (oftener-first s t 8 0)
 
--- ---- by the sums of two terms, and of the terms at two offsets
+  high-first : First s t 8 8 (8 + r)
+  high-first =
+      let f = packed-first s t (A .short) (B .short) 8 8 in
+      let g : 8 + r ≡ oftenerFrom 8 8 s t = ap (λ (n : ℕ). 8 + n) (rw (A .high, B .high) at e) ∙ f in
+      rw g (oftener-first s t 8 8)
 
-pub totals-none-oftener : {σ : Signature} {s t : List ℕ} {a b : Totals} → Totalled σ s a → Totalled σ t b →
-    (digitsWithin 8 (a .low) (b .low) && digitsWithin 8 (a .high) (b .high))
-    ≡ noneOftener variableCount (termOf σ s) (termOf σ t)
-totals-none-oftener {σ} {s} {t} A B =
-    rw (A .low, B .low, A .high, B .high) (halves-none (termOf σ s) (termOf σ t) (A .short) (B .short))
+  pub counted-low : q < 8 → q ≡ firstOftener s t
+  unfolding firstOftener
+  counted-low l = first-oftener s t (first-low s t 8 low-first l)
 
-module _ {table s skeys ssums t tkeys tsums : List ℕ}
-    (W : Scale table s skeys ssums t tkeys tsums) {i j : ℕ} (h : i < length s) (k : j < length t) where
-  abbrev left : Term
-  left = partAt (signatureOf table) s i
+  pub counted-high : 8 ≤ q → 8 + r ≡ firstOftener s t
+  unfolding firstOftener
+  counted-high l = first-oftener s t (first-high s t low-first l high-first)
 
-  abbrev right : Term
-  right = partAt (signatureOf table) t j
-
-  left-short : size left ≤ 128
-  left-short = let P = W .sides .left in omega (arith, part-small (signatureOf table) s (P .complete) i h, P .short)
-
-  right-short : size right ≤ 128
-  right-short = let P = W .sides .right in omega (arith, part-small (signatureOf table) t (P .complete) j k, P .short)
-
-  pub few-small : (m : ℕ) {a b : ℕ} → a ≡ packed m 8 left → b ≡ packed m 8 right → SmallDigits 8 a × SmallDigits 8 b
-  few-small m d e = (rw d (packed-small left left-short 8 m), rw e (packed-small right right-short 8 m))
-
-  pub few-halves : {a b c d : ℕ} → a ≡ packed 0 8 left → b ≡ packed 0 8 right → c ≡ packed 8 8 left →
-      d ≡ packed 8 8 right → (digitsWithin 8 a b && digitsWithin 8 c d) ≡ noneOftener variableCount left right
-  few-halves d e f g = rw (d, e, f, g) (halves-none left right left-short right-short)
+  pub counted-none : 8 ≤ q → 8 ≤ r → variableCount ≡ firstOftener s t
+  counted-none l m = let g : variableCount ≡ 8 + r = omega (arith, high-first .to) in g ∙ counted-high l

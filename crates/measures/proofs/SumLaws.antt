@@ -2,20 +2,20 @@
 --     term-sum                    the words of a term
 --     nodes-part                  the words from an offset on are those of the part there and those after it
 --     place-below, place-at       the place value of a variable
---     part-sum                    the sum of a part
+--     part-sums                   the sums of a part
 --     occurrence-node             what a node adds to the digits
 use mathlib.Core.List.{List, [], _∷_, _++_, append-nil}
 use mathlib.Core.Path.{_≡_, refl, sym, ap, _∙_}
 use mathlib.Core.Bool.{cond}
 use Prim.Native.Nat.{ℕ, suc, zero, _+_, _-_, _*_, _/_, _%_, _^_, _≤_, _<_}
 use native.Mathlib.Omega.{arith}
-use native.Mathlib.Nat.{pow-succ'}
+use native.Mathlib.Nat.{add-zero, pow-succ'}
 use lib.Dec.{ltb, eqb}
 use lib.ListN.{length, getD, take, drop, take-append-drop}
 use borrow.Author.Tests.{lt-ltb, le-ltb, eq-eqb, ne-eqb}
 use Rattle.multisets.proofs.Relations.{byTest, byOrder}
 use Rattle.terms.specs.Signature.{Signature, symbolOf}
-use Rattle.terms.specs.Term.{Term, size, measure, measures, arguments}
+use Rattle.terms.specs.Term.{Term, size, weight, measure, measures, arguments}
 use Rattle.terms.specs.Words.{firstVariable, grow, forestOf, termOf}
 use Rattle.terms.proofs.WordsLaws.{forestOf-words}
 use Rattle.format.specs.Statements.{IsTerm}
@@ -23,7 +23,7 @@ use Rattle.equivalence.specs.Parts.{partAt}
 use Rattle.equivalence.specs.Keys.{Prepared, sizeIn}
 use Rattle.equivalence.proofs.PartLaws.{next, stand-one}
 use Rattle.equivalence.proofs.StepLaws.{prepared-size, part-small}
-use Rattle.measures.specs.Digits.{digit}
+use Rattle.measures.specs.Digits.{digit, packed}
 use Rattle.measures.specs.Nodes.{node, nodes, atVariable, atSymbol, wordSum, termSum}
 use Rattle.measures.specs.Sums.{SummedUp}
 
@@ -58,10 +58,18 @@ term-sum σ few {ws} p v w =
     sym (totals-forest σ v w ws) ∙ ap (λ (us : List ℕ). totals σ v w (forestOf σ us)) (p .spelled)
     ∙ ap (totals σ v w) one ∙ omega arith
 
-module _ {σ : Signature} {ws keys : List ℕ} (P : Prepared σ ws keys) (i : ℕ) (h : i < length ws) where
-  pub part-fits : i + sizeIn keys i ≤ length ws
-  part-fits = omega (arith, prepared-size P i h, part-small σ ws (P .complete) i h)
+-- The differences of the sums stored for offset i and for the one w after it are the sums over the part at i.
+pub record PartSums (σ : Signature) (ws sums : List ℕ) (i w : ℕ) : Type 0 where
+  pub room : 3 * (i + w) + 2 < 387
+  pub weight-le : getD sums (3 * (i + w)) 0 ≤ getD sums (3 * i) 0
+  pub low-le : getD sums (3 * (i + w) + 1) 0 ≤ getD sums (3 * i + 1) 0
+  pub high-le : getD sums (3 * (i + w) + 2) 0 ≤ getD sums (3 * i + 2) 0
+  pub weight : getD sums (3 * i) 0 - getD sums (3 * (i + w)) 0 ≡ weight σ (partAt σ ws i)
+  pub low : getD sums (3 * i + 1) 0 - getD sums (3 * (i + w) + 1) 0 ≡ packed 0 8 (partAt σ ws i)
+  pub high : getD sums (3 * i + 2) 0 - getD sums (3 * (i + w) + 2) 0 ≡ packed 8 8 (partAt σ ws i)
+  pub short : size (partAt σ ws i) ≤ 128
 
+module _ {σ : Signature} {ws keys : List ℕ} (P : Prepared σ ws keys) (i : ℕ) (h : i < length ws) where
   nodes-part : (v w : ℕ → ℕ) →
       nodes v w (drop i ws) ≡ measure v w (partAt σ ws i) + nodes v w (drop (i + sizeIn keys i) ws)
   nodes-part v w =
@@ -70,14 +78,34 @@ module _ {σ : Signature} {ws keys : List ℕ} (P : Prepared σ ws keys) (i : �
       ∙ ap (λ (n : ℕ). measure v w (partAt σ ws i) + n) (totals-forest σ v w (drop (i + size (partAt σ ws i)) ws))
       ∙ rw (prepared-size P i h)
 
-  pub part-sum : {kind : ℕ} {sums : List ℕ} → SummedUp σ ws sums → kind < 3 → {w : ℕ} → w ≡ sizeIn keys i →
-      (getD sums (3 * (i + w) + kind) 0 ≤ getD sums (3 * i + kind) 0)
-      × (getD sums (3 * i + kind) 0 - getD sums (3 * (i + w) + kind) 0 ≡ termSum σ kind (partAt σ ws i))
-  part-sum {kind} S l {w} d =
-      let a = S .sum kind i l (omega arith) in
-      let b = S .sum kind (i + w) l (omega (arith, part-fits)) in
-      let e : wordSum σ kind (drop (i + w) ws) ≡ wordSum σ kind (drop (i + sizeIn keys i) ws) = rw d in
-      omega (arith, nodes-part (atVariable σ kind) (atSymbol σ kind))
+  module _ {sums : List ℕ} (S : SummedUp σ ws sums) {w : ℕ} (d : w ≡ sizeIn keys i) where
+    fits : i + w ≤ length ws
+    fits = omega (arith, prepared-size P i h, part-small σ ws (P .complete) i h)
+
+    part-sum : (kind : ℕ) → kind < 3 →
+        (getD sums (3 * (i + w) + kind) 0 ≤ getD sums (3 * i + kind) 0)
+        × (getD sums (3 * i + kind) 0 - getD sums (3 * (i + w) + kind) 0 ≡ termSum σ kind (partAt σ ws i))
+    part-sum kind l =
+        let a = S .sum kind i l (omega arith) in
+        let b = S .sum kind (i + w) l fits in
+        let e : wordSum σ kind (drop (i + w) ws) ≡ wordSum σ kind (drop (i + sizeIn keys i) ws) = rw d in
+        omega (arith, nodes-part (atVariable σ kind) (atSymbol σ kind))
+
+    pub part-sums : PartSums σ ws sums i w
+    part-sums =
+        let (a, x) = rw (add-zero (3 * i), add-zero (3 * (i + w))) at (part-sum 0 (omega arith)) in
+        let (b, y) = part-sum 1 (omega arith) in
+        let (c, z) = part-sum 2 (omega arith) in
+        record {
+          room = omega (arith, fits, P .short);
+          weight-le = a;
+          low-le = b;
+          high-le = c;
+          weight = x;
+          low = y;
+          high = z;
+          short = omega (arith, fits, prepared-size P i h, P .short);
+        }
 
 -- ---- place values
 

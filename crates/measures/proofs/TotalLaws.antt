@@ -19,7 +19,6 @@ use Rattle.measures.specs.declared.totals.Totals.{Totals}
 use Rattle.measures.specs.Nodes.{atVariable, atSymbol, nodeSum, wordSum, termSum, triple, NodeSums}
 use Rattle.measures.specs.Totals.{SumsWithin, Added, WordTotals, Totalled}
 use Rattle.measures.proofs.SumLaws.{term-sum}
-use Rattle.measures.proofs.OccurrenceLaws.{packed-small}
 use Rattle.measures.proofs.TripleLaws.{which, triple-length, triple-other, triple-same}
 
 pub sums-within-more : {m n : ℕ} {r : Totals} → m ≤ n → SumsWithin m r → SumsWithin n r
@@ -66,18 +65,11 @@ module _ {σ : Signature} {adds ws : List ℕ} (N : NodeSums σ adds) (p : IsTer
   -- The sums over the words of a term are the term's.
   pub totalled : {r : Totals} → WordTotals σ ws r → SumsWithin (length ws) r → Totalled σ ws r
   totalled t b =
-      let short = term-size p in
-      let small = packed-small (termOf σ ws) (omega (arith, p .short)) in
+      let size = term-size p in
       record {
         weight = t .weight ∙ whole 0;
-        low = t .low ∙ whole 1;
-        high = t .high ∙ whole 2;
-        short = omega (arith, p .short);
-        small = record {
-          weight = omega (arith, b .weight, p .short);
-          low = rw (t .low ∙ whole 1) (small 8 0);
-          high = rw (t .high ∙ whole 2) (small 8 8);
-        };
+        counted = record { low = t .low ∙ whole 1; high = t .high ∙ whole 2; short = omega (arith, p .short) };
+        small = omega (arith, b .weight, p .short);
       }
 
 -- The sums of all kinds from an offset on.

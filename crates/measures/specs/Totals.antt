@@ -4,10 +4,10 @@ use mathlib.Core.Path.{_≡_}
 use Prim.Native.Nat.{ℕ, _+_, _*_, _≤_}
 use lib.ListN.{getD}
 use Rattle.terms.specs.Signature.{Signature}
-use Rattle.terms.specs.Term.{size, weight}
+use Rattle.terms.specs.Term.{Term, size, weight}
 use Rattle.terms.specs.Words.{termOf}
 use Rattle.measures.specs.declared.totals.Totals.{Totals}
-use Rattle.measures.specs.Digits.{packed, SmallDigits}
+use Rattle.measures.specs.Digits.{packed}
 use Rattle.measures.specs.Nodes.{wordSum}
 
 -- The sums of n nodes: a weight is below 65,536, a place value at most 256 to the power of 7.
@@ -16,11 +16,15 @@ pub record SumsWithin (n : ℕ) (r : Totals) : Type 0 where
   pub low : r .low ≤ 72057594037927936 * n
   pub high : r .high ≤ 72057594037927936 * n
 
--- The sums of a term of at most 128 nodes are small.
-pub record SmallTotals (r : Totals) : Type 0 where
-  pub weight : r .weight ≤ 8388608
-  pub low : SmallDigits 8 (r .low)
-  pub high : SmallDigits 8 (r .high)
+-- The occurrences of the variables of a term of at most 128 nodes.
+pub record Counted (t : Term) (r : Totals) : Type 0 where
+  pub low : r .low ≡ packed 0 8 t
+  pub high : r .high ≡ packed 8 8 t
+  pub short : size t ≤ 128
+
+-- Those of some term.
+abbrev pub Counts : Totals → Type 0
+Counts r = (t : Term) × Counted t r
 
 -- The sums with what is stored for one more word.
 pub record Added (adds : List ℕ) (word : ℕ) (after r : Totals) : Type 0 where
@@ -38,7 +42,5 @@ module _ (σ : Signature) where
   -- The weight of the term that words spell, of at most 128 nodes, and the occurrences of its variables.
   pub record Totalled (ws : List ℕ) (r : Totals) : Type 0 where
     pub weight : r .weight ≡ weight σ (termOf σ ws)
-    pub low : r .low ≡ packed 0 8 (termOf σ ws)
-    pub high : r .high ≡ packed 8 8 (termOf σ ws)
-    pub short : size (termOf σ ws) ≤ 128
-    pub small : SmallTotals r
+    pub counted : Counted (termOf σ ws) r
+    pub small : r .weight ≤ 8388608

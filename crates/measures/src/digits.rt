@@ -3,10 +3,12 @@ ghost use mathlib.Core.Path.{_≡_};
 ghost use mathlib.Core.Bool.{cond};
 ghost use Prim.Native.Nat.{_/_, _%_, _^_, _≤_};
 ghost use lib.Dec.{eqb};
-ghost use Rattle.measures.specs.Digits.{digitsWithin, SmallDigits};
+ghost use Rattle.measures.specs.Digits.{firstGreater, SmallDigits};
 
-// The highest bit of each of eight digits.
+// The highest bit of each of eight digits, and the bits below it.
 const EIGHTH_BITS: u64 = 0x8080808080808080;
+
+const LOWER_BITS: u64 = 0x7f7f7f7f7f7f7f7f;
 
 // What a node adds to the digits of the eight variables whose words are 8 times `eight` and on.
 pub fn occurrence(eight: u16, word: u16) -> u64
@@ -16,11 +18,11 @@ pub fn occurrence(eight: u16, word: u16) -> u64
     if word / 8 == eight { unit } else { 0 }
 }
 
-// Is each of the eight digits of `right` at most that of `left`? All are below 128: 128 more than the left digit, less
-// the right one, has an eighth bit unless the left digit is less.
-pub fn digits_within(left: u64, right: u64) -> bool
+// The first of the eight digits that is greater in `right`, 8 if none is. All are below 128: 127 more than the right
+// digit, less the left one, has an eighth bit exactly if the right one is greater.
+pub fn first_greater(left: u64, right: u64) -> usize
     requires { ⌜ SmallDigits 8 left × SmallDigits 8 right ⌝ }
-    ensures { λ r. ⌜ r ≡ digitsWithin 8 left right ⌝ }
+    ensures { λ r. ⌜ r ≡ firstGreater 8 left right ⌝ }
 {
-    left + EIGHTH_BITS - right & EIGHTH_BITS == EIGHTH_BITS
+    u64::trailing_zeros(right + LOWER_BITS - left & EIGHTH_BITS) as usize / 8
 }

@@ -1,7 +1,6 @@
-// Sums by offset, prepared once from right to left: the weights of parts, and the variable test of two parts.
+// Sums by offset, prepared once from right to left, and the totals of a part.
 use crate::NODE_SUMS;
 use crate::SUMS;
-use crate::digits::digits_within;
 use crate::totals::Totals;
 use crate::totals::with_node;
 use equivalence::keys::size_at;
@@ -9,15 +8,14 @@ use format::MAX_NODES;
 ghost use mathlib.Core.Path.{_≡_};
 ghost use Prim.Native.Nat.{_<_};
 ghost use lib.ListN.{length};
-ghost use Rattle.terms.specs.Term.{weight, variableCount};
-ghost use Rattle.terms.specs.Order.{noneOftener};
+ghost use Rattle.terms.specs.Term.{weight};
 ghost use Rattle.format.specs.Statements.{IsTerm};
 ghost use Rattle.symbols.specs.Table.{signatureOf};
 ghost use Rattle.equivalence.specs.Parts.{partAt};
 ghost use Rattle.equivalence.specs.Keys.{Prepared};
-ghost use Rattle.measures.specs.Nodes.{NodeSums, triple, termSum};
-ghost use Rattle.measures.specs.Totals.{Totalled};
-ghost use Rattle.measures.specs.Sums.{SummedUp, Scale};
+ghost use Rattle.measures.specs.Nodes.{NodeSums, triple};
+ghost use Rattle.measures.specs.Totals.{Counted, Totalled};
+ghost use Rattle.measures.specs.Sums.{SummedUp};
 
 // Stores the sums for an offset.
 fn put_sums(sums: &mut [u64; SUMS], i: usize, here: Totals)
@@ -58,72 +56,28 @@ pub fn sum_up(
     here
 }
 
-// The sum of one kind over the term at i.
-fn sum_at(
-    table: &[u16],
-    kind: usize,
-    words: &[u16],
-    keys: &[u64; MAX_NODES],
-    sums: &[u64; SUMS],
-    i: usize,
-) -> u64
-    requires { ⌜ Prepared (signatureOf (now table)) (now words) (now keys) ⌝ }
-    requires { ⌜ SummedUp (signatureOf (now table)) (now words) (now sums) ⌝ }
-    requires { ⌜ (kind < 3) × (i < length (now words)) ⌝ }
-    ensures { λ r. ⌜
-        r
-        ≡ termSum (signatureOf (now (table .entry))) kind
-        (partAt (signatureOf (now (table .entry))) (now (words .entry)) i)
-        ⌝ }
-{
-    let end = i + size_at(keys, i);
-    sums[3 * i + kind] - sums[3 * end + kind]
-}
-
-// The weight of the term at i.
-pub fn weight_at(
+// The sums over the term at i.
+pub fn total_at(
     table: &[u16],
     words: &[u16],
     keys: &[u64; MAX_NODES],
     sums: &[u64; SUMS],
     i: usize,
-) -> u64
+) -> Totals
     requires { ⌜ Prepared (signatureOf (now table)) (now words) (now keys) ⌝ }
     requires { ⌜ SummedUp (signatureOf (now table)) (now words) (now sums) ⌝ }
     requires { ⌜ i < length (now words) ⌝ }
     ensures { λ r. ⌜
-        r
+        r .weight
         ≡ weight (signatureOf (now (table .entry))) (partAt (signatureOf (now (table .entry))) (now (words .entry)) i)
         ⌝ }
+    ensures { λ r. ⌜ Counted (partAt (signatureOf (now (table .entry))) (now (words .entry)) i) r ⌝ }
 {
-    sum_at(table, 0, words, keys, sums, i)
-}
-
-// Does no variable occur oftener in the term at j than in the term at i?
-pub fn none_oftener_at(
-    table: &[u16],
-    s: &[u16],
-    skeys: &[u64; MAX_NODES],
-    ssums: &[u64; SUMS],
-    i: usize,
-    t: &[u16],
-    tkeys: &[u64; MAX_NODES],
-    tsums: &[u64; SUMS],
-    j: usize,
-) -> bool
-    requires { ⌜ Scale (now table) (now s) (now skeys) (now ssums) (now t) (now tkeys) (now tsums) ⌝ }
-    requires { ⌜ (i < length (now s)) × (j < length (now t)) ⌝ }
-    ensures { λ r. ⌜
-        r
-        ≡ noneOftener variableCount (partAt (signatureOf (now (table .entry))) (now (s .entry)) i)
-        (partAt (signatureOf (now (table .entry))) (now (t .entry)) j)
-        ⌝ }
-{
-    let a = sum_at(table, 1, s, skeys, ssums, i);
-    let b = sum_at(table, 1, t, tkeys, tsums, j);
-    let c = sum_at(table, 2, s, skeys, ssums, i);
-    let d = sum_at(table, 2, t, tkeys, tsums, j);
-    let low = digits_within(a, b);
-    let high = digits_within(c, d);
-    if low { high } else { false }
+    let start = 3 * i;
+    let end = 3 * (i + size_at(keys, i));
+    Totals {
+        weight: sums[start] - sums[end],
+        low: sums[start + 1] - sums[end + 1],
+        high: sums[start + 2] - sums[end + 2],
+    }
 }

@@ -1,18 +1,20 @@
 // The sums over whole terms: weights, the variable test and the margin.
 use crate::NODE_SUMS;
-use crate::digits::digits_within;
+use crate::VARIABLES;
+use crate::digits::first_greater;
 use symbols::wide;
 ghost use mathlib.Core.List.{List};
 ghost use mathlib.Core.Path.{_≡_};
-ghost use Prim.Native.Nat.{ℕ, _+_, _<_};
+ghost use Prim.Native.Nat.{ℕ, _+_, _≤_, _<_};
 ghost use Rattle.terms.specs.Signature.{Signature};
-ghost use Rattle.terms.specs.Term.{variableCount};
+ghost use Rattle.terms.specs.Term.{Term};
 ghost use Rattle.terms.specs.Words.{termOf};
-ghost use Rattle.terms.specs.Order.{noneOftener, margin as marginOf};
+ghost use Rattle.terms.specs.Order.{margin as marginOf};
+ghost use Rattle.terms.specs.Oftener.{firstOftener};
 ghost use Rattle.format.specs.Statements.{IsTerm};
 ghost use Rattle.symbols.specs.Table.{signatureOf};
 ghost use Rattle.measures.specs.Nodes.{SmallSums, NodeSums};
-ghost use Rattle.measures.specs.Totals.{SmallTotals, SumsWithin, Added, Totalled};
+ghost use Rattle.measures.specs.Totals.{SumsWithin, Added, Counted, Counts, Totalled};
 
 // The sums over the words of a term: weights, and the occurrences of the variables 0 to 7 and 8 to 15 as digits.
 pub struct Totals {
@@ -53,23 +55,25 @@ pub fn total(table: &[u16], adds: &[u64; NODE_SUMS], words: &[u16]) -> Totals
     here
 }
 
-// Does no variable occur oftener in the term with the right totals?
-pub fn none_oftener(left: Totals, right: Totals) -> bool
-    requires { ⌜ SmallTotals left × SmallTotals right ⌝ }
-    ensures { λ r. ⌜
-        ((σ : Signature) (s t : List ℕ) → Totalled σ s left → Totalled σ t right →
-        r ≡ noneOftener variableCount (termOf σ s) (termOf σ t))
-        ⌝ }
+// The first variable that occurs oftener in the term with the right totals, 16 if none does.
+pub fn first_oftener(left: Totals, right: Totals) -> usize
+    requires { ⌜ Counts left × Counts right ⌝ }
+    ensures { λ r. ⌜ ((s t : Term) → Counted s left → Counted t right → r ≡ firstOftener s t) ⌝ }
 {
-    if digits_within(left.low, right.low) {
-        return digits_within(left.high, right.high);
+    let low = first_greater(left.low, right.low);
+    let high = first_greater(left.high, right.high);
+    if low < 8 {
+        return low;
     }
-    false
+    if high < 8 {
+        return 8 + high;
+    }
+    VARIABLES
 }
 
 // The left weight minus the right one.
 pub fn margin(left: Totals, right: Totals) -> i64
-    requires { ⌜ SmallTotals left × SmallTotals right ⌝ }
+    requires { ⌜ (left .weight ≤ 8388608) × (right .weight ≤ 8388608) ⌝ }
     ensures { λ r. ⌜
         ((σ : Signature) (s t : List ℕ) → Totalled σ s left → Totalled σ t right →
         r ≡ marginOf σ (termOf σ s) (termOf σ t))

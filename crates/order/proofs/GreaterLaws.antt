@@ -14,7 +14,9 @@ use Rattle.terms.specs.Signature.{Signature, symbolOf}
 use Rattle.terms.specs.Term.{Term, weight, variableCount}
 use Rattle.terms.specs.Equivalence.{isEquivalent}
 use Rattle.terms.specs.Order.{noneOftener, rootMark, decreasingMark, isGreater}
+use Rattle.terms.specs.Oftener.{firstOftener}
 use Rattle.terms.proofs.OrderLaws.{isGreater-unfolds}
+use Rattle.terms.proofs.OftenerLaws.{oftener-some}
 use Rattle.symbols.specs.Table.{signatureOf}
 use Rattle.equivalence.specs.Parts.{partAt}
 use Rattle.measures.specs.Sums.{Scale}
@@ -33,8 +35,8 @@ module _ (σ : Signature) (s t : Term) where
   unfolding decreasingMark
   unfolds = isGreater-unfolds σ s t
 
-  pub greater-oftener : false ≡ noneOftener variableCount s t → false ≡ isGreater σ s t
-  greater-oftener e = rw (unfolds, ← e)
+  pub greater-oftener : {r : ℕ} → r ≡ firstOftener s t → r < variableCount → false ≡ isGreater σ s t
+  greater-oftener e l = rw (unfolds, ← oftener-some s t e l)
 
   module _ (few : true ≡ noneOftener variableCount s t) {x y : ℕ} (p : x ≡ weight σ s) (q : y ≡ weight σ t) where
     greater-weight : (x ≡ y → ⊥) → ltb y x ≡ isGreater σ s t

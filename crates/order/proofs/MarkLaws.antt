@@ -20,7 +20,9 @@ use Rattle.terms.specs.Equivalence.{isEquivalent}
 use Rattle.terms.specs.Order.{noneOftener, highGreater, highEqual, lowGreater, flattenedMark, rootMark, decreasingMark}
 use Rattle.terms.specs.Order.{isGreater, mark}
 use Rattle.terms.proofs.EquivalenceLaws.{isEquivalent-equivalence}
+use Rattle.terms.specs.Oftener.{firstOftener}
 use Rattle.terms.proofs.OrderLaws.{isGreater-unfolds}
+use Rattle.terms.proofs.OftenerLaws.{oftener-some}
 use Rattle.operations.specs.declared.Relation.the-variants.{Greater, Less, Equivalent, Unrelated}
 use Rattle.operations.specs.Comparing.{relation}
 use Rattle.order.proofs.GreaterLaws.{byNone, root}
@@ -39,8 +41,8 @@ module _ (σ : Signature) (s t : Term) where
   unfolding mark decreasingMark
   whole = refl
 
-  pub whole-seven : false ≡ noneOftener variableCount s t → 7 ≡ mark σ s t
-  whole-seven e = rw (whole, ← e)
+  pub whole-seven : {r : ℕ} → r ≡ firstOftener s t → r < variableCount → 7 ≡ mark σ s t
+  whole-seven e l = rw (whole, ← oftener-some s t e l)
 
   module _ (e : true ≡ noneOftener variableCount s t) {x y : ℕ} (p : x ≡ weight σ s) (q : y ≡ weight σ t) where
     pub whole-one : y < x → 1 ≡ mark σ s t

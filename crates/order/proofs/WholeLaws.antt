@@ -1,8 +1,9 @@
 -- Two whole terms: what is known of their words, and what is prepared of them.
 --     whole-terms                              two terms, as they are read, under a table
 --     left-some, left-complete, turned, ..     their words, and the two turned round
---     whole-sides, scales-turned               both sides, prepared
+--     whole-sides, level-turned, scales-turned both sides, prepared; the two turned round
 use mathlib.Core.List.{List}
+use mathlib.Core.Path.{sym}
 use Prim.Native.Nat.{ℕ, _≤_, _<_}
 use native.Mathlib.Omega.{arith}
 use lib.ListN.{length}
@@ -13,8 +14,9 @@ use Rattle.symbols.proofs.TableLaws.{few-at}
 use Rattle.equivalence.specs.Parts.{Complete}
 use Rattle.equivalence.specs.Keys.{Prepared, BothPrepared}
 use Rattle.equivalence.proofs.FormedLaws.{term-some, term-complete}
+use Rattle.measures.specs.declared.totals.Totals.{Totals}
 use Rattle.measures.specs.Sums.{Scale}
-use Rattle.order.specs.Compared.{Whole}
+use Rattle.order.specs.Compared.{Whole, Level}
 
 pub whole-terms : {table s t : List ℕ} → length table ≤ 1021 → Admissible (signatureOf table) →
     IsTerm (signatureOf table) s → IsTerm (signatureOf table) t → Whole table s t
@@ -40,6 +42,15 @@ module _ {table s t : List ℕ} (S : Whole table s t) where
       (Q : Prepared (signatureOf table) t tkeys) where
     pub whole-sides : BothPrepared table s skeys t tkeys
     whole-sides = record { small = S .small; binary = S .binary; left = P; right = Q }
+
+pub level-turned : {table s t : List ℕ} {a b : Totals} → Level table s a t b → Level table t b s a
+level-turned L = record {
+  whole = turned (L .whole);
+  left = L .right;
+  right = L .left;
+  level = sym (L .level);
+  root = sym (L .root);
+}
 
 pub scales-turned : {table s skeys ssums t tkeys tsums : List ℕ} →
     Scale table s skeys ssums t tkeys tsums → Scale table t tkeys tsums s skeys ssums

@@ -9,13 +9,17 @@ use Rattle.multisets.specs.Multiset.{every, some, multisetEqual, multisetGreate
 use Rattle.terms.specs.Signature.{Signature, symbolOf, AcBinary}
 use Rattle.terms.specs.Term.{Term, variableCount, weight}
 use Rattle.terms.specs.Equivalence.{isEquivalent}
-use Rattle.terms.specs.Words.{firstVariable}
+use Rattle.terms.specs.Words.{firstVariable, termOf}
 use Rattle.terms.specs.Order.{noneOftener, variables as variablesOf, highPart, lowPart, joinedHigh, flattenedMark}
-use Rattle.terms.specs.Order.{rootMark, isGreater}
+use Rattle.terms.specs.Order.{rootMark, isGreater, mark}
 use Rattle.format.specs.Statements.{IsTerm}
+use Rattle.operations.specs.declared.Relation.{Relation}
+use Rattle.operations.specs.Comparing.{relation}
 use Rattle.symbols.specs.Table.{signatureOf}
 use Rattle.equivalence.specs.Parts.{partAt, partsAt, elementsAt}
 use Rattle.equivalence.specs.Offsets.{Offsets}
+use Rattle.measures.specs.declared.totals.Totals.{Totals}
+use Rattle.measures.specs.Totals.{Totalled}
 
 -- Two whole terms.
 pub record Whole (table s t : List ℕ) : Type 0 where
@@ -59,6 +63,21 @@ module _ (table : List ℕ) where
     pub root : getD s 0 0 ≡ getD t 0 0
     pub few : true ≡ noneOftenerAt s 0 t 0
     pub level : weightAt s 0 ≡ weightAt t 0
+
+  -- The mark and the relation of the terms that words spell.
+  abbrev pub markOf : List ℕ → List ℕ → ℕ
+  markOf s t = mark σ (termOf σ s) (termOf σ t)
+
+  abbrev pub relationOf : List ℕ → List ℕ → Relation
+  relationOf s t = relation σ (termOf σ s) (termOf σ t)
+
+  -- Two whole terms with their totals, of equal weight and with the same root.
+  pub record Level (s : List ℕ) (a : Totals) (t : List ℕ) (b : Totals) : Type 0 where
+    pub whole : Whole table s t
+    pub left : Totalled σ s a
+    pub right : Totalled σ t b
+    pub level : a .weight ≡ b .weight
+    pub root : getD s 0 0 ≡ getD t 0 0
 
   abbrev pub rowsGreater : List ℕ → ℕ → List ℕ → ℕ → ℕ → Bool
   rowsGreater s i t j n = rowGreater (isEquivalent σ) (isGreater σ) (partsAt σ s i n) (partsAt σ t j n)

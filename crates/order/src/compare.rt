@@ -8,8 +8,9 @@ use equivalence::keys::size_at;
 use equivalence::offsets::wide_byte;
 use format::MAX_NODES;
 use measures::SUMS;
-use measures::sums::none_oftener_at;
-use measures::sums::weight_at;
+use measures::VARIABLES;
+use measures::sums::total_at;
+use measures::totals::first_oftener;
 use symbols::arity;
 use symbols::is_ac;
 use symbols::precedence;
@@ -54,10 +55,12 @@ fn greater(
     requires { ⌜ (i < length (now (now s))) × (j < length (now (now t))) ⌝ }
     ensures { λ r. ⌜ r ≡ greaterAt (now (now (table .entry))) (now (now (s .entry))) i (now (now (t .entry))) j ⌝ }
 {
-    if none_oftener_at(*table, *s, skeys, ssums, i, *t, tkeys, tsums, j) {
-        return exceeds(table, s, skeys, ssums, i, t, tkeys, tsums, j);
+    let left = total_at(*table, *s, skeys, ssums, i);
+    let right = total_at(*table, *t, tkeys, tsums, j);
+    if first_oftener(left, right) < VARIABLES {
+        return false;
     }
-    false
+    exceeds(table, s, skeys, ssums, i, t, tkeys, tsums, j)
 }
 
 // The same, where no variable occurs oftener in the term at j: by the weights, the roots or the arguments.
@@ -79,8 +82,8 @@ fn exceeds(
         ⌝ }
     ensures { λ r. ⌜ r ≡ greaterAt (now (now (table .entry))) (now (now (s .entry))) i (now (now (t .entry))) j ⌝ }
 {
-    let x = weight_at(*table, *s, skeys, ssums, i);
-    let y = weight_at(*table, *t, tkeys, tsums, j);
+    let x = total_at(*table, *s, skeys, ssums, i).weight;
+    let y = total_at(*table, *t, tkeys, tsums, j).weight;
     if x != y {
         return y < x;
     }

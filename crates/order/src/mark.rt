@@ -7,24 +7,22 @@ use equivalence::keys::prepare;
 use format::MAX_NODES;
 use measures::NODE_SUMS;
 use measures::SUMS;
+use measures::VARIABLES;
 use measures::sums::sum_up;
 use measures::totals::Totals;
-use measures::totals::none_oftener;
+use measures::totals::first_oftener;
 use symbols::arity;
 use symbols::is_ac;
-ghost use mathlib.Core.Bool.{true, false};
 ghost use mathlib.Core.Path.{_≡_};
 ghost use Prim.Native.Nat.{_<_};
 ghost use lib.ListN.{length, getD};
-ghost use Rattle.terms.specs.Words.{termOf};
-ghost use Rattle.terms.specs.Order.{mark as markOf};
 ghost use Rattle.symbols.specs.Table.{signatureOf};
 ghost use Rattle.equivalence.specs.Keys.{BothPrepared};
 ghost use Rattle.equivalence.specs.Offsets.{alikeAt};
 ghost use Rattle.measures.specs.Nodes.{NodeSums};
 ghost use Rattle.measures.specs.Totals.{Totalled};
 ghost use Rattle.measures.specs.Sums.{Scale};
-ghost use Rattle.order.specs.Compared.{Whole, SameRoot, noneOftenerAt, weightAt, rootAt};
+ghost use Rattle.order.specs.Compared.{Whole, SameRoot, rootAt, markOf};
 
 // The mark by the arguments of two whole terms with the same root: 3 to 6, or 0.
 pub fn arguments_mark(
@@ -49,41 +47,6 @@ pub fn arguments_mark(
         return 3;
     }
     0
-}
-
-// The mark of two terms of equal weight with the same root that are not equivalent, where no variable occurs oftener in
-// the right one.
-fn mark_unlike(
-    table: &[u16],
-    adds: &[u64; NODE_SUMS],
-    s: &[u16],
-    skeys: &[u64; MAX_NODES],
-    t: &[u16],
-    tkeys: &[u64; MAX_NODES],
-) -> u8
-    requires { ⌜
-        Whole (now table) (now s) (now t) × SameRoot (now table) (now s) (now t)
-        × NodeSums (signatureOf (now table)) (now adds)
-        ⌝ }
-    requires { ⌜
-        BothPrepared (now table) (now s) (now skeys) (now t) (now tkeys)
-        × (false ≡ alikeAt (now table) (now s) 0 (now t) 0)
-        ⌝ }
-    ensures { λ r. ⌜
-        r
-        ≡ markOf (signatureOf (now (table .entry))) (termOf (signatureOf (now (table .entry))) (now (s .entry)))
-        (termOf (signatureOf (now (table .entry))) (now (t .entry)))
-        ⌝ }
-{
-    let mut ssums = [0u64; SUMS];
-    let mut tsums = [0u64; SUMS];
-    sum_up(table, adds, s, &mut ssums);
-    sum_up(table, adds, t, &mut tsums);
-    let m = arguments_mark(table, s, skeys, &ssums, t, tkeys, &tsums);
-    if m > 0 {
-        return m;
-    }
-    10
 }
 
 // Writes the keys of both terms, and tells whether they are equivalent.
@@ -113,43 +76,19 @@ fn mark_prepared(table: &[u16], adds: &[u64; NODE_SUMS], s: &[u16], t: &[u16]) -
         Whole (now table) (now s) (now t) × SameRoot (now table) (now s) (now t)
         × NodeSums (signatureOf (now table)) (now adds)
         ⌝ }
-    ensures { λ r. ⌜
-        r
-        ≡ markOf (signatureOf (now (table .entry))) (termOf (signatureOf (now (table .entry))) (now (s .entry)))
-        (termOf (signatureOf (now (table .entry))) (now (t .entry)))
-        ⌝ }
+    ensures { λ r. ⌜ r ≡ markOf (now (table .entry)) (now (s .entry)) (now (t .entry)) ⌝ }
 {
     let mut skeys = [0u64; MAX_NODES];
     let mut tkeys = [0u64; MAX_NODES];
     if prepare_both(table, s, &mut skeys, t, &mut tkeys) {
         return 9;
     }
-    mark_unlike(table, adds, s, &skeys, t, &tkeys)
-}
-
-// The mark of two terms of equal weight, where no variable occurs oftener in the right one.
-fn mark_level(table: &[u16], adds: &[u64; NODE_SUMS], s: &[u16], t: &[u16]) -> u8
-    requires { ⌜ Whole (now table) (now s) (now t) ⌝ }
-    requires { ⌜
-        (true ≡ noneOftenerAt (now table) (now s) 0 (now t) 0)
-        × (weightAt (now table) (now s) 0 ≡ weightAt (now table) (now t) 0)
-        × NodeSums (signatureOf (now table)) (now adds)
-        ⌝ }
-    ensures { λ r. ⌜
-        r
-        ≡ markOf (signatureOf (now (table .entry))) (termOf (signatureOf (now (table .entry))) (now (s .entry)))
-        (termOf (signatureOf (now (table .entry))) (now (t .entry)))
-        ⌝ }
-{
-    let f = s[0];
-    let g = t[0];
-    if f == g {
-        return mark_prepared(table, adds, s, t);
-    }
-    if higher(table, f, g) {
-        return 2;
-    }
-    10
+    let mut ssums = [0u64; SUMS];
+    let mut tsums = [0u64; SUMS];
+    sum_up(table, adds, s, &mut ssums);
+    sum_up(table, adds, t, &mut tsums);
+    let m = arguments_mark(table, s, &skeys, &ssums, t, &tkeys, &tsums);
+    if m > 0 { m } else { 10 }
 }
 
 // The mark of two terms with these totals, 1 to 10.
@@ -167,22 +106,23 @@ pub fn mark(
         × Totalled (signatureOf (now table)) (now t) ttotal
         × NodeSums (signatureOf (now table)) (now adds)
         ⌝ }
-    ensures { λ r. ⌜
-        r
-        ≡ markOf (signatureOf (now (table .entry))) (termOf (signatureOf (now (table .entry))) (now (s .entry)))
-        (termOf (signatureOf (now (table .entry))) (now (t .entry)))
-        ⌝ }
+    ensures { λ r. ⌜ r ≡ markOf (now (table .entry)) (now (s .entry)) (now (t .entry)) ⌝ }
 {
+    if first_oftener(stotal, ttotal) < VARIABLES {
+        return 7;
+    }
     let x = stotal.weight;
     let y = ttotal.weight;
-    if none_oftener(stotal, ttotal) {
-        if y < x {
-            return 1;
-        }
-        if x < y {
-            return 8;
-        }
-        return mark_level(table, adds, s, t);
+    if y < x {
+        return 1;
     }
-    7
+    if x < y {
+        return 8;
+    }
+    let f = s[0];
+    let g = t[0];
+    if f == g {
+        return mark_prepared(table, adds, s, t);
+    }
+    if higher(table, f, g) { 2 } else { 10 }
 }

@@ -5,22 +5,18 @@ use crate::mark::prepare_both;
 use format::MAX_NODES;
 use measures::NODE_SUMS;
 use measures::SUMS;
+use measures::VARIABLES;
 use measures::totals::Totals;
-use measures::totals::none_oftener;
+use measures::totals::first_oftener;
 use operations::Relation;
-ghost use mathlib.Core.Bool.{false};
 ghost use mathlib.Core.Path.{_≡_};
-ghost use lib.ListN.{getD};
-ghost use Rattle.terms.specs.Words.{termOf};
-ghost use Rattle.operations.specs.Comparing.{relation as relationOf};
 ghost use Rattle.symbols.specs.Table.{signatureOf};
-ghost use Rattle.equivalence.specs.Offsets.{alikeAt};
 ghost use Rattle.measures.specs.Nodes.{NodeSums};
 ghost use Rattle.measures.specs.Totals.{Totalled};
 ghost use Rattle.measures.specs.Sums.{SummedUp, Scale};
-ghost use Rattle.order.specs.Compared.{Whole, greaterAt};
+ghost use Rattle.order.specs.Compared.{Whole, Level, greaterAt, relationOf};
 
-// Is the left one greater, of two whole terms of equal weight with the same root that are prepared?
+// Is the left one greater, of two terms of equal weight with the same root that are prepared?
 fn greater_level(
     table: &[u16],
     s: &[u16],
@@ -32,58 +28,18 @@ fn greater_level(
     tkeys: &[u64; MAX_NODES],
     tsums: &[u64; SUMS],
 ) -> bool
-    requires { ⌜ Whole (now table) (now s) (now t) ⌝ }
+    requires { ⌜ Level (now table) (now s) stotal (now t) ttotal ⌝ }
     requires { ⌜ Scale (now table) (now s) (now skeys) (now ssums) (now t) (now tkeys) (now tsums) ⌝ }
-    requires { ⌜
-        Totalled (signatureOf (now table)) (now s) stotal
-        × Totalled (signatureOf (now table)) (now t) ttotal
-        × (stotal .weight ≡ ttotal .weight) × (getD (now s) 0 0 ≡ getD (now t) 0 0)
-        ⌝ }
     ensures { λ r. ⌜ r ≡ greaterAt (now (table .entry)) (now (s .entry)) 0 (now (t .entry)) 0 ⌝ }
 {
-    if none_oftener(stotal, ttotal) {
-        return arguments_mark(table, s, skeys, ssums, t, tkeys, tsums) > 0;
+    if first_oftener(stotal, ttotal) < VARIABLES {
+        return false;
     }
-    false
+    arguments_mark(table, s, skeys, ssums, t, tkeys, tsums) > 0
 }
 
-// How two whole terms of equal weight with the same root that are prepared and not equivalent are related.
-fn relation_unlike(
-    table: &[u16],
-    s: &[u16],
-    stotal: Totals,
-    skeys: &[u64; MAX_NODES],
-    ssums: &[u64; SUMS],
-    t: &[u16],
-    ttotal: Totals,
-    tkeys: &[u64; MAX_NODES],
-    tsums: &[u64; SUMS],
-) -> Relation
-    requires { ⌜ Whole (now table) (now s) (now t) ⌝ }
-    requires { ⌜ Scale (now table) (now s) (now skeys) (now ssums) (now t) (now tkeys) (now tsums) ⌝ }
-    requires { ⌜
-        Totalled (signatureOf (now table)) (now s) stotal
-        × Totalled (signatureOf (now table)) (now t) ttotal
-        × (stotal .weight ≡ ttotal .weight) × (getD (now s) 0 0 ≡ getD (now t) 0 0)
-        × (false ≡ alikeAt (now table) (now s) 0 (now t) 0)
-        ⌝ }
-    ensures { λ r. ⌜
-        r
-        ≡ relationOf (signatureOf (now (table .entry))) (termOf (signatureOf (now (table .entry))) (now (s .entry)))
-        (termOf (signatureOf (now (table .entry))) (now (t .entry)))
-        ⌝ }
-{
-    if greater_level(table, s, stotal, skeys, ssums, t, ttotal, tkeys, tsums) {
-        return Relation::Greater;
-    }
-    if greater_level(table, t, ttotal, tkeys, tsums, s, stotal, skeys, ssums) {
-        return Relation::Less;
-    }
-    Relation::Unrelated
-}
-
-// How two terms with these totals and sums, of equal weight and with the same root, are related.
-fn relation_prepared(
+// How two terms of equal weight with the same root are related.
+fn relation_level(
     table: &[u16],
     s: &[u16],
     stotal: Totals,
@@ -92,66 +48,28 @@ fn relation_prepared(
     ttotal: Totals,
     tsums: &[u64; SUMS],
 ) -> Relation
-    requires { ⌜ Whole (now table) (now s) (now t) ⌝ }
+    requires { ⌜ Level (now table) (now s) stotal (now t) ttotal ⌝ }
     requires { ⌜
         SummedUp (signatureOf (now table)) (now s) (now ssums)
         × SummedUp (signatureOf (now table)) (now t) (now tsums)
         ⌝ }
-    requires { ⌜
-        Totalled (signatureOf (now table)) (now s) stotal
-        × Totalled (signatureOf (now table)) (now t) ttotal
-        × (stotal .weight ≡ ttotal .weight) × (getD (now s) 0 0 ≡ getD (now t) 0 0)
-        ⌝ }
-    ensures { λ r. ⌜
-        r
-        ≡ relationOf (signatureOf (now (table .entry))) (termOf (signatureOf (now (table .entry))) (now (s .entry)))
-        (termOf (signatureOf (now (table .entry))) (now (t .entry)))
-        ⌝ }
+    ensures { λ r. ⌜ r ≡ relationOf (now (table .entry)) (now (s .entry)) (now (t .entry)) ⌝ }
 {
     let mut skeys = [0u64; MAX_NODES];
     let mut tkeys = [0u64; MAX_NODES];
     if prepare_both(table, s, &mut skeys, t, &mut tkeys) {
         return Relation::Equivalent;
     }
-    relation_unlike(table, s, stotal, &skeys, ssums, t, ttotal, &tkeys, tsums)
-}
-
-// How two terms with these totals are related, by their marks both ways.
-fn relation_marked(
-    table: &[u16],
-    adds: &[u64; NODE_SUMS],
-    s: &[u16],
-    stotal: Totals,
-    t: &[u16],
-    ttotal: Totals,
-) -> Relation
-    requires { ⌜ Whole (now table) (now s) (now t) ⌝ }
-    requires { ⌜
-        Totalled (signatureOf (now table)) (now s) stotal
-        × Totalled (signatureOf (now table)) (now t) ttotal
-        × NodeSums (signatureOf (now table)) (now adds)
-        ⌝ }
-    ensures { λ r. ⌜
-        r
-        ≡ relationOf (signatureOf (now (table .entry))) (termOf (signatureOf (now (table .entry))) (now (s .entry)))
-        (termOf (signatureOf (now (table .entry))) (now (t .entry)))
-        ⌝ }
-{
-    let m = mark(table, adds, s, stotal, t, ttotal);
-    if m <= 6 {
+    if greater_level(table, s, stotal, &skeys, ssums, t, ttotal, &tkeys, tsums) {
         return Relation::Greater;
     }
-    if m == 9 {
-        return Relation::Equivalent;
-    }
-    let n = mark(table, adds, t, ttotal, s, stotal);
-    if n <= 6 {
+    if greater_level(table, t, ttotal, &tkeys, tsums, s, stotal, &skeys, ssums) {
         return Relation::Less;
     }
     Relation::Unrelated
 }
 
-// How two terms with these totals and sums are related.
+// How two terms with these totals and sums are related: by their marks both ways, unless they are level.
 pub fn relation(
     table: &[u16],
     adds: &[u64; NODE_SUMS],
@@ -172,16 +90,23 @@ pub fn relation(
         SummedUp (signatureOf (now table)) (now s) (now ssums)
         × SummedUp (signatureOf (now table)) (now t) (now tsums)
         ⌝ }
-    ensures { λ r. ⌜
-        r
-        ≡ relationOf (signatureOf (now (table .entry))) (termOf (signatureOf (now (table .entry))) (now (s .entry)))
-        (termOf (signatureOf (now (table .entry))) (now (t .entry)))
-        ⌝ }
+    ensures { λ r. ⌜ r ≡ relationOf (now (table .entry)) (now (s .entry)) (now (t .entry)) ⌝ }
 {
     if stotal.weight == ttotal.weight {
         if s[0] == t[0] {
-            return relation_prepared(table, s, stotal, ssums, t, ttotal, tsums);
+            return relation_level(table, s, stotal, ssums, t, ttotal, tsums);
         }
     }
-    relation_marked(table, adds, s, stotal, t, ttotal)
+    let m = mark(table, adds, s, stotal, t, ttotal);
+    if m <= 6 {
+        return Relation::Greater;
+    }
+    if m == 9 {
+        return Relation::Equivalent;
+    }
+    let n = mark(table, adds, t, ttotal, s, stotal);
+    if n <= 6 {
+        return Relation::Less;
+    }
+    Relation::Unrelated
 }

@@ -7,6 +7,7 @@ pub mod EquivalenceComplete
 pub mod EquivalenceMeasures
 pub mod EquivalenceSound
 pub mod OrderLaws
+pub mod OftenerLaws
 pub mod WordsLaws
 pub mod RewritingLaws
 pub mod VariableLaws

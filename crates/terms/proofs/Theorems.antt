@@ -8,10 +8,11 @@ use Rattle.terms.specs.Equivalence.{isEquivalentTo, isEquivalent}
 use Rattle.terms.specs.Order.{noneOftener, flattenedMark, rootMark, decreasingMark, isGreaterTo, isGreater, mark}
 use Rattle.terms.specs.Rewriting.{System}
 use Rattle.terms.specs.Statements.{StarredCasesHold, TestDecides, MeasuresRespectEquivalence, WordsReadBack}
-use Rattle.terms.specs.Statements.{WordForEachNode, StepsKeepExpressions}
+use Rattle.terms.specs.Statements.{FirstOftenerFound, WordForEachNode, StepsKeepExpressions}
 use Rattle.terms.proofs.EquivalenceComplete.{Equivalent→isEquivalent}
 use Rattle.terms.proofs.EquivalenceMeasures.{measure-resp-equivalent, root-resp-equivalent}
 use Rattle.terms.proofs.EquivalenceSound.{isEquivalent→Equivalent}
+use Rattle.terms.proofs.OftenerLaws.{first-answer}
 use Rattle.terms.proofs.RewritingLaws.{step-expressions}
 use Rattle.terms.proofs.WordsLaws.{length-words, forestOf-words}
 
@@ -19,6 +20,9 @@ pub starred-cases-hold : StarredCasesHold
 unfolding mark isGreater isGreaterTo decreasingMark rootMark flattenedMark noneOftener isEquivalent isEquivalentTo
     multisetEqual multisetGreater rowEqual rowGreater
 starred-cases-hold = refl
+
+pub first-oftener-found : FirstOftenerFound
+first-oftener-found = first-answer
 
 pub word-for-each-node : WordForEachNode
 word-for-each-node = length-words

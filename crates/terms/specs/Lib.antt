@@ -5,6 +5,7 @@ pub mod Term
 pub mod Words
 pub mod Equivalence
 pub mod Order
+pub mod Oftener
 pub mod Marks
 pub mod Article
 pub mod Rewriting

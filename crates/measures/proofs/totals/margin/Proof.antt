@@ -14,16 +14,16 @@ sub-result c =
     let x = c .before .before .args .left .weight in
     let y = c .before .before .args .right .weight in
     let (a, b) = c .before .before .pre in
-    rw (difference x y (omega (arith, a .weight)) (omega (arith, b .weight)))
-    (difference-fits x y (omega (arith, a .weight)) (omega (arith, b .weight)))
+    rw (difference x y (omega (arith, a)) (omega (arith, b)))
+    (difference-fits x y (omega (arith, a)) (omega (arith, b)))
 
 returns : tie.Need-returns
 returns c =
     let x = c .before .before .args .left .weight in
     let y = c .before .before .args .right .weight in
     let (a, b) = c .before .before .pre in
-    λ σ s t A B. rw (difference x y (omega (arith, a .weight)) (omega (arith, b .weight)))
-    (toZ-ofZ w64 (subℕ x y) (difference-fits x y (omega (arith, a .weight)) (omega (arith, b .weight))))
+    λ σ s t A B. rw (difference x y (omega (arith, a)) (omega (arith, b)))
+    (toZ-ofZ w64 (subℕ x y) (difference-fits x y (omega (arith, a)) (omega (arith, b))))
     ∙ ap₂ subℕ (A .weight) (B .weight)
 
 pub margin-spec : {M : Type 1} → statement M

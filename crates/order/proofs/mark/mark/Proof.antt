@@ -1,56 +1,96 @@
--- The variables decide first, then the weights, then the rest.
+-- The variables decide first, then the weights, then the roots; terms with different roots are not equivalent.
 use native.Mathlib.Omega.{arith}
 use mathlib.Core.Path.{sym, _∙_}
-use Rattle.terms.specs.Words.{termOf}
-use Rattle.symbols.specs.Table.{signatureOf}
-use Rattle.order.proofs.MarkLaws.{whole-seven, whole-one, whole-eight}
+use Rattle.terms.proofs.OftenerLaws.{oftener-none}
+use Rattle.equivalence.proofs.AlikeLaws.{roots-differ}
+use Rattle.order.proofs.RootLaws.{root-differing}
+use Rattle.order.proofs.MarkLaws.{whole-seven, whole-one, whole-eight, whole-root, whole-ten}
+use Rattle.order.proofs.WholeLaws.{left-some, right-some}
 use borrow.Author.Needs.{needs}
 use Rattle.order.proofs.mark.mark.Statement.{statement}
 use Rattle.order.proofs.mark.mark.Tie as tie
 
-none-oftener-requires : tie.Need-none-oftener-requires
-none-oftener-requires c κs =
+first-oftener-requires : tie.Need-first-oftener-requires
+first-oftener-requires c κs =
     let c3 = c .before .before .before in
-    let (S, (A, B, N)) = c3 .pre in (A .small, B .small)
+    let (S, (A, B, N)) = c3 .pre in ((_, A .counted), (_, B .counted))
 
 returns : tie.Need-returns
 returns c =
-    let c6 = c .before .before .before .before .before .before in
-    let a = c6 .args in
-    let (S, (A, B, N)) = c6 .pre in
-    let σ = signatureOf (a .table .now) in
-    let few = sym (c .before .if1 .taken) ∙ c .before .before .none-oftener .ensures σ (a .s .now) (a .t .now) A B in
-    whole-one σ (termOf σ (a .s .now)) (termOf σ (a .t .now)) few (A .weight) (B .weight) (c .if2 .taken)
+    let c5 = c .before .before .before .before .before in
+    let (S, (A, B, N)) = c5 .pre in
+    whole-seven _ _ _ (c .before .first-oftener .ensures _ _ (A .counted) (B .counted)) (c .if1 .taken)
 
 returns-2 : tie.Need-returns-2
 returns-2 c =
+    let c6 = c .before .before .before .before .before .before in
+    let (S, (A, B, N)) = c6 .pre in
+    let none = oftener-none _ _ (c .before .before .first-oftener .ensures _ _ (A .counted) (B .counted))
+    (c .before .if1 .left) in
+    whole-one _ _ _ none (A .weight) (B .weight) (c .if2 .taken)
+
+returns-3 : tie.Need-returns-3
+returns-3 c =
     let c3 = c .before .before .before in
     let c7 = c3 .before .before .before .before in
-    let a = c7 .args in
     let (S, (A, B, N)) = c7 .pre in
-    let σ = signatureOf (a .table .now) in
-    let few = sym (c .before .before .if1 .taken) ∙ c3 .none-oftener .ensures σ (a .s .now) (a .t .now) A B in
-    whole-eight σ (termOf σ (a .s .now)) (termOf σ (a .t .now)) few (A .weight) (B .weight) (c .if3 .taken)
+    let none = oftener-none _ _ (c3 .first-oftener .ensures _ _ (A .counted) (B .counted))
+    (c .before .before .if1 .left) in
+    whole-eight _ _ _ none (A .weight) (B .weight) (c .if3 .taken)
 
-mark-level-requires : tie.Need-mark-level-requires
-mark-level-requires c κs =
-    let c3 = c .before .before .before in
-    let c7 = c3 .before .before .before .before in
-    let a = c7 .args in
-    let (S, (A, B, N)) = c7 .pre in
-    let few = sym (c .before .before .if1 .taken)
-    ∙ c3 .none-oftener .ensures (signatureOf (a .table .now)) (a .s .now) (a .t .now) A B in
-    (S, (few, omega (arith, A .weight, B .weight), N))
+shared-slice-read-f : tie.Need-shared-slice-read-f
+shared-slice-read-f c =
+    let c8 = c .before .before .before .before .before .before .before .before in
+    left-some (c8 .pre .0)
 
-returns-4 : tie.Need-returns-4
-returns-4 c =
+shared-slice-read-g : tie.Need-shared-slice-read-g
+shared-slice-read-g c =
+    let c9 = c .before .before .before .before .before .before .before .before .before in
+    right-some (c9 .pre .0)
+
+mark-prepared-requires : tie.Need-mark-prepared-requires
+mark-prepared-requires c κs =
     let c5 = c .before .before .before .before .before in
-    let a = c5 .args in
-    let (S, (A, B, N)) = c5 .pre in
-    let σ = signatureOf (a .table .now) in
-    whole-seven σ (termOf σ (a .s .now)) (termOf σ (a .t .now))
-    (sym (c .if1 .left) ∙ c .before .none-oftener .ensures σ (a .s .now) (a .t .now) A B)
+    let c6 = c5 .before in
+    let c10 = c6 .before .before .before .before in
+    let (S, (A, B, N)) = c10 .pre in
+    let none = oftener-none _ _ (c6 .first-oftener .ensures _ _ (A .counted) (B .counted)) (c5 .if1 .left) in
+    (S, record { root = c .if4 .taken; few = none; level = omega (arith, A .weight, B .weight) }, N)
+
+returns-5 : tie.Need-returns-5
+returns-5 c =
+    let c5 = c .before .before .before .before .before in
+    let c6 = c5 .before in
+    let c7 = c6 .before in
+    let c8 = c7 .before in
+    let c12 = c8 .before .before .before .before in
+    let a = c12 .args in
+    let (S, (A, B, N)) = c12 .pre in
+    let none = oftener-none _ _ (c8 .first-oftener .ensures _ _ (A .counted) (B .counted)) (c7 .if1 .left) in
+    let two = root-differing (a .table .now) (a .s .now) 0 (a .t .now) 0 (left-some S) (right-some S)
+    (c .before .before .if4 .left)
+    (sym (c .if5 .taken) ∙ c .before .higher .ensures) in
+    whole-root _ _ _ none (A .weight) (B .weight) (omega (arith, c6 .if2 .left, c5 .if3 .left)) two (omega arith)
+
+returns-6 : tie.Need-returns-6
+returns-6 c =
+    let c5 = c .before .before .before .before .before in
+    let c6 = c5 .before in
+    let c7 = c6 .before in
+    let c8 = c7 .before in
+    let c12 = c8 .before .before .before .before in
+    let a = c12 .args in
+    let (S, (A, B, N)) = c12 .pre in
+    let none = oftener-none _ _ (c8 .first-oftener .ensures _ _ (A .counted) (B .counted)) (c7 .if1 .left) in
+    let zero = root-differing (a .table .now) (a .s .now) 0 (a .t .now) 0 (left-some S) (right-some S)
+    (c .before .before .if4 .left)
+    (sym (c .if5 .left) ∙ c .before .higher .ensures) in
+    let differ = roots-differ _ (a .s .now) 0 (a .t .now) 0 (left-some S) (right-some S)
+    (c .before .before .if4 .left) in
+    whole-ten _ _ _ none (A .weight) (B .weight) (omega (arith, c6 .if2 .left, c5 .if3 .left)) zero (omega arith)
+    (sym differ)
 
 pub mark-spec : {M : Type 1} → statement M
 mark-spec =
-    tie.close (tie.spec none-oftener-requires returns returns-2 mark-level-requires (λ c. search needs) returns-4)
+    tie.close (tie.spec first-oftener-requires returns returns-2 returns-3 shared-slice-read-f shared-slice-read-g
+    mark-prepared-requires (λ c. search needs) (λ c κs. search needs) returns-5 returns-6)

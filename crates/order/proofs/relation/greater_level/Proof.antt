@@ -1,43 +1,38 @@
 -- The variables decide first; the weights and the roots are the same, so then the arguments do.
-use mathlib.Core.Path.{sym, ap, _∙_}
+use mathlib.Core.Path.{ap}
 use lib.Dec.{ltb}
-use Rattle.symbols.specs.Table.{signatureOf}
-use Rattle.equivalence.specs.Parts.{partAt}
+use Rattle.terms.proofs.OftenerLaws.{oftener-none}
 use Rattle.order.proofs.GreaterLaws.{greater-oftener, greater-level}
 use Rattle.order.proofs.WholeLaws.{left-some, right-some}
 use Rattle.order.proofs.relation.greater_level.Statement.{statement}
 use Rattle.order.proofs.relation.greater_level.Tie as tie
 
-none-oftener-requires : tie.Need-none-oftener-requires
-none-oftener-requires c κs =
+first-oftener-requires : tie.Need-first-oftener-requires
+first-oftener-requires c κs =
     let c3 = c .before .before .before in
-    let (S, (W, (A, B, l, e))) = c3 .pre in (A .small, B .small)
+    let L = c3 .pre .0 in ((_, L .left .counted), (_, L .right .counted))
+
+returns : tie.Need-returns
+returns c =
+    let c5 = c .before .before .before .before .before in
+    let L = c5 .pre .0 in
+    greater-oftener _ _ _ (c .before .first-oftener .ensures _ _ (L .left .counted) (L .right .counted))
+    (c .if1 .taken)
 
 arguments-mark-requires : tie.Need-arguments-mark-requires
 arguments-mark-requires c κs =
     let c5 = c .before .before .before .before .before in
-    let (S, (W, (A, B, l, e))) = c5 .pre in (W, (left-some S, right-some S, e))
-
-returns : tie.Need-returns
-returns c =
-    let c6 = c .before .before .before .before .before .before in
-    let a = c6 .args in
-    let (S, (W, (A, B, l, e))) = c6 .pre in
-    let σ = signatureOf (a .table .now) in
-    greater-level σ (partAt σ (a .s .now) 0) (partAt σ (a .t .now) 0)
-    (sym (c .before .if1 .taken) ∙ c .before .before .none-oftener .ensures σ (a .s .now) (a .t .now) A B) (A .weight)
-    (B .weight) l
-    (ap (ltb 0) (c .arguments-mark .ensures))
+    let (L, W) = c5 .pre in (W, (left-some (L .whole), right-some (L .whole), L .root))
 
 returns-2 : tie.Need-returns-2
 returns-2 c =
-    let c5 = c .before .before .before .before .before in
-    let a = c5 .args in
-    let (S, (W, (A, B, l, e))) = c5 .pre in
-    let σ = signatureOf (a .table .now) in
-    greater-oftener σ (partAt σ (a .s .now) 0) (partAt σ (a .t .now) 0)
-    (sym (c .if1 .left) ∙ c .before .none-oftener .ensures σ (a .s .now) (a .t .now) A B)
+    let c6 = c .before .before .before .before .before .before in
+    let L = c6 .pre .0 in
+    let none = oftener-none _ _
+    (c .before .before .first-oftener .ensures _ _ (L .left .counted) (L .right .counted)) (c .before .if1 .left) in
+    greater-level _ _ _ none (L .left .weight) (L .right .weight) (L .level)
+    (ap (ltb 0) (c .arguments-mark .ensures))
 
 pub greater-level-spec : {M : Type 1} → statement M
 greater-level-spec =
-    tie.close (tie.spec none-oftener-requires arguments-mark-requires returns returns-2)
+    tie.close (tie.spec first-oftener-requires returns arguments-mark-requires returns-2)

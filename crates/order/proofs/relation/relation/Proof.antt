@@ -1,5 +1,7 @@
--- Both ways of telling the relation give that of the terms.
-use Rattle.order.proofs.WholeLaws.{left-some, right-some}
+-- A mark is at most 6 exactly if the left is greater, and 9 exactly if the terms are equivalent.
+use native.Mathlib.Omega.{arith}
+use Rattle.order.proofs.MarkLaws.{relation-greater, relation-equivalent, relation-less, relation-unrelated}
+use Rattle.order.proofs.WholeLaws.{left-some, right-some, turned}
 use borrow.Author.Needs.{needs}
 use Rattle.order.proofs.relation.relation.Statement.{statement}
 use Rattle.order.proofs.relation.relation.Tie as tie
@@ -14,13 +16,43 @@ shared-slice-read-if2-2 c =
     let c8 = c .before .before .before .before .before .before .before .before in
     right-some (c8 .pre .0)
 
-relation-prepared-requires : tie.Need-relation-prepared-requires
-relation-prepared-requires c κs =
+relation-level-requires : tie.Need-relation-level-requires
+relation-level-requires c κs =
     let c3 = c .before .before .before in
     let c9 = c3 .before .before .before .before .before .before in
-    let (S, ((A, B, N), (x, y))) = c9 .pre in (S, ((x, y), (A, B, c3 .if1 .taken, c .if2 .taken)))
+    let (S, ((A, B, N), h)) = c9 .pre in
+    (record { whole = S; left = A; right = B; level = c3 .if1 .taken; root = c .if2 .taken }, h)
+
+returns-2 : tie.Need-returns-2
+returns-2 c =
+    relation-greater _ _ _ (c .before .mark .ensures) (c .if3 .taken)
+
+returns-3 : tie.Need-returns-3
+returns-3 c =
+    let c9 = c .before .before .before .before .before .before .before .before .before in
+    let S = c9 .pre .0 in
+    relation-equivalent _ _ _ (c .before .before .mark .ensures) (S .binary) (S .left .wellFormed)
+    (S .right .wellFormed) (c .if4 .taken)
+
+mark-requires-2 : tie.Need-mark-requires-2
+mark-requires-2 c κs =
+    let c9 = c .before .before .before .before .before .before .before .before .before in
+    let (S, ((A, B, N), h)) = c9 .pre in (turned S, (B, A, N))
+
+returns-4 : tie.Need-returns-4
+returns-4 c =
+    let c4 = c .before .before .before .before in
+    relation-less _ _ _ (c4 .mark .ensures) (c .before .mark2 .ensures) (omega arith) (c .if5 .taken)
+
+returns-5 : tie.Need-returns-5
+returns-5 c =
+    let c4 = c .before .before .before .before in
+    let c11 = c4 .before .before .before .before .before .before .before in
+    let S = c11 .pre .0 in
+    relation-unrelated _ _ _ (c4 .mark .ensures) (c .before .mark2 .ensures) (omega arith) (S .binary)
+    (S .left .wellFormed) (S .right .wellFormed) (c .before .before .if4 .left) (omega arith)
 
 pub relation-spec : {M : Type 1} → statement M
 relation-spec =
-    tie.close (tie.spec shared-slice-read-if2 shared-slice-read-if2-2 relation-prepared-requires (λ c. search needs)
-    (λ c κs. search needs) (λ c. search needs))
+    tie.close (tie.spec shared-slice-read-if2 shared-slice-read-if2-2 relation-level-requires (λ c. search needs)
+    (λ c κs. search needs) returns-2 returns-3 mark-requires-2 returns-4 returns-5)

@@ -5,7 +5,7 @@ use Rattle.order.proofs.compare.+compare+covers+exceeds+flattened+great
 use Rattle.order.proofs.compare.flattened.Reads as flattened
 use Rattle.order.proofs.compare.rows_greater.Reads as rows-greater
 use Rattle.order.proofs.compare.higher.Reads as higher-reads
-use Rattle.measures.proofs.sums.weight_at.Reads as weight-at-reads
+use Rattle.measures.proofs.sums.total_at.Reads as total-at-reads
 use Rattle.symbols.proofs.arity.Reads as arity-reads
 use Rattle.symbols.proofs.is_ac.Reads as is-ac-reads
 use native.Mathlib.Omega.{arith}
@@ -21,8 +21,8 @@ use Rattle.order.proofs.compare.+compare+covers+exceeds+flattened+great
 
 abbrev exceeds-claims : ℕ → exceeds-lts.Claims
 exceeds-claims t = (
-  weight-at-reads.Asked,
-  weight-at-reads.Learnt,
+  total-at-reads.Asked,
+  total-at-reads.Learnt,
   higher-reads.Asked,
   higher-reads.Learnt,
   arity-reads.Asked,
@@ -35,14 +35,14 @@ exceeds-claims t = (
   rows-greater.Post,
 )
 
-exceeds-weight-at-requires : (t : ℕ) → exceeds-lts.Need-weight-at-requires (exceeds-claims t) (exceeds-at t)
+exceeds-total-at-requires : (t : ℕ) → exceeds-lts.Need-total-at-requires (exceeds-claims t) (exceeds-at t)
     exceeds.Post
-exceeds-weight-at-requires t c κs =
+exceeds-total-at-requires t c κs =
     let h = c .before .before .pre .1 in (h .0 .sides .left, (h .0 .left, h .1 .0))
 
-exceeds-weight-at-requires-2 : (t : ℕ) → exceeds-lts.Need-weight-at-requires-2 (exceeds-claims t) (exceeds-at t)
+exceeds-total-at-requires-2 : (t : ℕ) → exceeds-lts.Need-total-at-requires-2 (exceeds-claims t) (exceeds-at t)
     exceeds.Post
-exceeds-weight-at-requires-2 t c κs =
+exceeds-total-at-requires-2 t c κs =
     let c5 = c .before .before .before .before .before in
     let h = c5 .pre .1 in (h .0 .sides .right, (h .0 .right, h .1 .1))
 
@@ -52,7 +52,8 @@ exceeds-returns t c =
     let c7 = c4 .before .before .before in
     let a = c7 .args in
     let h = c7 .pre .1 in
-    at-weight (h .0) (a .i) (a .j) (h .1 .2) (c4 .weight-at .ensures) (c .before .weight-at2 .ensures) (c .if1 .taken)
+    at-weight (h .0) (a .i) (a .j) (h .1 .2) (c4 .total-at .ensures .0) (c .before .total-at2 .ensures .0)
+    (c .if1 .taken)
 
 exceeds-returns-2 : (t : ℕ) → exceeds-lts.Need-returns-2 (exceeds-claims t) (exceeds-at t) exceeds.Post
 exceeds-returns-2 t c =
@@ -61,7 +62,7 @@ exceeds-returns-2 t c =
     let c12 = c9 .before .before .before in
     let a = c12 .args in
     let h = c12 .pre .1 in
-    at-differing (h .0) (a .i) (a .j) (h .1 .2) (c9 .weight-at .ensures) (c5 .before .weight-at2 .ensures)
+    at-differing (h .0) (a .i) (a .j) (h .1 .2) (c9 .total-at .ensures .0) (c5 .before .total-at2 .ensures .0)
     (c5 .if1 .left)
     (h .1 .0) (h .1 .1) (c .before .before .if2 .taken) (c .higher .ensures)
 
@@ -72,7 +73,7 @@ exceeds-returns-3 t c =
     let c11 = c8 .before .before .before in
     let a = c11 .args in
     let h = c11 .pre .1 in
-    at-variable (h .0) (a .i) (a .j) (h .1 .2) (c8 .weight-at .ensures) (c4 .before .weight-at2 .ensures)
+    at-variable (h .0) (a .i) (a .j) (h .1 .2) (c8 .total-at .ensures .0) (c4 .before .total-at2 .ensures .0)
     (c4 .if1 .left)
     (h .1 .0) (h .1 .1) (c .if3 .taken)
 
@@ -113,7 +114,7 @@ exceeds-returns-4 t c =
     let c17 = c14 .before .before .before in
     let a = c17 .args in
     let h = c17 .pre .1 in
-    at-elements (h .0) (a .i) (a .j) (h .1 .2) (c14 .weight-at .ensures) (c10 .before .weight-at2 .ensures)
+    at-elements (h .0) (a .i) (a .j) (h .1 .2) (c14 .total-at .ensures .0) (c10 .before .total-at2 .ensures .0)
     (c10 .if1 .left)
     (h .1 .0) (h .1 .1) (c6 .before .if2 .left) (c6 .if3 .left) (c4 .arity .ensures .0)
     (sym (c .before .before .is-ac .ensures) ∙ c .before .if4 .taken) (c .flattened .ensures)
@@ -153,15 +154,15 @@ exceeds-returns-5 t c =
     let c17 = c14 .before .before .before in
     let a = c17 .args in
     let h = c17 .pre .1 in
-    at-rows (h .0) (a .i) (a .j) (h .1 .2) (c14 .weight-at .ensures) (c10 .before .weight-at2 .ensures) (c10 .if1 .left)
-    (h .1 .0) (h .1 .1)
+    at-rows (h .0) (a .i) (a .j) (h .1 .2) (c14 .total-at .ensures .0) (c10 .before .total-at2 .ensures .0)
+    (c10 .if1 .left) (h .1 .0) (h .1 .1)
     (c6 .before .if2 .left) (c6 .if3 .left) (c4 .arity .ensures .0)
     (sym (c .before .before .is-ac .ensures) ∙ c .before .if4 .left) (c .rows-greater .ensures)
 
 pub exceeds-closed : {M : Type 1} (t : ℕ) → exceeds-lts.Closed (exceeds-claims t) (exceeds-at t) exceeds.Post M
 exceeds-closed t =
-    exceeds-lts.spec (exceeds-claims t) (exceeds-at t) exceeds.Post (exceeds-weight-at-requires t)
-    (exceeds-weight-at-requires-2 t) (exceeds-returns t) (λ c. search needs) (λ c. search needs) (λ c. search needs)
+    exceeds-lts.spec (exceeds-claims t) (exceeds-at t) exceeds.Post (exceeds-total-at-requires t)
+    (exceeds-total-at-requires-2 t) (exceeds-returns t) (λ c. search needs) (λ c. search needs) (λ c. search needs)
     (λ c. search needs) (λ c κs. search needs) (exceeds-returns-2 t) (exceeds-returns-3 t) (λ c κs. search needs)
     (λ c κs. search needs) (exceeds-add-flattened t) (exceeds-add-flattened-2 t) (exceeds-flattened-requires t)
     (exceeds-returns-4 t) (exceeds-add-rows-greater t) (exceeds-add-rows-greater-2 t) (exceeds-rows-greater-requires t)

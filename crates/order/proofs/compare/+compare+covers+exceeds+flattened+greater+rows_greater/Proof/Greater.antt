@@ -3,9 +3,10 @@ use Prim.Native.Nat.{ℕ}
 use Rattle.order.proofs.compare.exceeds.Reads as exceeds
 use Rattle.order.proofs.compare.greater.Reads as greater
 use Rattle.order.proofs.compare.+compare+covers+exceeds+flattened+greater+rows_greater.Lts-greater as greater-lts
-use Rattle.measures.proofs.sums.none_oftener_at.Reads as none-oftener-at-reads
+use Rattle.measures.proofs.sums.total_at.Reads as total-at-reads
+use Rattle.measures.proofs.totals.first_oftener.Reads as first-oftener-reads
 use native.Mathlib.Omega.{arith}
-use mathlib.Core.Path.{sym, _∙_}
+use Rattle.terms.proofs.OftenerLaws.{oftener-none}
 use Rattle.symbols.specs.Table.{signatureOf}
 use Rattle.equivalence.specs.Parts.{partAt}
 use Rattle.order.proofs.GreaterLaws.{greater-oftener}
@@ -15,32 +16,53 @@ use Rattle.order.proofs.compare.+compare+covers+exceeds+flattened+great
 }
 
 abbrev greater-claims : ℕ → greater-lts.Claims
-greater-claims t = (none-oftener-at-reads.Asked, none-oftener-at-reads.Learnt, exceeds-below t, exceeds.Post)
+greater-claims t = (
+  total-at-reads.Asked,
+  total-at-reads.Learnt,
+  first-oftener-reads.Asked,
+  first-oftener-reads.Learnt,
+  exceeds-below t,
+  exceeds.Post,
+)
 
-greater-none-oftener-at-requires : (t : ℕ) → greater-lts.Need-none-oftener-at-requires (greater-claims t) (greater-at t)
+greater-total-at-requires : (t : ℕ) → greater-lts.Need-total-at-requires (greater-claims t) (greater-at t)
     greater.Post
-greater-none-oftener-at-requires t c κs =
-    let c3 = c .before .before .before in
-    c3 .pre .1
+greater-total-at-requires t c κs =
+    let h = c .before .before .pre .1 in (h .0 .sides .left, (h .0 .left, h .1 .0))
+
+greater-total-at-requires-2 : (t : ℕ) → greater-lts.Need-total-at-requires-2 (greater-claims t) (greater-at t)
+    greater.Post
+greater-total-at-requires-2 t c κs =
+    let c5 = c .before .before .before .before .before in
+    let h = c5 .pre .1 in (h .0 .sides .right, (h .0 .right, h .1 .1))
+
+greater-first-oftener-requires : (t : ℕ) → greater-lts.Need-first-oftener-requires (greater-claims t) (greater-at t)
+    greater.Post
+greater-first-oftener-requires t c κs =
+    ((_, c .before .before .before .total-at .ensures .1), (_, c .total-at2 .ensures .1))
+
+greater-returns : (t : ℕ) → greater-lts.Need-returns (greater-claims t) (greater-at t) greater.Post
+greater-returns t c =
+    let c5 = c .before .before .before .before .before in
+    let right = c .before .before .total-at2 .ensures .1 in
+    let first = c .before .first-oftener .ensures _ _ (c5 .total-at .ensures .1) right in
+    let a = c5 .before .before .before .args in
+    let σ = signatureOf (a .table .now .now) in
+    greater-oftener σ (partAt σ (a .s .now .now) (a .i)) (partAt σ (a .t .now .now) (a .j)) first (c .if1 .taken)
 
 greater-exceeds-requires : (t : ℕ) → greater-lts.Need-exceeds-requires (greater-claims t) (greater-at t) greater.Post
 greater-exceeds-requires t c κs =
     let c5 = c .before .before .before .before .before in
-    let (m, h) = c5 .pre in
-    (omega (arith, m), (h .0, (h .1 .0, h .1 .1, sym (c .if1 .taken) ∙ c .before .none-oftener-at .ensures)))
-
-greater-returns : (t : ℕ) → greater-lts.Need-returns (greater-claims t) (greater-at t) greater.Post
-greater-returns t c = c .exceeds .ensures
+    let (m, h) = c5 .before .before .before .pre in
+    let right = c .before .before .total-at2 .ensures .1 in
+    let first = c .before .first-oftener .ensures _ _ (c5 .total-at .ensures .1) right in
+    (omega (arith, m), (h .0, (h .1 .0, h .1 .1, oftener-none _ _ first (c .if1 .left))))
 
 greater-returns-2 : (t : ℕ) → greater-lts.Need-returns-2 (greater-claims t) (greater-at t) greater.Post
-greater-returns-2 t c =
-    let c5 = c .before .before .before .before .before in
-    let a = c5 .args in
-    let σ = signatureOf (a .table .now .now) in
-    greater-oftener σ (partAt σ (a .s .now .now) (a .i)) (partAt σ (a .t .now .now) (a .j))
-    (sym (c .if1 .left) ∙ c .before .none-oftener-at .ensures)
+greater-returns-2 t c = c .exceeds .ensures
 
 pub greater-closed : {M : Type 1} (t : ℕ) → greater-lts.Closed (greater-claims t) (greater-at t) greater.Post M
 greater-closed t =
-    greater-lts.spec (greater-claims t) (greater-at t) greater.Post (greater-none-oftener-at-requires t)
-    (greater-exceeds-requires t) (greater-returns t) (greater-returns-2 t)
+    greater-lts.spec (greater-claims t) (greater-at t) greater.Post (greater-total-at-requires t)
+    (greater-total-at-requires-2 t) (greater-first-oftener-requires t) (greater-returns t)
+    (greater-exceeds-requires t) (greater-returns-2 t)

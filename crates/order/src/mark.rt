@@ -108,11 +108,11 @@ pub fn mark(
         ⌝ }
     ensures { λ r. ⌜ r ≡ markOf (now (table .entry)) (now (s .entry)) (now (t .entry)) ⌝ }
 {
+    let x = stotal.weight;
+    let y = ttotal.weight;
     if first_oftener(stotal, ttotal) < VARIABLES {
         return 7;
     }
-    let x = stotal.weight;
-    let y = ttotal.weight;
     if y < x {
         return 1;
     }

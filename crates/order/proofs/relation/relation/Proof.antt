@@ -42,7 +42,7 @@ mark-requires-2 c κs =
 returns-4 : tie.Need-returns-4
 returns-4 c =
     let c4 = c .before .before .before .before in
-    relation-less _ _ _ (c4 .mark .ensures) (c .before .mark2 .ensures) (omega arith) (c .if5 .taken)
+    relation-less _ _ _ (c4 .mark .ensures) (c .before .mark2 .ensures) (omega arith) (omega arith)
 
 returns-5 : tie.Need-returns-5
 returns-5 c =

@@ -1,9 +1,6 @@
 // What each node word adds to the sums: its weight, and its digits among the variables 0 to 7 and 8 to 15.
 use crate::NODE_SUMS;
 use crate::digits::occurrence;
-use symbols::count;
-use symbols::variable_weight;
-use symbols::weight;
 ghost use mathlib.Core.Path.{_≡_};
 ghost use Prim.Native.Nat.{_≤_};
 ghost use lib.ListN.{length};
@@ -20,7 +17,7 @@ fn put_weights(table: &[u16], adds: &mut [u64; NODE_SUMS], count: usize)
 {
     let mut i = 0;
     while i < count {
-        adds[3 * i] = weight(table, i as u16);
+        adds[3 * i] = symbols::weight(table, i as u16);
         i += 1;
     }
 }
@@ -33,7 +30,7 @@ fn put_variables(table: &[u16], adds: &mut [u64; NODE_SUMS])
         × (length (now (adds .exit)) ≡ 816)
         ⌝ }
 {
-    let own = variable_weight(table);
+    let own = symbols::variable_weight(table);
     let mut word = 256;
     while word < 272 {
         adds[3 * word] = own;
@@ -49,7 +46,7 @@ pub fn node_sums(table: &[u16]) -> [u64; NODE_SUMS]
     ensures { λ r. ⌜ NodeSums (signatureOf (now (table .entry))) r ⌝ }
 {
     let mut adds = [0u64; NODE_SUMS];
-    put_weights(table, &mut adds, count(table));
+    put_weights(table, &mut adds, symbols::count(table));
     put_variables(table, &mut adds);
     adds
 }

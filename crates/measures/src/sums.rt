@@ -3,7 +3,6 @@ use crate::NODE_SUMS;
 use crate::SUMS;
 use crate::totals::Totals;
 use crate::totals::with_node;
-use equivalence::keys::size_at;
 use format::MAX_NODES;
 ghost use mathlib.Core.Path.{_≡_};
 ghost use Prim.Native.Nat.{_<_};
@@ -74,7 +73,7 @@ pub fn total_at(
     ensures { λ r. ⌜ Counted (partAt (signatureOf (now (table .entry))) (now (words .entry)) i) r ⌝ }
 {
     let start = 3 * i;
-    let end = 3 * (i + size_at(keys, i));
+    let end = 3 * (i + equivalence::keys::size_at(keys, i));
     Totals {
         weight: sums[start] - sums[end],
         low: sums[start + 1] - sums[end + 1],

@@ -2,7 +2,6 @@
 use crate::NODE_SUMS;
 use crate::VARIABLES;
 use crate::digits::first_greater;
-use symbols::wide;
 ghost use mathlib.Core.List.{List};
 ghost use mathlib.Core.Path.{_≡_};
 ghost use Prim.Native.Nat.{ℕ, _+_, _≤_, _<_};
@@ -29,7 +28,7 @@ pub fn with_node(adds: &[u64; NODE_SUMS], word: u16, after: Totals) -> Totals
     ensures { λ r. ⌜ Added (now (adds .entry)) word after r ⌝ }
     ensures { λ r. ⌜ ((n : ℕ) → SumsWithin n after → SumsWithin (n + 1) r) ⌝ }
 {
-    let at = 3 * wide(word);
+    let at = 3 * symbols::wide(word);
     Totals {
         weight: after.weight + adds[at],
         low: after.low + adds[at + 1],

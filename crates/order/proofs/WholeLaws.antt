@@ -16,7 +16,7 @@ use Rattle.equivalence.specs.Keys.{Prepared, BothPrepared}
 use Rattle.equivalence.proofs.FormedLaws.{term-some, term-complete}
 use Rattle.measures.specs.declared.totals.Totals.{Totals}
 use Rattle.measures.specs.Sums.{Scale}
-use Rattle.order.specs.Compared.{Whole, Level}
+use Rattle.order.specs.Whole.{Whole, Level}
 
 pub whole-terms : {table s t : List ℕ} → length table ≤ 1021 → Admissible (signatureOf table) →
     IsTerm (signatureOf table) s → IsTerm (signatureOf table) t → Whole table s t

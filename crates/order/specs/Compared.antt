@@ -1,32 +1,20 @@
 -- What the functions of the comparison answer of the terms at two offsets, of the n terms there, and of two lists.
 use mathlib.Core.List.{List}
-use mathlib.Core.Bool.{Bool, true, cond, _&&_}
+use mathlib.Core.Bool.{Bool, cond, _&&_}
 use mathlib.Core.Path.{_≡_}
-use Prim.Native.Nat.{ℕ, _≤_}
+use Prim.Native.Nat.{ℕ}
 use lib.Dec.{ltb}
-use lib.ListN.{length, getD}
+use lib.ListN.{length}
 use Rattle.multisets.specs.Multiset.{every, some, multisetEqual, multisetGreater, rowGreater}
-use Rattle.terms.specs.Signature.{Signature, symbolOf, AcBinary}
+use Rattle.terms.specs.Signature.{Signature, symbolOf}
 use Rattle.terms.specs.Term.{Term, variableCount, weight}
 use Rattle.terms.specs.Equivalence.{isEquivalent}
-use Rattle.terms.specs.Words.{firstVariable, termOf}
+use Rattle.terms.specs.Words.{firstVariable}
 use Rattle.terms.specs.Order.{noneOftener, variables as variablesOf, highPart, lowPart, joinedHigh, flattenedMark}
-use Rattle.terms.specs.Order.{rootMark, isGreater, mark}
-use Rattle.format.specs.Statements.{IsTerm}
-use Rattle.operations.specs.declared.Relation.{Relation}
-use Rattle.operations.specs.Comparing.{relation}
+use Rattle.terms.specs.Order.{rootMark, isGreater}
 use Rattle.symbols.specs.Table.{signatureOf}
-use Rattle.equivalence.specs.Parts.{partAt, partsAt, elementsAt}
+use Rattle.equivalence.specs.Parts.{partAt, partsAt, elementsAt, Stands}
 use Rattle.equivalence.specs.Offsets.{Offsets}
-use Rattle.measures.specs.declared.totals.Totals.{Totals}
-use Rattle.measures.specs.Totals.{Totalled}
-
--- Two whole terms.
-pub record Whole (table s t : List ℕ) : Type 0 where
-  pub small : length table ≤ 1025
-  pub binary : AcBinary (signatureOf table)
-  pub left : IsTerm (signatureOf table) s
-  pub right : IsTerm (signatureOf table) t
 
 -- The offsets of the elements above f, of those below f and of the variables, and how many elements there are.
 pub record Parted (σ : Signature) (f : ℕ) (ws : List ℕ) (ts : List Term) (above below variables : List ℕ)
@@ -58,26 +46,9 @@ module _ (table : List ℕ) where
   abbrev pub rootAt : List ℕ → ℕ → List ℕ → ℕ → ℕ
   rootAt s i t j = rootMark σ (isEquivalent σ) (isGreater σ) (partAt σ s i) (partAt σ t j)
 
-  -- Two whole terms of equal weight with the same root; no variable occurs oftener in the right one.
-  pub record SameRoot (s t : List ℕ) : Type 0 where
-    pub root : getD s 0 0 ≡ getD t 0 0
-    pub few : true ≡ noneOftenerAt s 0 t 0
-    pub level : weightAt s 0 ≡ weightAt t 0
-
-  -- The mark and the relation of the terms that words spell.
-  abbrev pub markOf : List ℕ → List ℕ → ℕ
-  markOf s t = mark σ (termOf σ s) (termOf σ t)
-
-  abbrev pub relationOf : List ℕ → List ℕ → Relation
-  relationOf s t = relation σ (termOf σ s) (termOf σ t)
-
-  -- Two whole terms with their totals, of equal weight and with the same root.
-  pub record Level (s : List ℕ) (a : Totals) (t : List ℕ) (b : Totals) : Type 0 where
-    pub whole : Whole table s t
-    pub left : Totalled σ s a
-    pub right : Totalled σ t b
-    pub level : a .weight ≡ b .weight
-    pub root : getD s 0 0 ≡ getD t 0 0
+  -- At i and at j stand n terms.
+  abbrev pub BothStand : List ℕ → ℕ → List ℕ → ℕ → ℕ → Type 0
+  BothStand s i t j n = Stands σ s i n × Stands σ t j n
 
   abbrev pub rowsGreater : List ℕ → ℕ → List ℕ → ℕ → ℕ → Bool
   rowsGreater s i t j n = rowGreater (isEquivalent σ) (isGreater σ) (partsAt σ s i n) (partsAt σ t j n)

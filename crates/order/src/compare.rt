@@ -1,8 +1,6 @@
 // The comparison by the order: terms, rows of arguments and flattenings, which call one another.
-use crate::parts::join_surplus;
 use crate::parts::parts;
 use equivalence::MAX_ELEMENTS;
-use equivalence::cancel::cancel;
 use equivalence::equivalence::equivalent_by_keys;
 use equivalence::keys::size_at;
 use equivalence::offsets::wide_byte;
@@ -11,8 +9,6 @@ use measures::SUMS;
 use measures::VARIABLES;
 use measures::sums::total_at;
 use measures::totals::first_oftener;
-use symbols::arity;
-use symbols::is_ac;
 use symbols::precedence;
 ghost use mathlib.Core.Path.{_≡_};
 ghost use mathlib.Core.Bool.{true, cond};
@@ -20,11 +16,11 @@ ghost use Prim.Native.Nat.{_+_, _≤_, _<_};
 ghost use lib.Dec.{eqb};
 ghost use lib.ListN.{length};
 ghost use Rattle.symbols.specs.Table.{signatureOf};
-ghost use Rattle.equivalence.specs.Parts.{elementsAt, Stands};
+ghost use Rattle.equivalence.specs.Parts.{elementsAt};
 ghost use Rattle.equivalence.specs.Offsets.{OffsetsIn, termsAt};
 ghost use Rattle.measures.specs.Sums.{Scale};
 ghost use Rattle.order.specs.Compared.{noneOftenerAt, isHigher, greaterAt, rowsGreater};
-ghost use Rattle.order.specs.Compared.{flattenedAt, covered, outcome};
+ghost use Rattle.order.specs.Compared.{BothStand, flattenedAt, covered, outcome};
 
 // Are both words symbols, and the first higher in the precedence?
 pub fn higher(table: &[u16], f: u16, g: u16) -> bool
@@ -95,8 +91,8 @@ fn exceeds(
     if f >= 256 {
         return false;
     }
-    let n = arity(*table, f);
-    if is_ac(*table, f) {
+    let n = symbols::arity(*table, f);
+    if symbols::is_ac(*table, f) {
         return flattened(table, s, skeys, ssums, i + 1, t, tkeys, tsums, j + 1, f, n) > 0;
     }
     rows_greater(table, s, skeys, ssums, i + 1, t, tkeys, tsums, j + 1, n)
@@ -116,10 +112,7 @@ pub fn rows_greater(
     n: usize,
 ) -> bool
     requires { ⌜ Scale (now (now table)) (now (now s)) (now skeys) (now ssums) (now (now t)) (now tkeys) (now tsums) ⌝ }
-    requires { ⌜
-        Stands (signatureOf (now (now table))) (now (now s)) i n
-        × Stands (signatureOf (now (now table))) (now (now t)) j n
-        ⌝ }
+    requires { ⌜ BothStand (now (now table)) (now (now s)) i (now (now t)) j n ⌝ }
     ensures { λ r. ⌜ r ≡ rowsGreater (now (now (table .entry))) (now (now (s .entry))) i (now (now (t .entry))) j n ⌝ }
 {
     let mut at = i;
@@ -152,10 +145,7 @@ pub fn flattened(
     n: usize,
 ) -> u8
     requires { ⌜ Scale (now (now table)) (now (now s)) (now skeys) (now ssums) (now (now t)) (now tkeys) (now tsums) ⌝ }
-    requires { ⌜
-        Stands (signatureOf (now (now table))) (now (now s)) i n
-        × Stands (signatureOf (now (now table))) (now (now t)) j n
-        ⌝ }
+    requires { ⌜ BothStand (now (now table)) (now (now s)) i (now (now t)) j n ⌝ }
     requires { ⌜
         (f < 256) × (length (elementsAt (signatureOf (now (now table))) f (now (now s)) i n) ≤ 64)
         × (length (elementsAt (signatureOf (now (now table))) f (now (now t)) j n) ≤ 64)
@@ -164,35 +154,15 @@ pub fn flattened(
         r ≡ flattenedAt (now (now (table .entry))) f (now (now (s .entry))) i (now (now (t .entry))) j n
         ⌝ }
 {
-    let mut sabove = [0u8; MAX_ELEMENTS];
-    let mut sbelow = [0u8; MAX_ELEMENTS];
+    let mut shigh = [0u8; MAX_ELEMENTS];
+    let mut slow = [0u8; MAX_ELEMENTS];
     let mut svars = [0u8; MAX_ELEMENTS];
-    let mut tabove = [0u8; MAX_ELEMENTS];
-    let mut tbelow = [0u8; MAX_ELEMENTS];
+    let mut thigh = [0u8; MAX_ELEMENTS];
+    let mut tlow = [0u8; MAX_ELEMENTS];
     let mut tvars = [0u8; MAX_ELEMENTS];
-    let left = parts(
-        table,
-        f,
-        s,
-        skeys,
-        i,
-        n,
-        &mut sabove,
-        &mut sbelow,
-        &mut svars,
-    );
-    let right = parts(
-        table,
-        f,
-        t,
-        tkeys,
-        j,
-        n,
-        &mut tabove,
-        &mut tbelow,
-        &mut tvars,
-    );
-    let m = join_surplus(
+    let left = parts(table, f, s, skeys, i, n, &mut shigh, &mut slow, &mut svars);
+    let right = parts(table, f, t, tkeys, j, n, &mut thigh, &mut tlow, &mut tvars);
+    let m = crate::parts::join_surplus(
         table,
         s,
         skeys,
@@ -202,7 +172,7 @@ pub fn flattened(
         tkeys,
         &mut tvars,
         right.variables,
-        &mut tabove,
+        &mut thigh,
         right.above,
     );
     let high = compare(
@@ -210,12 +180,12 @@ pub fn flattened(
         s,
         skeys,
         ssums,
-        &mut sabove,
+        &mut shigh,
         left.above,
         t,
         tkeys,
         tsums,
-        &mut tabove,
+        &mut thigh,
         m,
     );
     if high == 2 {
@@ -237,18 +207,15 @@ pub fn flattened(
         s,
         skeys,
         ssums,
-        &mut sbelow,
+        &mut slow,
         left.below,
         t,
         tkeys,
         tsums,
-        &mut tbelow,
+        &mut tlow,
         right.below,
     );
-    if low == 2 {
-        return 6;
-    }
-    0
+    if low == 2 { 6 } else { 0 }
 }
 
 // The terms at the n offsets ps as a multiset: 2 if above those at the m offsets qs, 1 if equivalent, 0 if neither.
@@ -275,7 +242,7 @@ fn compare(
         (termsAt (now (now (table .entry))) (now (now (t .entry))) (now (qs .entry)) m)
         ⌝ }
 {
-    let rest = cancel(table, s, skeys, ps, n, t, tkeys, qs, m);
+    let rest = equivalence::cancel::cancel(table, s, skeys, ps, n, t, tkeys, qs, m);
     let a = rest.left;
     let b = rest.right;
     if a == 0 {

@@ -11,8 +11,6 @@ use measures::VARIABLES;
 use measures::sums::sum_up;
 use measures::totals::Totals;
 use measures::totals::first_oftener;
-use symbols::arity;
-use symbols::is_ac;
 ghost use mathlib.Core.Path.{_≡_};
 ghost use Prim.Native.Nat.{_<_};
 ghost use lib.ListN.{length, getD};
@@ -22,7 +20,8 @@ ghost use Rattle.equivalence.specs.Offsets.{alikeAt};
 ghost use Rattle.measures.specs.Nodes.{NodeSums};
 ghost use Rattle.measures.specs.Totals.{Totalled};
 ghost use Rattle.measures.specs.Sums.{Scale};
-ghost use Rattle.order.specs.Compared.{Whole, SameRoot, rootAt, markOf};
+ghost use Rattle.order.specs.Compared.{rootAt};
+ghost use Rattle.order.specs.Whole.{Whole, SameRoot, markOf};
 
 // The mark by the arguments of two whole terms with the same root: 3 to 6, or 0.
 pub fn arguments_mark(
@@ -39,8 +38,8 @@ pub fn arguments_mark(
     ensures { λ r. ⌜ r ≡ rootAt (now (table .entry)) (now (s .entry)) 0 (now (t .entry)) 0 ⌝ }
 {
     let f = s[0];
-    let n = arity(table, f);
-    if is_ac(table, f) {
+    let n = symbols::arity(table, f);
+    if symbols::is_ac(table, f) {
         return flattened(&table, &s, skeys, ssums, 1, &t, tkeys, tsums, 1, f, n);
     }
     if rows_greater(&table, &s, skeys, ssums, 1, &t, tkeys, tsums, 1, n) {

@@ -1,8 +1,5 @@
 // The elements of a flattening, split by their roots, and the high part that is compared.
 use equivalence::MAX_ELEMENTS;
-use equivalence::cancel::cancel;
-use equivalence::flatten::elements;
-use equivalence::offsets::wide_byte;
 use format::MAX_NODES;
 use symbols::precedence;
 ghost use mathlib.Core.Path.{_≡_};
@@ -49,7 +46,7 @@ fn split(
     let mut v = 0;
     while k < m {
         let p = offsets[k];
-        let word = words[wide_byte(p)];
+        let word = words[equivalence::offsets::wide_byte(p)];
         if word >= 256 {
             variables[v] = p;
             v += 1;
@@ -102,7 +99,7 @@ pub fn parts(
         ⌝ }
 {
     let mut offsets = [0u8; MAX_ELEMENTS];
-    let m = elements(table, f, words, keys, i, n, &mut offsets);
+    let m = equivalence::flatten::elements(table, f, words, keys, i, n, &mut offsets);
     split(*table, f, *words, &offsets, m, above, below, variables)
 }
 
@@ -140,23 +137,23 @@ pub fn join_surplus(
     tkeys: &[u64; MAX_NODES],
     tvars: &mut [u8; MAX_ELEMENTS],
     b: usize,
-    tabove: &mut [u8; MAX_ELEMENTS],
+    thigh: &mut [u8; MAX_ELEMENTS],
     k: usize,
 ) -> usize
     requires { ⌜ BothPrepared (now (now table)) (now (now s)) (now skeys) (now (now t)) (now tkeys) ⌝ }
     requires { ⌜ OffsetsIn (now (now table)) (now (now s)) (now svars) a ⌝ }
     requires { ⌜ OffsetsIn (now (now table)) (now (now t)) (now tvars) b ⌝ }
-    requires { ⌜ OffsetsIn (now (now table)) (now (now t)) (now tabove) k ⌝ }
+    requires { ⌜ OffsetsIn (now (now table)) (now (now t)) (now thigh) k ⌝ }
     requires { ⌜ k + b ≤ 64 ⌝ }
     ensures { λ r. ⌜
-        Offsets (signatureOf (now (now (table .entry)))) (now (now (t .entry))) (now (tabove .exit)) r
-        (termsAt (now (now (table .entry))) (now (now (t .entry))) (now (tabove .entry)) k
+        Offsets (signatureOf (now (now (table .entry)))) (now (now (t .entry))) (now (thigh .exit)) r
+        (termsAt (now (now (table .entry))) (now (now (t .entry))) (now (thigh .entry)) k
         ++ leftAt (now (now (table .entry))) (now (now (s .entry))) (now (svars .entry)) a
         (now (now (t .entry))) (now (tvars .entry)) b .right)
         ⌝ }
 {
-    let rest = cancel(table, s, skeys, svars, a, t, tkeys, tvars, b);
+    let rest = equivalence::cancel::cancel(table, s, skeys, svars, a, t, tkeys, tvars, b);
     let m = rest.right;
-    join(*table, *t, tabove, k, tvars, m);
+    join(*table, *t, thigh, k, tvars, m);
     k + m
 }

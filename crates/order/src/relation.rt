@@ -14,7 +14,8 @@ ghost use Rattle.symbols.specs.Table.{signatureOf};
 ghost use Rattle.measures.specs.Nodes.{NodeSums};
 ghost use Rattle.measures.specs.Totals.{Totalled};
 ghost use Rattle.measures.specs.Sums.{SummedUp, Scale};
-ghost use Rattle.order.specs.Compared.{Whole, Level, greaterAt, relationOf};
+ghost use Rattle.order.specs.Compared.{greaterAt};
+ghost use Rattle.order.specs.Whole.{Whole, Level, relationOf};
 
 // Is the left one greater, of two terms of equal weight with the same root that are prepared?
 fn greater_level(

@@ -1,0 +1,47 @@
+-- Two whole terms, as the words that spell them.
+use mathlib.Core.List.{List}
+use mathlib.Core.Bool.{true}
+use mathlib.Core.Path.{_≡_}
+use Prim.Native.Nat.{ℕ, _≤_}
+use lib.ListN.{length, getD}
+use Rattle.terms.specs.Signature.{Signature, AcBinary}
+use Rattle.terms.specs.Words.{termOf}
+use Rattle.terms.specs.Order.{mark}
+use Rattle.format.specs.Statements.{IsTerm}
+use Rattle.operations.specs.declared.Relation.{Relation}
+use Rattle.operations.specs.Comparing.{relation}
+use Rattle.symbols.specs.Table.{signatureOf}
+use Rattle.measures.specs.declared.totals.Totals.{Totals}
+use Rattle.measures.specs.Totals.{Totalled}
+use Rattle.order.specs.Compared.{weightAt, noneOftenerAt}
+
+-- Both are well formed, under a table of which the order has what it asks.
+pub record Whole (table s t : List ℕ) : Type 0 where
+  pub small : length table ≤ 1025
+  pub binary : AcBinary (signatureOf table)
+  pub left : IsTerm (signatureOf table) s
+  pub right : IsTerm (signatureOf table) t
+
+module _ (table : List ℕ) where
+  abbrev σ : Signature
+  σ = signatureOf table
+
+  abbrev pub markOf : List ℕ → List ℕ → ℕ
+  markOf s t = mark σ (termOf σ s) (termOf σ t)
+
+  abbrev pub relationOf : List ℕ → List ℕ → Relation
+  relationOf s t = relation σ (termOf σ s) (termOf σ t)
+
+  -- Of equal weight with the same root; no variable occurs oftener in the right one.
+  pub record SameRoot (s t : List ℕ) : Type 0 where
+    pub root : getD s 0 0 ≡ getD t 0 0
+    pub few : true ≡ noneOftenerAt table s 0 t 0
+    pub level : weightAt table s 0 ≡ weightAt table t 0
+
+  -- With these totals, of equal weight and with the same root.
+  pub record Level (s : List ℕ) (a : Totals) (t : List ℕ) (b : Totals) : Type 0 where
+    pub whole : Whole table s t
+    pub left : Totalled σ s a
+    pub right : Totalled σ t b
+    pub level : a .weight ≡ b .weight
+    pub root : getD s 0 0 ≡ getD t 0 0

@@ -54,7 +54,8 @@ pub fn total(table: &[u16], adds: &[u64; NODE_SUMS], words: &[u16]) -> Totals
     here
 }
 
-// The first variable that occurs oftener in the term with the right totals, 16 if none does.
+// The first variable that occurs oftener in the term with the right totals, 16 if none does. It goes up by eight: a
+// variable of the first eight settles it, whatever the last eight have.
 pub fn first_oftener(left: Totals, right: Totals) -> usize
     requires { ⌜ Counts left × Counts right ⌝ }
     ensures { λ r. ⌜ ((s t : Term) → Counted s left → Counted t right → r ≡ firstOftener s t) ⌝ }

@@ -1,4 +1,5 @@
 -- The laws of the definitions of specs/, up to the theorems of specs/Statements.antt.
+pub mod MapLaws
 pub mod TermLaws
 pub mod FlatteningLaws
 pub mod FormedTest
@@ -13,5 +14,6 @@ pub mod RewritingLaws
 pub mod VariableLaws
 pub mod WeightLaws
 pub mod SubstitutionLaws
+pub mod RenamingLaws
 pub mod Theorems
 mod TrapChecks

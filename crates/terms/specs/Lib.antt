@@ -9,5 +9,6 @@ pub mod Oftener
 pub mod Marks
 pub mod Article
 pub mod Rewriting
+pub mod Renaming
 pub mod Sample
 pub mod Statements

@@ -17,6 +17,7 @@ pub mod ArticleSound
 pub mod Contexts
 pub mod FlattenedSubstitution
 pub mod Substitutions
+pub mod Renamings
 pub mod Steps
 pub mod Digits
 pub mod Pigeonhole

@@ -1,7 +1,10 @@
--- The theorems of specs/Statements.antt and specs/StepStatements.antt.
-use mathlib.Core.Path.{refl}
+-- The theorems of specs/Statements.antt, specs/StepStatements.antt and specs/RenamingStatements.antt.
+use mathlib.Core.Path.{refl, ap₂}
+use Prim.Native.Nat.{_<_}
 use native.Mathlib.Omega.{arith}
+use lib.IntN.{subℕ}
 use Rattle.terms.specs.Signature.{Signature}
+use Rattle.terms.specs.Term.{occurrences}
 use Rattle.terms.specs.Equivalence.{isEquivalentTo, isEquivalent}
 use Rattle.terms.specs.Order.{isGreater}
 use Rattle.terms.specs.Rewriting.{System}
@@ -11,12 +14,15 @@ use Rattle.theory.specs.Statements.{TestDecidesArticle, TotalOnExpressio
 use Rattle.theory.specs.Statements.{ClosedUnderContexts, ClosedUnderSubstitutions}
 use Rattle.theory.specs.StepStatements.{NodesBounded, StepsDecrease, DerivationsDescend, StepCeiling}
 use Rattle.theory.specs.StepStatements.{SampleAdmissible}
+use Rattle.theory.specs.RenamingStatements.{WeightRenamed, MarginRenamed, WellFormedRenamed}
+use Rattle.theory.specs.RenamingStatements.{EquivalenceRenamed, OrderRenamed, MarkRenamed}
 use Rattle.multisets.proofs.Relations.{refuted}
 use Rattle.terms.proofs.EquivalenceLaws.{isEquivalent-app, isEquivalent-app-var}
 use Rattle.terms.proofs.EquivalenceComplete.{Equivalent→isEquivalent}
 use Rattle.terms.proofs.EquivalenceMeasures.{formed-resp-equivalent}
 use Rattle.terms.proofs.OrderLaws.{isGreater-unfolds}
 use Rattle.terms.proofs.WeightLaws.{nodes-le-weight}
+use Rattle.terms.proofs.RenamingLaws.{weight-rename, formed-rename}
 use Rattle.theory.proofs.StrictOrder.{isGreater-order, greater-resp-like, greater-not-equivalent}
 use Rattle.theory.proofs.MarkLaws.{mark-exact, mark-holds, mark-greater, mark-equivalent, mark-resp-like}
 use Rattle.theory.proofs.TotalOrder.{exactly-one}
@@ -24,6 +30,7 @@ use Rattle.theory.proofs.ArticleComplete.{isGreater→Greater}
 use Rattle.theory.proofs.ArticleSound.{Greater→isGreater}
 use Rattle.theory.proofs.Contexts.{greater-part, greater-fill}
 use Rattle.theory.proofs.Substitutions.{greater-substitute}
+use Rattle.theory.proofs.Renamings.{equivalent-renamed, greater-renamed, less-renamed, mark-renamed}
 use Rattle.theory.proofs.Steps.{step-decreases, along-descends}
 use Rattle.theory.proofs.Ceiling.{stepCount-ceiling}
 use Rattle.theory.proofs.Examples.{admissible}
@@ -80,6 +87,24 @@ module _ (σ : Signature) where
 
   pub closed-under-substitutions : ClosedUnderSubstitutions σ
   closed-under-substitutions A s t v w τ images = greater-substitute σ A τ images s t v w
+
+  pub weight-kept : WeightRenamed σ
+  weight-kept ρ = weight-rename ρ σ
+
+  pub margin-kept : MarginRenamed σ
+  margin-kept ρ s t = ap₂ subℕ (weight-rename ρ σ s) (weight-rename ρ σ t)
+
+  pub formed-kept : WellFormedRenamed σ
+  formed-kept ρ t within w = formed-rename (λ x. 0 < occurrences x t) σ ρ within t w λ x o. o
+
+  pub equivalence-kept : EquivalenceRenamed σ
+  equivalence-kept = equivalent-renamed σ
+
+  pub order-kept : OrderRenamed σ
+  order-kept ρ s t one after v w = (greater-renamed σ ρ s t one after v w, less-renamed σ ρ s t one after v w)
+
+  pub mark-kept : MarkRenamed σ
+  mark-kept = mark-renamed σ
 
   pub nodes-bounded : NodesBounded σ
   nodes-bounded A t w = omega (arith, nodes-le-weight σ A t w)

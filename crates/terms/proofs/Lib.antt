@@ -15,5 +15,9 @@ pub mod VariableLaws
 pub mod WeightLaws
 pub mod SubstitutionLaws
 pub mod RenamingLaws
+pub mod FirstUseLaws
+pub mod FirstUseRenamed
+pub mod RuleRenumbering
 pub mod Theorems
 mod TrapChecks
+mod FirstUseChecks

@@ -141,7 +141,7 @@ mutual
       λ l. let (x, e, o) = occurrencesIn-renamed ρ y ts (omega arith) in (x, e, omega arith)
 
 module _ (ρ : ℕ → ℕ) (Among : ℕ → Type 0) (one : (x y : ℕ) → Among x → Among y → ρ x ≡ ρ y → x ≡ y) where
-  eqb-rename : (x y : ℕ) → Among x → Among y → eqb (ρ x) (ρ y) ≡ eqb x y
+  pub eqb-rename : (x y : ℕ) → Among x → Among y → eqb (ρ x) (ρ y) ≡ eqb x y
   eqb-rename x y v w =
       sameTest (eqb (ρ x) (ρ y)) (eqb x y) (λ e. eq-eqb x y (one x y v w (eqb-true (ρ x) (ρ y) e)))
       λ e. eq-eqb (ρ x) (ρ y) (ap ρ (eqb-true x y e))

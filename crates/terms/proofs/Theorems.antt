@@ -1,4 +1,5 @@
--- The theorems of specs/Statements.antt.
+-- The theorems of specs/Statements.antt and specs/FirstUseStatements.antt.
+use mathlib.Core.List.{[]}
 use mathlib.Core.Path.{refl}
 use lib.Dec.{eqb}
 use mathlib.Core.Bool.{cond}
@@ -9,12 +10,21 @@ use Rattle.terms.specs.Order.{noneOftener, flattenedMark, rootMark, decr
 use Rattle.terms.specs.Rewriting.{System}
 use Rattle.terms.specs.Statements.{StarredCasesHold, TestDecides, MeasuresRespectEquivalence, WordsReadBack}
 use Rattle.terms.specs.Statements.{FirstOftenerFound, WordForEachNode, StepsKeepExpressions}
+use Rattle.terms.specs.FirstUse.{firstUses, placeIn, renumbered, ruleWords, renumberedRule}
+use Rattle.terms.specs.FirstUseStatements.{NumbersApart, RenumberedInOrder, InOrderUnchanged, RenumberedAgain}
+use Rattle.terms.specs.FirstUseStatements.{RenamingsAgree, WordsRenamed, RuleWordsRenumbered}
+use Rattle.terms.specs.FirstUseStatements.{RuleRenumberedAgain, RuleRenamingsAgree, RuleInOrderUnchanged}
 use Rattle.terms.proofs.EquivalenceComplete.{Equivalent→isEquivalent}
 use Rattle.terms.proofs.EquivalenceMeasures.{measure-resp-equivalent, root-resp-equivalent}
 use Rattle.terms.proofs.EquivalenceSound.{isEquivalent→Equivalent}
 use Rattle.terms.proofs.OftenerLaws.{first-answer}
 use Rattle.terms.proofs.RewritingLaws.{step-expressions}
 use Rattle.terms.proofs.WordsLaws.{length-words, forestOf-words}
+use Rattle.terms.proofs.FirstUseLaws.{place-lt, place-injective, seen-word, renumbered-inOrder}
+use Rattle.terms.proofs.FirstUseLaws.{inOrder-renumbered}
+use Rattle.terms.proofs.FirstUseRenamed.{renumbered-renamed}
+use Rattle.terms.proofs.RuleRenumbering.{inOrder-renumberedRule, words-rename, ruleWords-rename}
+use Rattle.terms.proofs.RuleRenumbering.{renumberedRule-inOrder, renumberedRule-renamed}
 
 pub starred-cases-hold : StarredCasesHold
 unfolding mark isGreater isGreaterTo decreasingMark rootMark flattenedMark noneOftener isEquivalent isEquivalentTo
@@ -44,3 +54,40 @@ module _ (σ : Signature) where
 
 pub steps-keep-expressions : (R : System) → StepsKeepExpressions R
 steps-keep-expressions R h s t p = step-expressions R h p
+
+-- ---- renumbering by first use
+
+pub numbers-apart : NumbersApart
+numbers-apart ws = record {
+  oneToOne = λ x y m n. place-injective (firstUses ws) x y (seen-word ws [] x m);
+  below = λ x m. place-lt (firstUses ws) x (seen-word ws [] x m);
+}
+
+pub renumbered-in-order : RenumberedInOrder
+renumbered-in-order = renumbered-inOrder
+
+pub in-order-unchanged : InOrderUnchanged
+in-order-unchanged = inOrder-renumbered
+
+pub renumbered-again : RenumberedAgain
+renumbered-again ws = inOrder-renumbered (renumbered ws) (renumbered-inOrder ws)
+
+pub renamings-agree : RenamingsAgree
+renamings-agree = renumbered-renamed
+
+module _ (σ : Signature) where
+  pub words-renamed : WordsRenamed σ
+  words-renamed = words-rename σ
+
+  pub rule-words-renumbered : RuleWordsRenumbered σ
+  rule-words-renumbered few r v w = ruleWords-rename σ few r v w (placeIn (firstUses (ruleWords r)))
+
+  pub rule-renumbered-again : RuleRenumberedAgain σ
+  rule-renumbered-again few r v w =
+      inOrder-renumberedRule (renumberedRule r) (renumberedRule-inOrder σ few r v w)
+
+  pub rule-renamings-agree : RuleRenamingsAgree σ
+  rule-renamings-agree = renumberedRule-renamed σ
+
+pub rule-in-order-unchanged : RuleInOrderUnchanged
+rule-in-order-unchanged = inOrder-renumberedRule

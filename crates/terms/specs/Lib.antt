@@ -10,5 +10,7 @@ pub mod Marks
 pub mod Article
 pub mod Rewriting
 pub mod Renaming
+pub mod FirstUse
 pub mod Sample
 pub mod Statements
+pub mod FirstUseStatements

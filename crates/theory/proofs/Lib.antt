@@ -21,6 +21,7 @@ pub mod Renamings
 pub mod Steps
 pub mod Digits
 pub mod Pigeonhole
+pub mod RenumberedRules
 pub mod Ceiling
 pub mod Examples
 pub mod Theorems

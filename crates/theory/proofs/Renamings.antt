@@ -175,25 +175,28 @@ module _ (ρ : ℕ → ℕ) (Among : ℕ → Type 0) (one : (x y : ℕ) → Amon
 
 -- ---- two well-formed terms
 
+pub occurring-below : (σ : Signature) (s t : Term) → WellFormed σ s → WellFormed σ t → (x : ℕ) → OccursIn s t x →
+    x < variableCount
+occurring-below σ s t v w x o =
+    byOrder x variableCount (λ l. l)
+    λ l. absurd (omega (arith, occurrences-past σ x l s v, occurrences-past σ x l t w))
+
 module _ (σ : Signature) (ρ : ℕ → ℕ) (s t : Term) (one : OneToOneOn ρ s t) where
   pub equivalent-renamed : isEquivalent σ (rename ρ s) (rename ρ t) ≡ isEquivalent σ s t
   equivalent-renamed =
       isEquivalent-rename ρ (OccursIn s t) one σ s t (λ x o. omega arith) λ x o. omega arith
 
   module _ (after : WithinCount ρ s t) (v : WellFormed σ s) (w : WellFormed σ t) where
-    occurring-below : (x : ℕ) → OccursIn s t x → x < variableCount
-    occurring-below x o =
-        byOrder x variableCount (λ l. l)
-        λ l. absurd (omega (arith, occurrences-past σ x l s v, occurrences-past σ x l t w))
+    abbrev before : (x : ℕ) → OccursIn s t x → x < variableCount
+    before = occurring-below σ s t v w
 
     pub greater-renamed : isGreater σ (rename ρ s) (rename ρ t) ≡ isGreater σ s t
     greater-renamed =
-        greater-rename ρ (OccursIn s t) one occurring-below after σ s t (λ x o. omega arith) λ x o. omega arith
+        greater-rename ρ (OccursIn s t) one before after σ s t (λ x o. omega arith) λ x o. omega arith
 
     pub less-renamed : isGreater σ (rename ρ t) (rename ρ s) ≡ isGreater σ t s
     less-renamed =
-        greater-rename ρ (OccursIn s t) one occurring-below after σ t s (λ x o. omega arith) λ x o. omega arith
+        greater-rename ρ (OccursIn s t) one before after σ t s (λ x o. omega arith) λ x o. omega arith
 
     pub mark-renamed : mark σ (rename ρ s) (rename ρ t) ≡ mark σ s t
-    mark-renamed =
-        mark-rename ρ (OccursIn s t) one occurring-below after σ s t (λ x o. omega arith) λ x o. omega arith
+    mark-renamed = mark-rename ρ (OccursIn s t) one before after σ s t (λ x o. omega arith) λ x o. omega arith

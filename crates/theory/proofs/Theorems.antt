@@ -8,6 +8,7 @@ use Rattle.terms.specs.Term.{occurrences}
 use Rattle.terms.specs.Equivalence.{isEquivalentTo, isEquivalent}
 use Rattle.terms.specs.Order.{isGreater}
 use Rattle.terms.specs.Rewriting.{System}
+use Rattle.terms.specs.FirstUse.{firstUses, placeIn, ruleWords}
 use Rattle.theory.specs.Statements.{Irreflexive, Transitive, OrderInvariant, MarkInvariant, ExactlyOneMark}
 use Rattle.theory.specs.Statements.{DecreasingMarks, MarkNine, EquivalenceUnfolds, OrderUnfolds}
 use Rattle.theory.specs.Statements.{TestDecidesArticle, TotalOnExpressions, GreaterThanParts}
@@ -16,6 +17,7 @@ use Rattle.theory.specs.StepStatements.{NodesBounded, StepsDecrease, Der
 use Rattle.theory.specs.StepStatements.{SampleAdmissible}
 use Rattle.theory.specs.RenamingStatements.{WeightRenamed, MarginRenamed, WellFormedRenamed}
 use Rattle.theory.specs.RenamingStatements.{EquivalenceRenamed, OrderRenamed, MarkRenamed}
+use Rattle.theory.specs.RenamingStatements.{RulesConverted}
 use Rattle.multisets.proofs.Relations.{refuted}
 use Rattle.terms.proofs.EquivalenceLaws.{isEquivalent-app, isEquivalent-app-var}
 use Rattle.terms.proofs.EquivalenceComplete.{Equivalent→isEquivalent}
@@ -30,6 +32,8 @@ use Rattle.theory.proofs.ArticleComplete.{isGreater→Greater}
 use Rattle.theory.proofs.ArticleSound.{Greater→isGreater}
 use Rattle.theory.proofs.Contexts.{greater-part, greater-fill}
 use Rattle.theory.proofs.Substitutions.{greater-substitute}
+use Rattle.terms.proofs.RuleRenumbering.{renumbering-oneToOne}
+use Rattle.theory.proofs.RenumberedRules.{renumbering-within}
 use Rattle.theory.proofs.Renamings.{equivalent-renamed, greater-renamed, less-renamed, mark-renamed}
 use Rattle.theory.proofs.Steps.{step-decreases, along-descends}
 use Rattle.theory.proofs.Ceiling.{stepCount-ceiling}
@@ -105,6 +109,17 @@ module _ (σ : Signature) where
 
   pub mark-kept : MarkRenamed σ
   mark-kept = mark-renamed σ
+
+  pub rules-converted : RulesConverted σ
+  rules-converted few r v w =
+      let ρ = placeIn (firstUses (ruleWords r)) in
+      let within = renumbering-within σ few r v w in
+      record {
+        left = formed-kept ρ (r .left) (λ x o. within x (omega arith)) v;
+        right = formed-kept ρ (r .right) (λ x o. within x (omega arith)) w;
+        mark = mark-kept ρ (r .left) (r .right) (renumbering-oneToOne r) within v w;
+        margin = margin-kept ρ (r .left) (r .right);
+      }
 
   pub nodes-bounded : NodesBounded σ
   nodes-bounded A t w = omega (arith, nodes-le-weight σ A t w)

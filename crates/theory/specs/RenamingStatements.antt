@@ -1,13 +1,17 @@
 -- The order does not see the names of variables: the theorems of renamings, as types. The proofs stand in
 -- proofs/Theorems.antt.
--- Renders: 02, order 4: "the converted book has the marks the old one had", of one rule under any renaming.
+-- Renders: 02, order 4: "the converted book has the marks the old one had", of one rule under any renaming, and
+-- renumbered by first use.
 use mathlib.Core.Path.{_≡_}
 use Prim.Native.Nat.{ℕ, _<_}
 use Rattle.terms.specs.Signature.{Signature}
 use Rattle.terms.specs.Term.{Term, occurrences, variableCount, weight, WellFormed}
 use Rattle.terms.specs.Equivalence.{isEquivalent}
 use Rattle.terms.specs.Order.{isGreater, mark, margin}
+use Rattle.terms.specs.Rewriting.{Rule}
 use Rattle.terms.specs.Renaming.{rename, OneToOneOn, WithinCount}
+use Rattle.terms.specs.FirstUse.{renumberedRule}
+use Rattle.terms.specs.FirstUseStatements.{ForRules}
 
 module _ (σ : Signature) where
   -- Any renaming keeps the weight, so the margin.
@@ -41,3 +45,13 @@ module _ (σ : Signature) where
 
   abbrev pub MarkRenamed : Type 0
   MarkRenamed = ForRenamed λ ρ s t. mark σ (rename ρ s) (rename ρ t) ≡ mark σ s t
+
+  -- A renumbered rule is well formed, and has the mark and the margin that the rule had.
+  pub record Converted (r r' : Rule) : Type 0 where
+    pub left : WellFormed σ (r' .left)
+    pub right : WellFormed σ (r' .right)
+    pub mark : mark σ (r' .left) (r' .right) ≡ mark σ (r .left) (r .right)
+    pub margin : margin σ (r' .left) (r' .right) ≡ margin σ (r .left) (r .right)
+
+  abbrev pub RulesConverted : Type 0
+  RulesConverted = ForRules σ λ r. Converted r (renumberedRule r)

@@ -1,5 +1,5 @@
-/* The five operations of libackbo.a, for C. Each is proved, for every input, to reply and to leave the lent memory as
-   its definition says (crates/operations/specs: Boundary, over Coding, Comparing, Picking and Marking).
+/* The six operations of libackbo.a, for C. Each is proved, for every input, to reply and to leave the lent memory as
+   its definition says (crates/operations/specs: Boundary, over Coding, Comparing, Picking, Hashing and Marking).
 
    The caller owes this, and nothing else: each pointer is valid for its length, aligned, and not NULL even where the
    length is 0; reply has room for three numbers; what is written to overlaps nothing else that is lent.
@@ -18,8 +18,8 @@
    Each call reads its whole book, which takes about 0.1 ms for the longest (docs/BENCHMARKS.md has times), and keeps
    nothing for the next one.
 
-   Stack, as measured: ackbo_decode 110 KB for every book, ackbo_encode 5 KB, ackbo_compare, ackbo_pick and ackbo_mark up to 72 KB,
-   where AC symbols nest 63 deep. */
+   Stack, as measured: ackbo_decode 110 KB for every book, ackbo_encode and ackbo_fingerprint 5 KB, ackbo_compare,
+   ackbo_pick and ackbo_mark up to 72 KB, where AC symbols nest 63 deep. */
 #ifndef ACKBO_H
 #define ACKBO_H
 
@@ -53,6 +53,14 @@ uint8_t ackbo_compare(const uint8_t *book, size_t book_len, const uint16_t *left
    never with 15. A call costs what ackbo_compare costs of the two terms. */
 uint8_t ackbo_pick(const uint8_t *book, size_t book_len, const uint16_t *left, size_t left_len,
                    const uint16_t *right, size_t right_len, int64_t reply[3]);
+
+/* The fingerprint of a term under a book, 32 bits that AC-equal terms share. reply: the fingerprint, 0 to 4294967295,
+   0, 0. A leaf's is its word plus 1. A symbol q that is not AC starts at q + 1, and for each argument the value becomes
+   31 times itself plus the argument's; an AC symbol q gives 65,599 times (q + 1) plus the fingerprints of its bag; all
+   of it wraps at 32 bits. Terms that are not AC-equal may share one: ackbo_compare tells. Refused are the book and the
+   term (input 1). Past the book, the cost grows with the nodes, however bags nest. */
+uint8_t ackbo_fingerprint(const uint8_t *book, size_t book_len, const uint16_t *term, size_t term_len,
+                          int64_t reply[3]);
 
 /* Marks the rules of a book: writes a mark, 1 to 10, for each. reply: the rules, those that fall, the score. */
 uint8_t ackbo_mark(const uint8_t *book, size_t book_len, uint8_t *marks, size_t marks_len, int64_t reply[3]);

@@ -1,5 +1,6 @@
 -- The numbers of every reply are below 2^63, so that they fit the values that cross the boundary.
 --     decoded-small, encoded-small, compared-small, picked-small     of an answer's count, and of an error's offset
+--     fingerprinted-small                              of a fingerprint, and of an error's offset
 --     marked-small                                     of the counts and the score, and of an error's offset
 use mathlib.Core.List.{List}
 use mathlib.Core.Path.{_≡_, refl, sym, _∙_}
@@ -13,6 +14,9 @@ use borrow.Author.Tests.{leb-true}
 use Rattle.multisets.proofs.MultisetMaps.{choose-length}
 use Rattle.multisets.proofs.Relations.{byTest}
 use Rattle.terms.specs.Signature.{Signature}
+use Rattle.terms.specs.Words.{termOf}
+use Rattle.terms.specs.Fingerprint.{fingerprint}
+use Rattle.terms.proofs.Theorems.{fingerprint-fits}
 use Rattle.format.specs.Errors.{wordsTooShort, bytesTooShort, fileTooLong, marksTooShort}
 use Rattle.format.specs.Layout.{maxBytes}
 use Rattle.format.specs.Reading.{Reading}
@@ -27,10 +31,11 @@ use Rattle.operations.specs.Replies.Reply.{accepted, refused}
 use Rattle.format.specs.Statements.IsRead.{fromBytes}
 use Rattle.operations.specs.Coding.{write, decoded, encoded}
 use Rattle.ackbo.specs.Numbers.{Small, numberOf, countOf, wordsOf}
-use Rattle.format.proofs.Theorems.{readable-well-formed, faults-within}
+use Rattle.format.proofs.Theorems.{readable-well-formed, read-term-well-formed, faults-within}
 use Rattle.operations.specs.Inputs.{TermReader, Inputs, readTerms, readInputs}
 use Rattle.operations.specs.Comparing.{comparison, compared}
 use Rattle.operations.specs.Picking.{greaterSide, picked}
+use Rattle.operations.specs.Hashing.{fingerprintedTerm, fingerprinted}
 use Rattle.operations.proofs.PickingLaws.{SideWithin, picked-accepted, picked-within}
 use Rattle.operations.specs.declared.GreaterSide.{GreaterSide}
 use Rattle.operations.specs.declared.GreaterSide.the-variants.{Left, Right, Equivalent, Unrelated}
@@ -138,6 +143,22 @@ picked-small bytes left right h g =
     side-small (Right n) w = omega arith
     side-small Equivalent w = omega arith
     side-small Unrelated w = omega arith
+
+-- A fingerprint has 32 bits.
+pub fingerprinted-small : (bytes words : List ℕ) → Small (length words) →
+    Small (numberOf countOf (fingerprinted bytes words))
+unfolding fingerprinted fingerprintedTerm
+fingerprinted-small bytes words h =
+    read-small countOf 0 (readBytes bytes) (λ file. fingerprintedTerm (file .signature) words) (book-small bytes)
+    λ file end e. let σ = file .signature in
+    let few = readable-well-formed file (fromBytes bytes end e) .0 .within .symbolCount in
+    read-small countOf 1 (readTerm σ words) (λ t. accepted (fingerprint σ (termOf σ t)))
+    (λ code offset e. omega (arith, faults-within words code offset .2 σ .0 e))
+    λ t n r. omega (
+      arith,
+      fingerprint-fits σ (omega (arith, few)) (termOf σ t)
+          (read-term-well-formed σ words t n .1 r .2 .wellFormed),
+    )
 
 -- A number of the summary is small if it is for every file of at most 1,023 rules.
 pub marked-small : (bytes marks : List ℕ) (m : Summary → ℕ) →

@@ -7,15 +7,16 @@ ghost use lib.Seq.{sets};
 ghost use Rattle.operations.specs.Coding.{decoded, encoded};
 ghost use Rattle.operations.specs.Comparing.{compared};
 ghost use Rattle.operations.specs.Picking.{picked};
-ghost use Rattle.operations.specs.Enums.{countReply};
+ghost use Rattle.operations.specs.Hashing.{fingerprinted};
+ghost use Rattle.operations.specs.Enums.{numberReply};
 ghost use Rattle.ackbo.specs.Numbers.{Small, numberOf, countOf, wordsOf};
 ghost use Rattle.operations.specs.Marking.{marked};
 ghost use Rattle.operations.specs.Boundary.{codeOf, valuesOf};
-ghost use Rattle.operations.specs.Boundary.{countValues, relationValue, comparisonValues, sideValues, summaryValues};
+ghost use Rattle.operations.specs.Boundary.{numberValues, relationValue, comparisonValues, sideValues, summaryValues};
 use operations::CompareReply;
-use operations::CountReply;
 use operations::GreaterSide;
 use operations::MarkReply;
+use operations::NumberReply;
 use operations::PickReply;
 use operations::Relation;
 
@@ -57,16 +58,16 @@ fn put_error(reply: &mut [i64; 3], code: u8, input: u8, offset: usize) -> u8
 }
 
 // Stores the count of an answer, or the error.
-fn put_count(reply: &mut [i64; 3], answer: CountReply) -> u8
-    requires { ⌜ Small (numberOf countOf (countReply answer)) ⌝ }
-    ensures { λ r. ⌜ r ≡ codeOf (countReply answer) ⌝ }
+fn put_number(reply: &mut [i64; 3], answer: NumberReply) -> u8
+    requires { ⌜ Small (numberOf countOf (numberReply answer)) ⌝ }
+    ensures { λ r. ⌜ r ≡ codeOf (numberReply answer) ⌝ }
     ensures { λ _. ⌜
-        now (reply .exit) ≡ sets (now (reply .entry)) 0 (valuesOf countValues (countReply answer))
+        now (reply .exit) ≡ sets (now (reply .entry)) 0 (valuesOf numberValues (numberReply answer))
         ⌝ }
 {
     match answer {
-        CountReply::Accepted(count) => put_counts(reply, count, 0, 0),
-        CountReply::Refused(error) => put_error(reply, error.code, error.input, error.offset),
+        NumberReply::Accepted(count) => put_counts(reply, count, 0, 0),
+        NumberReply::Refused(error) => put_error(reply, error.code, error.input, error.offset),
     }
 }
 
@@ -86,11 +87,11 @@ pub extern "C" fn ackbo_decode(book: &[u8], words: &mut [u16], reply: &mut [i64;
     ensures { λ r. ⌜ r ≡ codeOf (decoded (now (book .entry)) (now (words .entry)) .reply) ⌝ }
     ensures { λ _. ⌜
         now (reply .exit)
-        ≡ sets (now (reply .entry)) 0 (valuesOf countValues (decoded (now (book .entry)) (now (words .entry)) .reply))
+        ≡ sets (now (reply .entry)) 0 (valuesOf numberValues (decoded (now (book .entry)) (now (words .entry)) .reply))
         ⌝ }
     ensures { λ _. ⌜ now (words .exit) ≡ decoded (now (book .entry)) (now (words .entry)) .output ⌝ }
 {
-    put_count(reply, decoder::decode(book, words))
+    put_number(reply, decoder::decode(book, words))
 }
 
 #[no_mangle]
@@ -98,11 +99,11 @@ pub extern "C" fn ackbo_encode(words: &[u16], book: &mut [u8], reply: &mut [i64;
     ensures { λ r. ⌜ r ≡ codeOf (encoded (now (words .entry)) (now (book .entry)) .reply) ⌝ }
     ensures { λ _. ⌜
         now (reply .exit)
-        ≡ sets (now (reply .entry)) 0 (valuesOf countValues (encoded (now (words .entry)) (now (book .entry)) .reply))
+        ≡ sets (now (reply .entry)) 0 (valuesOf numberValues (encoded (now (words .entry)) (now (book .entry)) .reply))
         ⌝ }
     ensures { λ _. ⌜ now (book .exit) ≡ encoded (now (words .entry)) (now (book .entry)) .output ⌝ }
 {
-    put_count(reply, encoder::encode(words, book))
+    put_number(reply, encoder::encode(words, book))
 }
 
 #[no_mangle]
@@ -155,6 +156,17 @@ pub extern "C" fn ackbo_pick(book: &[u8], left: &[u16], right: &[u16], reply: &m
         PickReply::Accepted(side) => put_side(reply, side),
         PickReply::Refused(error) => put_error(reply, error.code, error.input, error.offset),
     }
+}
+
+#[no_mangle]
+pub extern "C" fn ackbo_fingerprint(book: &[u8], term: &[u16], reply: &mut [i64; 3]) -> u8
+    ensures { λ r. ⌜ r ≡ codeOf (fingerprinted (now (book .entry)) (now (term .entry))) ⌝ }
+    ensures { λ _. ⌜
+        now (reply .exit)
+        ≡ sets (now (reply .entry)) 0 (valuesOf numberValues (fingerprinted (now (book .entry)) (now (term .entry))))
+        ⌝ }
+{
+    put_number(reply, hashing::fingerprint(book, term))
 }
 
 #[no_mangle]

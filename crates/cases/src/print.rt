@@ -3,9 +3,9 @@ ghost use Prim.Native.Nat.{_<_};
 ghost use Rattle.io.specs.Counts.{Counts};
 use libc::STDOUT_FILENO;
 use operations::CompareReply;
-use operations::CountReply;
 use operations::GreaterSide;
 use operations::MarkReply;
+use operations::NumberReply;
 use operations::PickReply;
 use operations::Relation;
 use picking::greater_part;
@@ -35,8 +35,8 @@ pub fn close(sheet: &[u16], book: &mut [u8]) -> usize
     ensures { λ r. ⌜ Counts r (now (book .exit)) ⌝ }
 {
     match encoder::encode(sheet, book) {
-        CountReply::Accepted(count) => count,
-        CountReply::Refused(error) => {
+        NumberReply::Accepted(count) => count,
+        NumberReply::Refused(error) => {
             print_error(error.code, error.input, error.offset);
             0
         }
@@ -124,5 +124,13 @@ pub fn print_pick<'a>(book: &[u8], left: &'a [u16], right: &'a [u16]) {
     match greater_side(book, left, right) {
         PickReply::Accepted(side) => print_side(side, greater_part(book, left, right)),
         PickReply::Refused(error) => print_error(error.code, error.input, error.offset),
+    }
+}
+
+// Prints a number; or the error.
+pub fn print_number(reply: NumberReply) {
+    match reply {
+        NumberReply::Accepted(number) => print_numbers(number as u64, 0, 0),
+        NumberReply::Refused(error) => print_error(error.code, error.input, error.offset),
     }
 }

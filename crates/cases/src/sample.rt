@@ -3,9 +3,11 @@
 use crate::print::close;
 use crate::print::print;
 use crate::print::print_comparison;
+use crate::print::print_number;
 use crate::print::print_pick;
 use crate::print::print_report;
 use crate::print::show;
+use hashing::fingerprint;
 
 // The sample; where 01 does not group a sum, each grouping is a rule.
 #[rattlefmt::skip]
@@ -134,6 +136,15 @@ fn pick_terms(book: &[u8]) {
     print_pick(book, &[0], &[3, 0]); // o, a term cut short
 }
 
+// Fingerprints under the book of the sample.
+fn hash_terms(book: &[u8]) {
+    print_number(fingerprint(book, &[3, 0, 1])); // o+z
+    print_number(fingerprint(book, &[5, 1, 0])); // sub(z,o)
+    print_number(fingerprint(book, &[3, 3, 0, 1, 3, 0, 256])); // (o+z)+(o+u)
+    print_number(fingerprint(book, &[5, 5, 5, 3, 1, 0, 0, 0, 0])); // sub(sub(sub(z+o,o),o),o)
+    print_number(fingerprint(book, &[0, 0])); // o, and a word after it
+}
+
 fn terms() {
     let mut book = [0u8; 256];
     let count = close(&SAMPLE, &mut book);
@@ -141,6 +152,8 @@ fn terms() {
     compare_terms(&book[..count]);
     print(b"sample, picks\n");
     pick_terms(&book[..count]);
+    print(b"sample, fingerprints\n");
+    hash_terms(&book[..count]);
 }
 
 pub fn run() {

@@ -8,10 +8,10 @@ ghost use Rattle.format.specs.Layout.{maxBytes};
 ghost use Rattle.format.specs.Format.{Sides};
 ghost use Rattle.format.specs.Packing.{unpacked};
 ghost use Rattle.operations.specs.Coding.{decoded};
-ghost use Rattle.operations.specs.Enums.{countReply};
+ghost use Rattle.operations.specs.Enums.{numberReply};
 ghost use Rattle.symbols.specs.Table.{signatureOf, entryWords, maxTableWords};
 ghost use Rattle.sides.specs.Side.{rulesWords};
-use operations::CountReply;
+use operations::NumberReply;
 use symbols::put_word;
 
 const HEADER_WORDS: usize = 4;
@@ -40,14 +40,14 @@ fn put_file(table: &[u16], words: &mut [u16], rules: usize, nodes: &[u16])
 
 // Decodes a packed file into the front of the words. Its nodes are kept elsewhere until no fault is
 // left to find.
-fn decode_through(book: &[u8], words: &mut [u16], nodes: &mut [u16]) -> CountReply
+fn decode_through(book: &[u8], words: &mut [u16], nodes: &mut [u16]) -> NumberReply
     requires { ⌜ (length (now book) ≤ maxBytes → 8 * length (now book) ≤ 5 * length (now nodes)) ⌝ }
-    ensures { λ r. ⌜ countReply r ≡ decoded (now (book .entry)) (now (words .entry)) .reply ⌝ }
+    ensures { λ r. ⌜ numberReply r ≡ decoded (now (book .entry)) (now (words .entry)) .reply ⌝ }
     ensures { λ r. ⌜ now (words .exit) ≡ decoded (now (book .entry)) (now (words .entry)) .output ⌝ }
 {
     let mut table = [0u16; symbols::TABLE_WORDS];
     match reader::read_file(book, &[0u16; 0], true, &mut table, nodes) {
-        reader::File::Fault { code, offset } => CountReply::Refused(answers::refusal(
+        reader::File::Fault { code, offset } => NumberReply::Refused(answers::refusal(
             code,
             0,
             offset,
@@ -60,11 +60,11 @@ fn decode_through(book: &[u8], words: &mut [u16], nodes: &mut [u16]) -> CountRep
         } => {
             let total = HEADER_WORDS + symbols::entry_words(symbols) + count;
             if words.len() < total {
-                return CountReply::Refused(answers::refusal(format::WORDS_TOO_SHORT, 1, 0));
+                return NumberReply::Refused(answers::refusal(format::WORDS_TOO_SHORT, 1, 0));
             }
             let front = symbols::front(symbols);
             put_file(&table[..front], words, rules, &nodes[..count]);
-            CountReply::Accepted(total)
+            NumberReply::Accepted(total)
         }
     }
 }
@@ -84,8 +84,8 @@ fn large_room() -> [u16; 52429]
 }
 
 // Decodes a packed file into the front of the words.
-pub fn decode(book: &[u8], words: &mut [u16]) -> CountReply
-    ensures { λ r. ⌜ countReply r ≡ decoded (now (book .entry)) (now (words .entry)) .reply ⌝ }
+pub fn decode(book: &[u8], words: &mut [u16]) -> NumberReply
+    ensures { λ r. ⌜ numberReply r ≡ decoded (now (book .entry)) (now (words .entry)) .reply ⌝ }
     ensures { λ r. ⌜ now (words .exit) ≡ decoded (now (book .entry)) (now (words .entry)) .output ⌝ }
 {
     if book.len() <= 2048 {

@@ -1,20 +1,20 @@
 // Encoding a rule file: from its words to its packed form.
 ghost use mathlib.Core.Path.{_≡_};
 ghost use Rattle.operations.specs.Coding.{encoded};
-ghost use Rattle.operations.specs.Enums.{countReply};
-use operations::CountReply;
+ghost use Rattle.operations.specs.Enums.{numberReply};
+use operations::NumberReply;
 
 mod items;
 
 // Writes the packed form of a file to the front of the bytes.
-pub fn encode(words: &[u16], bytes: &mut [u8]) -> CountReply
-    ensures { λ r. ⌜ countReply r ≡ encoded (now (words .entry)) (now (bytes .entry)) .reply ⌝ }
+pub fn encode(words: &[u16], bytes: &mut [u8]) -> NumberReply
+    ensures { λ r. ⌜ numberReply r ≡ encoded (now (words .entry)) (now (bytes .entry)) .reply ⌝ }
     ensures { λ _. ⌜ now (bytes .exit) ≡ encoded (now (words .entry)) (now (bytes .entry)) .output ⌝ }
 {
     let mut table = [0u16; symbols::TABLE_WORDS];
     let mut none = [0u16; 0];
     match reader::read_file(&[0u8; 0], words, false, &mut table, &mut none) {
-        reader::File::Fault { code, offset } => CountReply::Refused(answers::refusal(
+        reader::File::Fault { code, offset } => NumberReply::Refused(answers::refusal(
             code,
             0,
             offset,
@@ -27,13 +27,13 @@ pub fn encode(words: &[u16], bytes: &mut [u8]) -> CountReply
         } => {
             let count = (crate::items::packed_bits(words, symbols, start) + 7) / 8;
             if format::MAX_BYTES < count {
-                return CountReply::Refused(answers::refusal(format::FILE_TOO_LONG, 0, 0));
+                return NumberReply::Refused(answers::refusal(format::FILE_TOO_LONG, 0, 0));
             }
             if bytes.len() < count {
-                return CountReply::Refused(answers::refusal(format::BYTES_TOO_SHORT, 1, 0));
+                return NumberReply::Refused(answers::refusal(format::BYTES_TOO_SHORT, 1, 0));
             }
             crate::items::write_items(words, start, bytes);
-            CountReply::Accepted(count)
+            NumberReply::Accepted(count)
         }
     }
 }

@@ -47,7 +47,7 @@ pub term-some : {σ : Signature} {ws : List ℕ} → IsTerm σ ws → 0 < length
 term-some {σ} {ws} p = omega (arith, term-size p, size-pos (termOf σ ws))
 
 module _ (σ : Signature) (few : length (σ .symbols) ≤ firstVariable) where
-  take-formed : (n : ℕ) (l : List Term) → WellFormeds σ (arguments l) → WellFormeds σ (arguments (take n l))
+  pub take-formed : (n : ℕ) (l : List Term) → WellFormeds σ (arguments l) → WellFormeds σ (arguments (take n l))
   take-formed zero l w = tt
   take-formed (suc n) [] w = tt
   take-formed (suc n) (t ∷ l) w = (w .0, take-formed n l (w .1))
@@ -65,7 +65,7 @@ module _ (σ : Signature) (few : length (σ .symbols) ≤ firstVariable) where
       ((s, rw row-arguments (length-take-le n ts a), take-formed n ts f), drop-formed n ts f)
   grow-formed w ts (inr v) a f = rw (le-ltb w firstVariable (v .0)) (omega arith, f)
 
-  forest-formed : (ws : List ℕ) → Complete σ ws → WellFormeds σ (arguments (forestOf σ ws))
+  pub forest-formed : (ws : List ℕ) → Complete σ ws → WellFormeds σ (arguments (forestOf σ ws))
   unfolding forestOf
   forest-formed [] c = tt
   forest-formed (w ∷ ws) c = grow-formed w (forestOf σ ws) (c .0) (c .1) (forest-formed ws (c .2))

@@ -1,6 +1,7 @@
 -- Operations on terms do not tell like inputs apart.
 --     like-reads          like inputs read alike: to AC-equivalent terms, or to the same fault
 --     comparison-like     AC-equivalent terms compare alike
+--     fingerprints-like   like terms have the same fingerprint
 --     terms-like          two like terms read alike under one signature
 --     replies-agree       what does not tell AC-equivalent terms apart replies the same
 use mathlib.Core.List.{List}
@@ -17,7 +18,8 @@ use Rattle.terms.specs.Words.{firstVariable, words, termOf}
 use Rattle.terms.specs.Equivalence.{Equivalent, isEquivalent}
 use Rattle.terms.specs.Equivalence.Equivalent.{same, back, then}
 use Rattle.terms.proofs.WordsLaws.{termOf-words}
-use Rattle.terms.proofs.Theorems.{measures-respect-equivalence, test-decides}
+use Rattle.terms.specs.Fingerprint.{fingerprint}
+use Rattle.terms.proofs.Theorems.{measures-respect-equivalence, test-decides, fingerprint-respects-equivalence}
 use Rattle.theory.proofs.Theorems.{order-invariant}
 use Rattle.format.specs.Layout.{maxNodes}
 use Rattle.format.specs.Reading.{Reading}
@@ -29,6 +31,7 @@ use Rattle.format.specs.Statements.{IsTerm}
 use Rattle.format.proofs.Theorems.{read-term-well-formed, well-formed-reads}
 use Rattle.operations.specs.declared.Error.{Error}
 use Rattle.operations.specs.Inputs.{Inputs, readTerms}
+use Rattle.operations.specs.Hashing.{fingerprintedTerm}
 use Rattle.operations.specs.Comparing.{relation, comparison}
 use Rattle.guarantees.specs.Guarantees.{Like}
 use Rattle.guarantees.specs.Guarantees.Like.{sameWords, equalTerms}
@@ -82,6 +85,19 @@ module _ (σ : Signature) (A : Admissible σ) where
           measures-respect-equivalence σ s s' d .weight,
           measures-respect-equivalence σ t t' e .weight,
         )
+
+-- ---- the fingerprint of one term
+
+pub fingerprints-like : (σ : Signature) (A : Admissible σ) → length (σ .symbols) ≤ firstVariable →
+    (term term' : List ℕ) → Like σ term term' → fingerprintedTerm σ term ≡ fingerprintedTerm σ term'
+unfolding fingerprintedTerm
+fingerprints-like σ A few term term' p = go (like-reads σ A few p)
+  where
+    go : {r r' : Reading (List ℕ)} → Alike σ A r r' →
+        (_>>=_ (fromInput 1 r) λ (t : List ℕ). accepted (fingerprint σ (termOf σ t)))
+        ≡ (_>>=_ (fromInput 1 r') λ (t : List ℕ). accepted (fingerprint σ (termOf σ t)))
+    go (terms v v' d) = ap accepted (fingerprint-respects-equivalence σ _ _ d)
+    go faults = refl
 
 -- ---- operations on two terms
 

@@ -25,12 +25,14 @@ use Rattle.operations.specs.Marking.{marksOf, isDecreasing, summaryOf}
 use Rattle.operations.specs.Inputs.{readTerms, readInputs}
 use Rattle.operations.specs.Comparing.{comparison, compared}
 use Rattle.operations.specs.Picking.{picked}
+use Rattle.operations.specs.Hashing.{fingerprintedTerm, fingerprinted}
 use Rattle.guarantees.specs.Guarantees.{Holds, ReadableOrder, FilesDescend, FilesBounded, CountedAll, CountTells}
-use Rattle.guarantees.specs.Guarantees.{Like, LikeComparisonsAgree, MarksExact, FallingCounted}
+use Rattle.guarantees.specs.Guarantees.{Like, LikeComparisonsAgree, LikeFingerprintsAgree, MarksExact, FallingCounted}
 use Rattle.guarantees.proofs.MarkedLaws.{test-of-marks, marks-of-test, all-decreasing, marks-accepted}
 use Rattle.guarantees.proofs.MarkedLaws.{counted-all, mark-written, falling-counted}
 use Rattle.guarantees.proofs.MarkedLaws.{length-rules, getD-member}
 use Rattle.guarantees.proofs.LikeLaws.{AlikeInputs, refusals, comparison-like, terms-like, replies-agree}
+use Rattle.guarantees.proofs.LikeLaws.{fingerprints-like}
 use Rattle.guarantees.specs.Picks.{PartIsGreater, PartEmpty, WordsAfterIgnored, PicksAsCompared}
 use Rattle.guarantees.proofs.PickLaws.{called-picked, called-compared, handed-by, empty-of, no-side, called-part}
 use Rattle.guarantees.specs.RoundTrips.{DecodeThenEncode, EncodeThenDecode}
@@ -112,6 +114,18 @@ unfolding compared
 like-comparisons-agree bytes left left' right right' h =
     replies-agree (λ i. comparison (i .signature) (i .left) (i .right)) comparison-like
     (like-inputs bytes left left' right right' h)
+
+pub like-fingerprints-agree : LikeFingerprintsAgree
+unfolding fingerprinted
+like-fingerprints-agree bytes term term' h = go (readBytes bytes) refl
+  where
+    go : (r : Reading RuleFile) → readBytes bytes ≡ r →
+        (_>>=_ (fromInput 0 r) λ f. fingerprintedTerm (f .signature) term)
+        ≡ (_>>=_ (fromInput 0 r) λ f. fingerprintedTerm (f .signature) term')
+    go (fault code offset) e = refl
+    go (got file at) e =
+        fingerprints-like (file .signature) (admissible bytes file (at, e)) (few bytes file (at, e)) term term'
+        (h file (at, e))
 
 -- ---- picking
 

@@ -1,6 +1,6 @@
 -- What a reader may rely on, over the definitions that the operations' contracts cite. Proofs: proofs/Theorems.antt.
 -- Renders: demand 3, with 01's "Rewrite steps and like comparisons"; demand 2, "Each mark is given exactly when its own
--- condition holds", 'falls' being Definition 5.1 of 000.
+-- condition holds", 'falls' being Definition 5.1 of 000; 02, order 2.
 use mathlib.Core.List.{List}
 use mathlib.Core.Logic.{_↔_}
 use mathlib.Core.Path.{_≡_}
@@ -22,6 +22,7 @@ use Rattle.format.specs.Format.{RuleFile, systemOf}
 use Rattle.format.specs.Files.{readBytes}
 use Rattle.operations.specs.Replies.Reply.{accepted}
 use Rattle.operations.specs.Comparing.{compared}
+use Rattle.operations.specs.Hashing.{fingerprinted}
 use Rattle.operations.specs.declared.Summary.{Summary}
 use Rattle.operations.specs.Marking.{decreasingCount, marked}
 
@@ -86,6 +87,13 @@ abbrev pub LikeComparisonsAgree : Type 0
 LikeComparisonsAgree = (bytes left left' right right' : List ℕ) →
     ((file : RuleFile) → Holds bytes file → Like (file .signature) left left' × Like (file .signature) right right') →
     compared bytes left right ≡ compared bytes left' right'
+
+-- 02, order 2: "AC-equal terms always agree". Lent the same bytes, and a like term where these are a readable book, the
+-- fingerprint or the refusal is the same.
+abbrev pub LikeFingerprintsAgree : Type 0
+LikeFingerprintsAgree = (bytes term term' : List ℕ) →
+    ((file : RuleFile) → Holds bytes file → Like (file .signature) term term') →
+    fingerprinted bytes term ≡ fingerprinted bytes term'
 
 -- ---- (e) marks
 

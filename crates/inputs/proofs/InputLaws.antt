@@ -1,5 +1,5 @@
 -- The ends of reading a file and two terms.
---     term-fault, term-read                  a term, by the end that is told
+--     end-fault, end-got, term-read          a term, by the end that is told
 --     left-fault, right-fault, terms-read    two terms
 --     book-fault, book-read                  the file, and then the terms
 use mathlib.Core.List.{List}
@@ -25,15 +25,15 @@ use Rattle.answers.specs.Answer.{endOf}
 use Rattle.words.specs.Terms.{readerOf}
 use Rattle.inputs.specs.declared.Ends.{Ends}
 use Rattle.inputs.specs.declared.Ends.the-variants.{Read, Refused}
-use Rattle.inputs.specs.Inputs.{TermsAt, TermsRead, InputsRead}
+use Rattle.inputs.specs.Inputs.{TermsAt, TermsRead, BookAt, InputsRead}
 
 -- ---- a term
 
-end-fault : {A : Type 0} (r : Reading A) (code offset : ℕ) → Fault offset code ≡ endOf r → r ≡ fault code offset
+pub end-fault : {A : Type 0} (r : Reading A) (code offset : ℕ) → Fault offset code ≡ endOf r → r ≡ fault code offset
 end-fault (got a next) code offset e = let z : _≡_ {A = ℕ} 0 1 = cc in absurd (omega arith)
 end-fault (fault k o) code offset e = cc
 
-end-got : {A : Type 0} (r : Reading A) (value next : ℕ) → Got value next ≡ endOf r → (a : A) × (r ≡ got a next)
+pub end-got : {A : Type 0} (r : Reading A) (value next : ℕ) → Got value next ≡ endOf r → (a : A) × (r ≡ got a next)
 end-got (got a n) value next e = (a, cc)
 end-got (fault k o) value next e = let z : _≡_ {A = ℕ} 0 1 = cc in absurd (omega arith)
 
@@ -97,13 +97,11 @@ module _ (whole : Bool) (bytes left right : List ℕ) where
   unfolding readInputs
   book-fault code offset e = rw e
 
-  pub book-read : (table : List ℕ) (file : RuleFile) (end : ℕ) → readBytes bytes ≡ got file end → (n : ℕ) →
-      n ≤ length table → n ≤ maxTableWords → Admissible (signatureOf (take n table)) →
-      signatureOf (take n table) ≡ file .signature → (r : Ends) →
+  pub book-read : (table : List ℕ) (n : ℕ) → BookAt table (readBytes bytes) n → (r : Ends) →
       TermsRead (signatureOf (take n table)) (length (take n table)) left right
       (readTerms (readerOf whole) (signatureOf (take n table)) left right) r →
       InputsRead table left right (readInputs (readerOf whole) bytes left right) r
   unfolding readInputs
-  book-read table file end e n room few A σ (Read front l r) (same, at) =
-      rw (e, same ∙ length-take-le n table room, ← σ) (room, few, A, at)
-  book-read table file end e n room few A σ (Refused error) at = rw (e, ← σ) at
+  book-read table n b (Read front l r) (same, at) =
+      rw (b .read, same ∙ length-take-le n table (b .room), ← b .signature) (b .room, b .few, b .admissible, at)
+  book-read table n b (Refused error) at = rw (b .read, ← b .signature) at

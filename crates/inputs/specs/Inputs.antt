@@ -1,15 +1,20 @@
--- What the answer of reading a file and two terms stands for.
+-- What the answers of reading a file and terms stand for.
 use mathlib.Core.Path.{_≡_}
 use mathlib.Core.List.{List}
 use Prim.Native.Nat.{ℕ, _≤_}
 use lib.ListN.{length, take}
 use Rattle.terms.specs.Signature.{Signature, Admissible}
 use Rattle.terms.specs.Words.{termOf}
+use Rattle.format.specs.Reading.{Reading}
+use Rattle.format.specs.Reading.Reading.{got, fault}
+use Rattle.format.specs.Format.{RuleFile}
 use Rattle.format.specs.Statements.{IsTerm}
 use Rattle.operations.specs.Replies.{Reply}
 use Rattle.operations.specs.Replies.Reply.{accepted, refused}
 use Rattle.operations.specs.Inputs.{Inputs}
 use Rattle.symbols.specs.Table.{signatureOf, maxTableWords}
+use Rattle.answers.specs.declared.Answer.{Answer}
+use Rattle.answers.specs.declared.Answer.the-variants.{Got, Fault}
 use Rattle.inputs.specs.declared.Ends.{Ends}
 use Rattle.inputs.specs.declared.Ends.the-variants.{Read, Refused}
 
@@ -30,7 +35,22 @@ abbrev pub TermsRead : Signature → ℕ → List ℕ → List ℕ → Reply Inp
 TermsRead σ n left right reading (Read front l r) = (front ≡ n) × TermsAt σ left right reading l r
 TermsRead σ n left right reading (Refused e) = reading ≡ refused e
 
--- What is read, the answer, and the table afterwards, whose front has the file's symbols.
+-- The front of the table has the symbols of the file that is read.
+pub record BookAt (table : List ℕ) (reading : Reading RuleFile) (front : ℕ) : Type 0 where
+  pub file : RuleFile
+  pub end : ℕ
+  pub read : reading ≡ got file end
+  pub signature : signatureOf (take front table) ≡ file .signature
+  pub admissible : Admissible (signatureOf (take front table))
+  pub room : front ≤ length table
+  pub few : front ≤ maxTableWords
+
+-- What is read of a file, and the answer.
+abbrev pub BookRead : List ℕ → Reading RuleFile → Answer → Type 0
+BookRead table reading (Got front next) = BookAt table reading front
+BookRead table reading (Fault offset code) = reading ≡ fault code offset
+
+-- What is read of a file and two terms, and the answer.
 abbrev pub InputsRead : List ℕ → List ℕ → List ℕ → Reply Inputs → Ends → Type 0
 InputsRead table left right reading (Read front l r) =
     (front ≤ length table) × (front ≤ maxTableWords) × Admissible (signatureOf (take front table))

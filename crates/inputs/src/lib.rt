@@ -1,11 +1,12 @@
-// Reading the inputs of an operation on a rule file and two terms.
+// Reading the inputs of an operation on a rule file and terms.
 ghost use Prim.Native.Nat.{_≤_};
 ghost use mathlib.Core.Path.{_≡_};
 ghost use lib.ListN.{length};
+ghost use Rattle.format.specs.Files.{readBytes};
 ghost use Rattle.operations.specs.Inputs.{readTerms, readInputs};
 ghost use Rattle.symbols.specs.Table.{signatureOf, maxTableWords};
 ghost use Rattle.words.specs.Terms.{readerOf};
-ghost use Rattle.inputs.specs.Inputs.{TermsRead, InputsRead};
+ghost use Rattle.inputs.specs.Inputs.{TermsRead, BookRead, InputsRead};
 use answers::Answer;
 use operations::Error;
 use reader::File;
@@ -53,6 +54,26 @@ fn read_terms(table: &[u16], left: &[u16], right: &[u16], whole: bool) -> Ends
     }
 }
 
+// Reads a packed rule file, its symbols into the table; the value is how many words of the table are its front.
+pub fn read_book(book: &[u8], table: &mut [u16]) -> Answer
+    requires { ⌜ maxTableWords ≡ length (now table) ⌝ }
+    ensures { λ r. ⌜ BookRead (now (table .exit)) (readBytes (now (book .entry))) r ⌝ }
+{
+    let mut none = [0u16; 0];
+    match read_file(book, &[0u16; 0], true, table, &mut none) {
+        File::Fault { code, offset } => Answer::Fault { code, offset },
+        File::Read {
+            symbols,
+            rules: _,
+            nodes: _,
+            start,
+        } => Answer::Got {
+            value: symbols::front(symbols),
+            next: start,
+        },
+    }
+}
+
 // Reads a packed rule file, its symbols into the table, and then the terms.
 pub fn read_inputs(book: &[u8], left: &[u16], right: &[u16], whole: bool, table: &mut [u16]) -> Ends
     requires { ⌜ maxTableWords ≡ length (now table) ⌝ }
@@ -61,21 +82,12 @@ pub fn read_inputs(book: &[u8], left: &[u16], right: &[u16], whole: bool, table:
         (readInputs (readerOf whole) (now (book .entry)) (now (left .entry)) (now (right .entry))) r
         ⌝ }
 {
-    let mut none = [0u16; 0];
-    match read_file(book, &[0u16; 0], true, table, &mut none) {
-        File::Fault { code, offset } => Ends::Refused(Error {
+    match read_book(book, table) {
+        Answer::Fault { code, offset } => Ends::Refused(Error {
             code,
             input: 0,
             offset,
         }),
-        File::Read {
-            symbols,
-            rules: _,
-            nodes: _,
-            start: _,
-        } => {
-            let front = symbols::front(symbols);
-            read_terms(&table[..front], left, right, whole)
-        }
+        Answer::Got { value, next: _ } => read_terms(&table[..value], left, right, whole),
     }
 }

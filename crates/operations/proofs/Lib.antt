@@ -5,4 +5,5 @@ mod CodingChecks
 mod LongFileChecks
 mod ComparingChecks
 mod PickingChecks
+mod HashingChecks
 mod MarkingChecks

@@ -24,8 +24,8 @@ module _ {A : Type 0} where
   valuesOf values (accepted a) = values a
   valuesOf values (refused e) = pos (e .input) ∷ pos (e .offset) ∷ pos 0 ∷ []
 
-abbrev pub countValues : ℕ → List ℤ
-countValues n = pos n ∷ pos 0 ∷ pos 0 ∷ []
+abbrev pub numberValues : ℕ → List ℤ
+numberValues n = pos n ∷ pos 0 ∷ pos 0 ∷ []
 
 abbrev pub relationValue : Relation → ℤ
 relationValue Greater = pos 1

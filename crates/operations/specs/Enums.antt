@@ -2,8 +2,8 @@
 -- Renders: 01, "What form each place needs": "When an answer is an enum, a definition gives this paper's number and
 -- values for each of its cases".
 use Prim.Native.Nat.{ℕ}
-use Rattle.operations.specs.declared.CountReply.{CountReply}
-use Rattle.operations.specs.declared.CountReply.the-variants as count
+use Rattle.operations.specs.declared.NumberReply.{NumberReply}
+use Rattle.operations.specs.declared.NumberReply.the-variants as count
 use Rattle.operations.specs.declared.Comparison.{Comparison}
 use Rattle.operations.specs.declared.CompareReply.{CompareReply}
 use Rattle.operations.specs.declared.CompareReply.the-variants as compare
@@ -16,9 +16,9 @@ use Rattle.operations.specs.declared.MarkReply.the-variants as mark
 use Rattle.operations.specs.Replies.{Reply}
 use Rattle.operations.specs.Replies.Reply.{accepted, refused}
 
-abbrev pub countReply : CountReply → Reply ℕ
-countReply (count.Accepted n) = accepted n
-countReply (count.Refused e) = refused e
+abbrev pub numberReply : NumberReply → Reply ℕ
+numberReply (count.Accepted n) = accepted n
+numberReply (count.Refused e) = refused e
 
 abbrev pub compareReply : CompareReply → Reply Comparison
 compareReply (compare.Accepted c) = accepted c

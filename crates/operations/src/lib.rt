@@ -7,8 +7,8 @@ pub struct Error {
     pub offset: usize,
 }
 
-// How many words or bytes were written, or why none was.
-pub enum CountReply {
+// A number, such as how many words or bytes were written, or why there is none.
+pub enum NumberReply {
     Accepted(usize),
     Refused(Error),
 }

@@ -18,6 +18,8 @@ pub mod RenamingLaws
 pub mod FirstUseLaws
 pub mod FirstUseRenamed
 pub mod RuleRenumbering
+pub mod FingerprintLaws
 pub mod Theorems
 mod TrapChecks
 mod FirstUseChecks
+mod FingerprintChecks

@@ -9,7 +9,8 @@ use Rattle.terms.specs.Equivalence.{isEquivalentTo, isEquivalent}
 use Rattle.terms.specs.Order.{noneOftener, flattenedMark, rootMark, decreasingMark, isGreaterTo, isGreater, mark}
 use Rattle.terms.specs.Rewriting.{System}
 use Rattle.terms.specs.Statements.{StarredCasesHold, TestDecides, MeasuresRespectEquivalence, WordsReadBack}
-use Rattle.terms.specs.Statements.{FirstOftenerFound, WordForEachNode, StepsKeepExpressions}
+use Rattle.terms.specs.Statements.{FirstOftenerFound, FingerprintByArguments, FingerprintRespectsEquivalence}
+use Rattle.terms.specs.Statements.{FingerprintFits, WordForEachNode, StepsKeepExpressions}
 use Rattle.terms.specs.FirstUse.{firstUses, placeIn, renumbered, ruleWords, renumberedRule}
 use Rattle.terms.specs.FirstUseStatements.{NumbersApart, RenumberedInOrder, InOrderUnchanged, RenumberedAgain}
 use Rattle.terms.specs.FirstUseStatements.{RenamingsAgree, WordsRenamed, RuleWordsRenumbered}
@@ -18,6 +19,7 @@ use Rattle.terms.proofs.EquivalenceComplete.{Equivalent→isEquivalent}
 use Rattle.terms.proofs.EquivalenceMeasures.{measure-resp-equivalent, root-resp-equivalent}
 use Rattle.terms.proofs.EquivalenceSound.{isEquivalent→Equivalent}
 use Rattle.terms.proofs.OftenerLaws.{first-answer}
+use Rattle.terms.proofs.FingerprintLaws.{fingerprint-app, fingerprint-lt, fingerprint-resp-equivalent}
 use Rattle.terms.proofs.RewritingLaws.{step-expressions}
 use Rattle.terms.proofs.WordsLaws.{length-words, forestOf-words}
 use Rattle.terms.proofs.FirstUseLaws.{place-lt, place-injective, seen-word, renumbered-inOrder}
@@ -48,6 +50,15 @@ module _ (σ : Signature) where
     occurrences = λ x. measure-resp-equivalent σ (λ y. cond (eqb x y) 1 0) (λ f. 0) d;
     root = root-resp-equivalent σ d;
   }
+
+  pub fingerprint-by-arguments : FingerprintByArguments σ
+  fingerprint-by-arguments = fingerprint-app σ
+
+  pub fingerprint-fits : FingerprintFits σ
+  fingerprint-fits = fingerprint-lt σ
+
+  pub fingerprint-respects-equivalence : FingerprintRespectsEquivalence σ
+  fingerprint-respects-equivalence s t d = fingerprint-resp-equivalent σ d
 
   pub words-read-back : WordsReadBack σ
   words-read-back few t w ws = forestOf-words σ few t w ws

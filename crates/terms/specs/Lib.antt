@@ -4,6 +4,7 @@ pub mod Signature
 pub mod Term
 pub mod Words
 pub mod Equivalence
+pub mod Fingerprint
 pub mod Order
 pub mod Oftener
 pub mod Marks

@@ -156,7 +156,11 @@ impl Report {
             self.pick(&format!("pick {name}"), &pairs);
             let followed: Vec<Pair> = pairs.iter().map(followed).collect();
             self.pick(&format!("pick {name}, followed"), &followed);
+            self.fingerprint(&format!("fingerprint {name}"), &pairs);
         }
+        self.fingerprint("fingerprint a bag of 64", &[family_pair("wide-constants/equal")]);
+        self.fingerprint("fingerprint 64 leaves", &[family_pair("left-comb/equal")]);
+        self.fingerprint("fingerprint 63 bags", &[family_pair("deepest/equal")]);
     }
 
     fn compare(&mut self, name: &str, pairs: &[Pair]) {
@@ -177,6 +181,16 @@ impl Report {
                 Pick::Left(count) | Pick::Right(count) => count,
                 Pick::Equivalent | Pick::Unrelated => 0,
             },
+        );
+    }
+
+    /// The fingerprints of the left terms.
+    fn fingerprint(&mut self, name: &str, pairs: &[Pair]) {
+        self.row(
+            name,
+            pairs,
+            |pair| ackbo::fingerprint(&pair.book, &pair.left).expect("the term is read") as usize,
+            |pair| twin::fingerprint(&pair.book, &pair.left).expect("the term is read") as usize,
         );
     }
 

@@ -1,11 +1,13 @@
 //! A second implementation of the rule file format and of AC-KBO, written from the papers alone, to be compared with
 //! the first one. `format` reads and writes rule files, `order` compares terms, `picking` picks the greater one,
-//! `marking` orients the rules of a file, and `generate` makes inputs of every kind: valid, damaged, largest and empty
-//! ones. Below, 01 is the scope paper, 02 the requests after it, and 000, 001 and 004 are the articles that 01 cites.
+//! `fingerprint` gives a number that AC-equivalent terms share, `marking` orients the rules of a file, and `generate`
+//! makes inputs of every kind: valid, damaged, largest and empty ones. Below, 01 is the scope paper, 02 the requests
+//! after it, and 000, 001 and 004 are the articles that 01 cites.
 
 mod ackbo;
 mod bits;
 pub mod error;
+pub mod fingerprint;
 pub mod format;
 pub mod generate;
 pub mod marking;
@@ -17,6 +19,7 @@ pub mod table;
 mod term;
 
 pub use error::Error;
+pub use fingerprint::fingerprint;
 pub use format::{decode, encode};
 pub use marking::{mark, report, Marked};
 pub use order::{compare, Comparison, Relation};

@@ -5,9 +5,9 @@ mod common;
 mod examples;
 
 use common::{Example, Theory};
-use examples::sample::{sample, CASES, COMPARISONS, PICKS};
+use examples::sample::{sample, CASES, COMPARISONS, FINGERPRINTS, PICKS};
 use examples::{articles, sample};
-use twin::{compare, encode, mark, pick, report, Comparison, Error, Marked, Pick, Relation};
+use twin::{compare, encode, fingerprint, mark, pick, report, Comparison, Error, Marked, Pick, Relation};
 
 /// 01's listing.
 const LISTING: [u8; 17] =
@@ -53,6 +53,25 @@ fn sample_terms_are_picked_whatever_follows_them() {
 }
 
 #[test]
+fn sample_terms_have_their_fingerprints() {
+    let theory = sample();
+    let book = theory.book(&[]);
+    for (term, value) in FINGERPRINTS {
+        assert_eq!(fingerprint(&book, &theory.term(term)), Ok(value), "{term}");
+    }
+}
+
+#[test]
+fn equivalent_sides_have_one_fingerprint() {
+    let theory = sample();
+    let book = theory.book(&[]);
+    for (left, right, ..) in COMPARISONS.iter().filter(|(_, _, relation, _)| *relation == Relation::Equivalent) {
+        let [left_value, right_value] = [left, right].map(|side| fingerprint(&book, &theory.term(side)).unwrap());
+        assert_eq!(left_value, right_value, "{left}, {right}");
+    }
+}
+
+#[test]
 fn listing_prints_its_text() {
     assert_eq!(report(&LISTING), b"rules 2\n0 2 0\n1 10 0\nscore 50\nreturned\n");
     assert_eq!(mark(&LISTING, &mut [0; 2]), Ok(Marked { rules: 2, falling: 1, score: 50 }));
@@ -74,8 +93,8 @@ fn score_is_rounded_down() {
 
 #[test]
 fn program_prints_what_the_twin_gives() {
-    let parts =
-        [reports(&sample::examples()), comparisons(), picks(), listing(), reports(&articles::examples()), limits()];
+    let terms = [comparisons(), picks(), fingerprints()].concat();
+    let parts = [reports(&sample::examples()), terms, listing(), reports(&articles::examples()), limits()];
     assert_eq!(parts.concat(), include_str!("../../../crates/cases/stdout"));
 }
 
@@ -120,6 +139,14 @@ fn picks() -> String {
         Err(error) => error_line(error),
     };
     calls.map(line).into_iter().fold("sample, picks\n".into(), |text: String, line| text + &line)
+}
+
+/// A line for each fingerprint of terms of the sample.
+fn fingerprints() -> String {
+    let book = sample().book(&[]);
+    let terms: [&[u16]; 5] = [&[3, 0, 1], &[5, 1, 0], &[3, 3, 0, 1, 3, 0, 256], &[5, 5, 5, 3, 1, 0, 0, 0, 0], &[0, 0]];
+    let line = |term| fingerprint(&book, term).map_or_else(error_line, |number| format!("{number} 0 0\n"));
+    terms.map(line).into_iter().fold("sample, fingerprints\n".into(), |text: String, line| text + &line)
 }
 
 fn listing() -> String {

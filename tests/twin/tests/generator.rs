@@ -109,7 +109,7 @@ fn generated_calls_reach_every_mark_and_error() {
     let mut random = Random::new(SEED);
     let (mut marks, mut errors, mut relations) = ([0; 11], [[0; 3]; 17], [0; 4]);
     let mut picks = [0; 4];
-    let mut operations = [0; 5];
+    let mut operations = [0; 6];
     for _ in 0..CALLS {
         let reply = call(&mut random).run();
         if let Some(error) = reply.error() {
@@ -139,9 +139,10 @@ fn generated_calls_reach_every_mark_and_error() {
                     Err(_) => {}
                 }
             }
+            Reply::Fingerprint(_) => operations[5] += 1,
         }
     }
-    println!("decoding, encoding, comparing, marking, picking: {operations:?}");
+    println!("decoding, encoding, comparing, marking, picking, fingerprints: {operations:?}");
     println!("marks 1 to 10: {:?}", &marks[1..]);
     println!("greater, less, equivalent, unrelated: {relations:?}");
     println!("left, right, equivalent, unrelated: {picks:?}");
@@ -179,7 +180,7 @@ fn refused_calls_leave_their_output() {
             Reply::Encode(Ok(len), bytes) => assert!(bytes[len..].iter().all(|&byte| byte == UNTOUCHED)),
             Reply::Mark(Ok(marked), bytes) => assert!(bytes[marked.rules..].iter().all(|&byte| byte == UNTOUCHED)),
             Reply::Compare(Ok(comparison)) => assert!(comparison.margin <= 0 || comparison.relation != Relation::Less),
-            Reply::Compare(Err(_)) | Reply::Pick(_) => {}
+            Reply::Compare(Err(_)) | Reply::Pick(_) | Reply::Fingerprint(_) => {}
         }
     }
 }

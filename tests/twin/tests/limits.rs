@@ -4,7 +4,7 @@ mod packing;
 
 use packing::{book, header, node, pack, symbol, variable, FILLER, SHEET};
 use twin::generate::{Book, Random, Signature};
-use twin::{compare, decode, encode, mark, pick, Comparison, Error, Marked, Pick, Relation};
+use twin::{compare, decode, encode, fingerprint, mark, pick, Comparison, Error, Marked, Pick, Relation};
 
 #[test]
 fn an_encoded_book_has_at_most_32_768_bytes() {
@@ -107,4 +107,20 @@ fn a_picked_term_of_128_nodes_may_be_followed() {
         assert_eq!(pick(&packed, &longer, &followed), Err(Error { code: 10, input: 1, offset: 128 }));
         assert_eq!(pick(&packed, &followed, &longer), Err(Error { code: 10, input: 2, offset: 128 }));
     }
+}
+
+#[test]
+fn fingerprints_of_128_nodes_and_of_the_greatest_words() {
+    let packed = book(0, &[]);
+    // Each of 127 symbols 1 adds 31 times 2.
+    let full = [[1; 127].as_slice(), &[0]].concat();
+    assert_eq!(fingerprint(&packed, &full), Ok(127 * 62 + 1));
+    assert_eq!(fingerprint(&packed, &[1; 128]), Err(Error { code: 10, input: 1, offset: 128 }));
+    assert_eq!(fingerprint(&packed, &[&full, &[0][..]].concat()), Err(Error { code: 15, input: 1, offset: 128 }));
+    assert_eq!(fingerprint(&packed, &[271]), Ok(272));
+    // Symbol 254 after 254 constants: AC, or of arity 7 with a value of 7,016,633,685,442 before it wraps.
+    let constants: Vec<_> = (0..254).flat_map(|rank| symbol(0, 0, 1, rank)).collect();
+    let table = |last| pack(&[header(255, 1, 0), constants.clone(), last].concat());
+    assert_eq!(fingerprint(&table(symbol(2, 1, 0, 254)), &[254, 253, 254, 271, 0]), Ok(65_599 * 255 + 254 + 272 + 1));
+    assert_eq!(fingerprint(&table(symbol(7, 0, 0, 254)), &[254, 0, 0, 0, 0, 0, 0, 0]), Ok(2_952_091_074));
 }

@@ -6,7 +6,7 @@ use twin::format::System;
 use twin::generate::{followed, Book, Random, Signature, Tree};
 use twin::order::{Comparer, Relation};
 use twin::table::{Table, MAX_NODES};
-use twin::{pick, Pick};
+use twin::{fingerprint, pick, Pick};
 
 const SEED: u64 = 20_150_312;
 const CASES: usize = 20_000;
@@ -107,6 +107,27 @@ fn picks_agree_with_the_slow_order() {
         picked[1] += usize::from(matches!(expected, Pick::Right(_)));
     });
     assert!(picked.iter().all(|&count| count > CASES / 20), "{picked:?}");
+}
+
+#[test]
+fn fingerprints_agree_with_the_slow_ones_and_equivalent_terms_share_them() {
+    let mut shared = 0;
+    for_all(false, |random, signature, _| {
+        let book = Book::empty(signature.clone()).packed();
+        let (left, right) = pair(random, signature);
+        let variant = signature.variant(random, &left);
+        let [left_value, right_value, variant_value] = [&left, &right, &variant].map(|term| {
+            let value = fingerprint(&book, &term.words()).expect("the term is read");
+            assert_eq!(value, oracle::fingerprint(signature, term), "{signature:?} {term:?}");
+            value
+        });
+        assert_eq!(left_value, variant_value, "{signature:?} {left:?} {variant:?}");
+        let equal = oracle::canonical(signature, &left) == oracle::canonical(signature, &right);
+        assert!(!equal || left_value == right_value, "{signature:?} {left:?} {right:?}");
+        shared += usize::from(left_value == right_value && !equal);
+    });
+    // Few terms that are not AC-equivalent share a fingerprint.
+    assert!(shared < CASES / 10, "{shared}");
 }
 
 #[test]

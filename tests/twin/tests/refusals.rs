@@ -3,7 +3,7 @@
 mod packing;
 
 use packing::{book, header, node, pack, symbol, variable, FILLER, SHEET};
-use twin::{compare, decode, encode, mark, pick, Comparison, Error, Marked, Pick, Relation};
+use twin::{compare, decode, encode, fingerprint, mark, pick, Comparison, Error, Marked, Pick, Relation};
 
 /// The first bit of the rules in `book`.
 const RULES_AT: usize = 38 + 2 * 28;
@@ -30,6 +30,8 @@ fn refuse_packed(packed: &[u8], code: u8, offset: usize) {
     assert_eq!(compare(packed, &[], &[999]), Err(error), "the book comes before the terms");
     assert_eq!(pick(packed, &[0], &[0]), Err(error));
     assert_eq!(pick(packed, &[], &[999]), Err(error), "the book comes before the terms");
+    assert_eq!(fingerprint(packed, &[0]), Err(error));
+    assert_eq!(fingerprint(packed, &[]), Err(error), "the book comes before the term");
     assert_eq!(twin::report(packed), format!("refusal {code} {offset}\n").into_bytes());
 }
 
@@ -211,6 +213,18 @@ fn terms_to_pick_from_are_checked_left_before_right() {
     }
     assert_eq!(pick(&packed, &[0, 999], &[1, 0, 999]), Ok(Pick::Right(2)));
     assert_eq!(pick(&packed, &[1, 256, 0], &[256, 0, 0]), Ok(Pick::Left(2)));
+}
+
+#[test]
+fn a_term_without_fingerprint_is_refused() {
+    let packed = book(0, &[]);
+    for (term, code, offset) in BAD_TERMS.into_iter().chain(FOLLOWED_TERMS) {
+        assert_eq!(fingerprint(&packed, term), Err(Error { code, input: 1, offset }), "{term:?}");
+    }
+    for after in [&[][..], &[0], &[1], &[999]] {
+        let longer = [[1; 128].as_slice(), after].concat();
+        assert_eq!(fingerprint(&packed, &longer), Err(Error { code: 10, input: 1, offset: 128 }));
+    }
 }
 
 #[test]

@@ -2,14 +2,14 @@
 use mathlib.Core.Path.{ap, _∙_}
 use native.Mathlib.Omega.{arith}
 use lib.Seq.{sets}
-use Rattle.operations.specs.Boundary.{codeOf, valuesOf, countValues}
+use Rattle.operations.specs.Boundary.{codeOf, valuesOf, numberValues}
 use Rattle.ackbo.proofs.BoundLaws.{encoded-small}
 use borrow.Author.Needs.{needs}
 use Rattle.ackbo.proofs.ackbo_encode.Statement.{statement}
 use Rattle.ackbo.proofs.ackbo_encode.Tie as tie
 
-put-count-requires : tie.Need-put-count-requires
-put-count-requires c κs =
+put-number-requires : tie.Need-put-number-requires
+put-number-requires c κs =
     let c7 = c .before .before .before .before .before .before .before in
     rw (c .before .before .encode .ensures .0) (encoded-small (c7 .args .words .now) (c7 .args .book .now) (omega
     (arith, c7 .good .0 .1))
@@ -20,14 +20,14 @@ returns c =
     let c3 = c .before .before .before in
     let c8 = c3 .before .before .before .before .before in
     let gave = c3 .encode .ensures in
-    let (code, values) = c .put-count .ensures in (
+    let (code, values) = c .put-number .ensures in (
       code ∙ ap codeOf (gave .0),
       (
-        values ∙ ap (λ r. sets (c8 .args .reply .now) 0 (valuesOf countValues r)) (gave .0),
+        values ∙ ap (λ r. sets (c8 .args .reply .now) 0 (valuesOf numberValues r)) (gave .0),
         gave .1,
       ),
     )
 
 pub ackbo-encode-spec : {M : Type 1} → statement M
 ackbo-encode-spec =
-    tie.close (tie.spec (λ c κs. search needs) put-count-requires (λ c. search needs) returns)
+    tie.close (tie.spec (λ c κs. search needs) put-number-requires (λ c. search needs) returns)

@@ -2,7 +2,7 @@
 
 use super::{damaged_packed, damaged_term, damaged_words, followed, Book, Random};
 use crate::table::MAX_NODES;
-use crate::{compare, decode, encode, mark, pick, Comparison, Error, Marked, Pick};
+use crate::{compare, decode, encode, fingerprint, mark, pick, Comparison, Error, Marked, Pick};
 
 /// The rules of most generated rule files.
 const FEW_RULES: usize = 24;
@@ -17,6 +17,7 @@ pub enum Call {
     Compare { book: Vec<u8>, left: Vec<u16>, right: Vec<u16> },
     Mark { book: Vec<u8>, room: usize },
     Pick { book: Vec<u8>, left: Vec<u16>, right: Vec<u16> },
+    Fingerprint { book: Vec<u8>, term: Vec<u16> },
 }
 
 /// The reply to a call, and the output after it; the output held `UNTOUCHED` in each place before.
@@ -27,6 +28,7 @@ pub enum Reply {
     Compare(Result<Comparison, Error>),
     Mark(Result<Marked, Error>, Vec<u8>),
     Pick(Result<Pick, Error>),
+    Fingerprint(Result<u32, Error>),
 }
 
 impl Call {
@@ -47,6 +49,7 @@ impl Call {
                 Reply::Mark(mark(book, &mut marks), marks)
             }
             Call::Pick { book, left, right } => Reply::Pick(pick(book, left, right)),
+            Call::Fingerprint { book, term } => Reply::Fingerprint(fingerprint(book, term)),
         }
     }
 }
@@ -59,6 +62,7 @@ impl Reply {
             Reply::Compare(result) => result.err(),
             Reply::Mark(result, _) => result.err(),
             Reply::Pick(result) => result.err(),
+            Reply::Fingerprint(result) => result.err(),
         }
     }
 }
@@ -68,7 +72,7 @@ pub fn call(random: &mut Random) -> Call {
     let many_rules = random.one_in(2);
     let book = if random.one_in(256) { Book::largest(random, many_rules) } else { Book::random(random, FEW_RULES) };
     let intact = random.one_in(2);
-    match random.below(5) {
+    match random.below(6) {
         0 => {
             let packed = if intact { book.packed() } else { damaged_packed(random, &book) };
             Call::Decode { book: packed, room: room(random, book.words().len()) }
@@ -82,7 +86,11 @@ pub fn call(random: &mut Random) -> Call {
             let packed = if intact { book.packed() } else { damaged_packed(random, &book) };
             Call::Mark { book: packed, room: room(random, book.rules.len()) }
         }
-        _ => pick_call(random, &book, intact),
+        4 => pick_call(random, &book, intact),
+        _ => {
+            let (book, term, _) = terms(random, &book, intact);
+            Call::Fingerprint { book, term }
+        }
     }
 }
 

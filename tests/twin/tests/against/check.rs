@@ -98,6 +98,20 @@ pub fn pick(book: &[u8], left: &[u16], right: &[u16]) -> Result<Pick, Error> {
     result
 }
 
+/// Gives the fingerprint of a term under a book.
+pub fn fingerprint(book: &[u8], term: &[u16]) -> Result<u32, Error> {
+    let result = twin::fingerprint(book, term);
+    with_terms((book, term, &[]), Around::Zeros, |(book, term, _)| {
+        let (words, len) = (term.as_ptr(), term.len());
+        let ours = raw(|reply| unsafe { sys::ackbo_fingerprint(book.as_ptr(), book.len(), words, len, reply) });
+        agree(ours, numbers(result, |value| [value.into(), 0, 0]), &(book, term));
+    });
+    with_terms((book, term, &[]), Around::Ones, |(book, term, _)| {
+        agree(ackbo::fingerprint(book, term).map_err(error), result, &(book, term));
+    });
+    result
+}
+
 /// Lends an input and an output filled with the pattern; afterwards the input and all guards are as before, and the
 /// output is as expected.
 fn with_output<A: Element, B: Element>(input: &[A], expected: &[B], around: Around, call: impl FnOnce(&[A], &mut [B])) {

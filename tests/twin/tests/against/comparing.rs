@@ -5,7 +5,7 @@ use twin::table::MAX_NODES;
 use twin::{Comparison, Error};
 
 use crate::check::compare;
-use crate::counts::{Counts, BOOK_ERRORS};
+use crate::counts::{Counts, BOOK_ERRORS, TERM_ERRORS};
 use crate::SEED;
 
 const MIN_ACCEPTED: usize = 300_000;
@@ -16,8 +16,6 @@ const SMALL_PAIRS: usize = 44;
 const LARGE_PAIRS: usize = 3;
 const DAMAGED_PAIRS: usize = 12;
 const DAMAGED_BOOKS: usize = 6;
-/// The errors of a term.
-const TERM_ERRORS: [u8; 5] = [2, 9, 10, 14, 15];
 
 #[derive(Default)]
 struct Tally {

@@ -4,6 +4,8 @@ use twin::Error;
 
 /// The errors of reading a book.
 pub const BOOK_ERRORS: [u8; 11] = [1, 2, 3, 4, 5, 6, 7, 8, 9, 10, 11];
+/// The errors of a term.
+pub const TERM_ERRORS: [u8; 5] = [2, 9, 10, 14, 15];
 
 /// The calls of one operation, those accepted, and the refused ones by input and code.
 #[derive(Default)]

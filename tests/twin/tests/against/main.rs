@@ -6,6 +6,7 @@ mod comparing;
 mod counts;
 mod decoding;
 mod encoding;
+mod fingerprints;
 mod lent;
 mod marking;
 mod picking;

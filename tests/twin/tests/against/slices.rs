@@ -23,6 +23,7 @@ fn empty_inputs_agree_with_the_twin() {
     assert_eq!(ackbo::mark(&[], &mut bytes).map_err(error).err(), twin::mark(&[], &mut [7; 4]).err());
     assert_eq!(ackbo::compare(&[], &[], &[]).map_err(error).err(), twin::compare(&[], &[], &[]).err());
     assert_eq!(ackbo::pick(&[], &[], &[]).map_err(error).err(), twin::pick(&[], &[], &[]).err());
+    assert_eq!(ackbo::fingerprint(&[], &[]).map_err(error), twin::fingerprint(&[], &[]));
     assert_eq!((words, bytes), ([7; 4], [7; 4]));
 }
 
@@ -45,6 +46,8 @@ fn empty_outputs_agree_with_the_twin() {
 fn empty_terms_agree_with_the_twin() {
     for family in families() {
         let (book, (term, _)) = (family.book(), family.pair(MAX_NODES));
+        assert_eq!(code(&twin::fingerprint(&book, &[])), 2);
+        assert_eq!(ackbo::fingerprint(&book, &[]).map_err(error), twin::fingerprint(&book, &[]));
         for (left, right) in [(&[][..], &[][..]), (&[], &term), (&term, &[])] {
             let refused = twin::compare(&book, left, right);
             assert_eq!(code(&refused), 2);

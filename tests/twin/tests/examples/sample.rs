@@ -68,6 +68,35 @@ pub const PICKS: [(&str, &str, Pick); 10] = [
     ("b", "u", Pick::Unrelated),
 ];
 
+/// The least such term whose fingerprint wraps, and a sum of four of them, which wraps too.
+const WRAPPED: &str = "sub(sub(sub(sub(sub(o,o),o),o),o),o)";
+const WRAPPED_SUM: &str = "sub(sub(sub(sub(sub(o,o),o),o),o),o)+sub(sub(sub(sub(sub(o,o),o),o),o),o)
+    +sub(sub(sub(sub(sub(o,o),o),o),o),o)+sub(sub(sub(sub(sub(o,o),o),o),o),o)";
+
+/// Terms of the sample, and their fingerprints.
+pub const FINGERPRINTS: [(&str, u32); 18] = [
+    ("o+z", 262_399),
+    ("sub(z,o)", 5_829),
+    ("o", 1),
+    ("b", 3),
+    ("u", 257),
+    ("s", 262),
+    ("z+o", 262_399),
+    ("sub(o,z)", 5_799),
+    ("neg(o)", 156),
+    ("neg(neg(u))", 567),
+    // 65,599 is taken once for a top-flattening, and once more for each one inside another symbol.
+    ("(o+z)+o", 262_400),
+    ("(o+z)+(o+u)", 262_657),
+    ("neg(o+z)+o", 524_951),
+    // Terms that are not AC-equivalent may share one.
+    ("neg(u)+o", 262_809),
+    ("u+neg(o)", 262_809),
+    // 5,532,106,086 and 4,948,817,556 are cut to 32 bits.
+    ("sub(sub(sub(sub(o,o),o),o),o)", 178_454_849),
+    (WRAPPED, 1_237_138_790),
+    (WRAPPED_SUM, 653_850_260),
+];
 /// Traps that show in the sample.
 const SAMPLE_TRAPS: [Case; 13] = [
     // AC-equivalent members are cancelled.

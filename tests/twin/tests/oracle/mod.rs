@@ -30,6 +30,22 @@ pub fn weight(signature: &Signature, tree: &Tree) -> i64 {
     }
 }
 
+/// The fingerprint of a term.
+pub fn fingerprint(signature: &Signature, tree: &Tree) -> u32 {
+    let value = match tree {
+        Tree::Variable(number) => 256 + u64::from(*number) + 1,
+        Tree::Application(symbol, _) if signature.symbols[usize::from(*symbol)].ac => {
+            let members = tree.flattening(*symbol);
+            let sum: u64 = members.iter().map(|member| u64::from(fingerprint(signature, member))).sum();
+            65_599 * (u64::from(*symbol) + 1) + sum
+        }
+        Tree::Application(symbol, arguments) => arguments.iter().fold(u64::from(*symbol) + 1, |value, argument| {
+            (31 * value + u64::from(fingerprint(signature, argument))) % (1 << 32)
+        }),
+    };
+    (value % (1 << 32)) as u32
+}
+
 /// The mark of a rule.
 pub fn mark(signature: &Signature, s: &Tree, t: &Tree) -> u8 {
     if let Some(mark) = greater(signature, s, t) {

@@ -1,6 +1,6 @@
 -- Encoding replies with at most as many bytes as the book has.
 use mathlib.Core.Path.{sym, ap, _∙_}
-use Rattle.operations.specs.Enums.{countReply}
+use Rattle.operations.specs.Enums.{numberReply}
 use Rattle.cases.proofs.CloseLaws.{accepted-counts}
 use borrow.Author.Needs.{needs}
 use Rattle.cases.proofs.print.close.Statement.{statement}
@@ -13,7 +13,7 @@ returns c =
     let a = c9 .args in
     let r = c5 .encode in
     accepted-counts (a .sheet .now) (a .book .now) (r .last .1 .0) _
-    (sym (r .ensures .0) ∙ ap countReply (c .before .count .given .1)) (r .kept .1 .0)
+    (sym (r .ensures .0) ∙ ap numberReply (c .before .count .given .1)) (r .kept .1 .0)
 
 pub close-spec : {M : Type 1} → statement M
 close-spec =

@@ -1,12 +1,12 @@
 -- An answer and an error cross as their own functions put them.
 use mathlib.Core.Path.{sym, ap, refl}
 use native.Mathlib.Omega.{arith}
-use Rattle.operations.specs.Boundary.{countValues}
-use Rattle.operations.specs.Enums.{countReply}
+use Rattle.operations.specs.Boundary.{numberValues}
+use Rattle.operations.specs.Enums.{numberReply}
 use Rattle.ackbo.proofs.ReplyLaws.{accepts, refuses}
 use borrow.Author.Needs.{needs}
-use Rattle.ackbo.proofs.put_count.Statement.{statement}
-use Rattle.ackbo.proofs.put_count.Tie as tie
+use Rattle.ackbo.proofs.put_number.Statement.{statement}
+use Rattle.ackbo.proofs.put_number.Tie as tie
 
 put-counts-requires : tie.Need-put-counts-requires
 put-counts-requires c κs =
@@ -22,17 +22,17 @@ returns : tie.Need-returns
 returns c =
     let c3 = c .before .before .before in
     let c5 = c3 .before .before in
-    accepts countValues _ _ (c5 .args .reply .now) _ _ (ap countReply (sym (c3 .answer .given .1))) (c .put-counts
+    accepts numberValues _ _ (c5 .args .reply .now) _ _ (ap numberReply (sym (c3 .answer .given .1))) (c .put-counts
     .ensures .0) (c .put-counts .ensures .1)
 
 returns-2 : tie.Need-returns-2
 returns-2 c =
     let c3 = c .before .before .before in
     let c5 = c3 .before .before in
-    refuses countValues _ _ (c5 .args .reply .now) _ _ _ _ (ap countReply (sym (c3 .answer2 .given .1))) (c .put-error
+    refuses numberValues _ _ (c5 .args .reply .now) _ _ _ _ (ap numberReply (sym (c3 .answer2 .given .1))) (c .put-error
     .ensures .0) (c .put-error .ensures .1)
 
-pub put-count-spec : {M : Type 1} → statement M
-put-count-spec =
+pub put-number-spec : {M : Type 1} → statement M
+put-number-spec =
     tie.close (tie.spec (λ c. search needs) put-counts-requires (λ c. search needs) put-error-requires returns
     returns-2)

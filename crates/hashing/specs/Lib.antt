@@ -1,0 +1,2 @@
+-- What the contracts of the fingerprint say.
+pub mod Entries

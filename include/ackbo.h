@@ -1,5 +1,6 @@
-/* The six operations of libackbo.a, for C. Each is proved, for every input, to reply and to leave the lent memory as
-   its definition says (crates/operations/specs: Boundary, over Coding, Comparing, Picking, Hashing and Marking).
+/* The seven operations of libackbo.a, for C. Each is proved, for every input, to reply and to leave the lent memory as
+   its definition says (crates/operations/specs: Boundary, over Coding, Comparing, Picking, Variables,
+   Hashing and Marking).
 
    The caller owes this, and nothing else: each pointer is valid for its length, aligned, and not NULL even where the
    length is 0; reply has room for three numbers; what is written to overlaps nothing else that is lent.
@@ -18,7 +19,7 @@
    Each call reads its whole book, which takes about 0.1 ms for the longest (docs/BENCHMARKS.md has times), and keeps
    nothing for the next one.
 
-   Stack, as measured: ackbo_decode 110 KB for every book, ackbo_encode and ackbo_fingerprint 5 KB, ackbo_compare,
+   Stack, as measured: ackbo_decode 110 KB for every book, ackbo_encode, ackbo_fingerprint and ackbo_oftener 12 KB, ackbo_compare,
    ackbo_pick and ackbo_mark up to 72 KB, where AC symbols nest 63 deep. */
 #ifndef ACKBO_H
 #define ACKBO_H
@@ -35,6 +36,9 @@ enum { ACKBO_GREATER = 1, ACKBO_LESS = 2, ACKBO_EQUIVALENT = 3, ACKBO_UNRELATED 
 
 /* The sides that ackbo_pick replies, beside ACKBO_EQUIVALENT and ACKBO_UNRELATED. */
 enum { ACKBO_LEFT = 1, ACKBO_RIGHT = 2 };
+
+/* What ackbo_oftener replies where no variable occurs oftener on the right: the count of variables. */
+enum { ACKBO_NONE_OFTENER = 16 };
 
 /* Opens a book to a sheet: writes its words at the front of words. reply: how many, 0, 0. */
 uint8_t ackbo_decode(const uint8_t *book, size_t book_len, uint16_t *words, size_t words_len, int64_t reply[3]);
@@ -61,6 +65,13 @@ uint8_t ackbo_pick(const uint8_t *book, size_t book_len, const uint16_t *left, s
    term (input 1). Past the book, the cost grows with the nodes, however bags nest. */
 uint8_t ackbo_fingerprint(const uint8_t *book, size_t book_len, const uint16_t *term, size_t term_len,
                           int64_t reply[3]);
+
+/* The variable test on two terms under a book. reply: the lowest variable number, 0 to 15, that occurs oftener in right
+   than in left, or ACKBO_NONE_OFTENER; 0, 0. A rule from left to right gets mark 7 exactly if there is such a variable,
+   whatever its sides weigh; to fall, it needs fewer of it on the right or more on the left. Refused are the book, left
+   (input 1) and right (input 2). Past the book, the cost grows with the nodes; the terms are not compared. */
+uint8_t ackbo_oftener(const uint8_t *book, size_t book_len, const uint16_t *left, size_t left_len,
+                      const uint16_t *right, size_t right_len, int64_t reply[3]);
 
 /* Marks the rules of a book: writes a mark, 1 to 10, for each. reply: the rules, those that fall, the score. */
 uint8_t ackbo_mark(const uint8_t *book, size_t book_len, uint8_t *marks, size_t marks_len, int64_t reply[3]);

@@ -1,5 +1,5 @@
 //! Safe functions over `libackbo.a`: opening, closing and marking of rule books, comparing of terms under them, picking
-//! the greater one, and fingerprints of terms.
+//! the greater one, fingerprints of terms, and the variable test.
 //!
 //! Every reply, and every buffer afterwards, is proved to equal a definition, for every input: see the
 //! repository's `README.md`. A refused call leaves its buffers as they were.
@@ -74,8 +74,20 @@ pub mod sys {
             term_len: usize,
             reply: *mut [i64; 3],
         ) -> u8;
+        pub fn ackbo_oftener(
+            book: *const u8,
+            book_len: usize,
+            left: *const u16,
+            left_len: usize,
+            right: *const u16,
+            right_len: usize,
+            reply: *mut [i64; 3],
+        ) -> u8;
     }
 }
+
+/// The count of variables, which is the number that `ackbo_oftener` replies for none.
+const VARIABLES: i64 = 16;
 
 /// A refusal: its number, 1 to 16, the input at fault, 0 the first, and the place in it: a bit of a book, a word of a
 /// sheet or of a term.
@@ -261,6 +273,43 @@ pub fn pick<'a>(book: &[u8], left: &'a [u16], right: &'a [u16]) -> Result<Side<'
 pub fn fingerprint(book: &[u8], term: &[u16]) -> Result<u32, Error> {
     call(|reply| unsafe { sys::ackbo_fingerprint(book.as_ptr(), book.len(), term.as_ptr(), term.len(), reply) })
         .map(|[value, _, _]| value as u32)
+}
+
+/// The lowest variable, 0 to 15, that occurs oftener in the right term than in the left one, if one does. The terms are
+/// given as their node words in prefix order, under a book.
+///
+/// A rule from left to right gets mark 7 exactly if there is one, whatever its sides weigh: its author takes that
+/// variable out of the right side, or puts it into the left one, and asks again for the next.
+///
+/// # Errors
+/// Those of [`compare`], the first that holds: of the book, input 0, refusals 1 to 11; of `left`, input 1, then of
+/// `right`, input 2, at the word of each node: 10, a 129th node is called for; 2, the word is missing; 14, it is above
+/// 271; 9, it is a symbol number too great for the book; then 15, words are left over, at the first of them.
+///
+/// # Cost
+/// Each call reads its whole book; past that, the cost grows with the nodes of the two terms, which are not compared.
+///
+/// ```
+/// // 01's sample: o, z, b are 0, 1, 2; + is 3 and AC; neg is 4 and sub 5; the variables u, v, w are 256, 257, 258.
+/// let sheet = [1, 6, 1, 0, 0, 0, 1, 0, 0, 0, 1, 1, 0, 0, 3, 2, 2, 1, 1, 3, 1, 0, 1, 4, 2, 0, 1, 5];
+/// let mut book = [0; 26];
+/// assert_eq!(ackbo::encode(&sheet, &mut book), Ok(26));
+///
+/// // In v+w, both v and w occur oftener than in u+u; u does not.
+/// assert_eq!(ackbo::oftener(&book, &[3, 256, 256], &[3, 257, 258]), Ok(Some(1)));
+/// // u occurs once in u+z and twice in u+u, but not the other way.
+/// assert_eq!(ackbo::oftener(&book, &[3, 256, 1], &[3, 256, 256]), Ok(Some(0)));
+/// assert_eq!(ackbo::oftener(&book, &[3, 256, 256], &[3, 256, 1]), Ok(None));
+///
+/// // The left term has the symbol 6.
+/// let error = ackbo::oftener(&book, &[4, 6], &[256]).unwrap_err();
+/// assert_eq!((error.code, error.input, error.offset), (9, 1, 1));
+/// ```
+pub fn oftener(book: &[u8], left: &[u16], right: &[u16]) -> Result<Option<u8>, Error> {
+    call(|reply| unsafe {
+        sys::ackbo_oftener(book.as_ptr(), book.len(), left.as_ptr(), left.len(), right.as_ptr(), right.len(), reply)
+    })
+    .map(|[variable, _, _]| (variable < VARIABLES).then_some(variable as u8))
 }
 
 /// The three numbers of an acceptance, or the refusal that they describe.

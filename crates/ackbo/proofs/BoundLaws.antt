@@ -1,5 +1,6 @@
 -- The numbers of every reply are below 2^63, so that they fit the values that cross the boundary.
 --     decoded-small, encoded-small, compared-small, picked-small     of an answer's count, and of an error's offset
+--     oftener-small                                    of a variable's number, and of an error's offset
 --     fingerprinted-small                              of a fingerprint, and of an error's offset
 --     marked-small                                     of the counts and the score, and of an error's offset
 use mathlib.Core.List.{List}
@@ -16,6 +17,8 @@ use Rattle.multisets.proofs.Relations.{byTest}
 use Rattle.terms.specs.Signature.{Signature}
 use Rattle.terms.specs.Words.{termOf}
 use Rattle.terms.specs.Fingerprint.{fingerprint}
+use Rattle.terms.specs.Oftener.{firstOftener}
+use Rattle.terms.proofs.OftenerLaws.{firstOftener-le}
 use Rattle.terms.proofs.Theorems.{fingerprint-fits}
 use Rattle.format.specs.Errors.{wordsTooShort, bytesTooShort, fileTooLong, marksTooShort}
 use Rattle.format.specs.Layout.{maxBytes}
@@ -36,6 +39,7 @@ use Rattle.operations.specs.Inputs.{TermReader, Inputs, readTerms, readInputs}
 use Rattle.operations.specs.Comparing.{comparison, compared}
 use Rattle.operations.specs.Picking.{greaterSide, picked}
 use Rattle.operations.specs.Hashing.{fingerprintedTerm, fingerprinted}
+use Rattle.operations.specs.Variables.{oftener}
 use Rattle.operations.proofs.PickingLaws.{SideWithin, picked-accepted, picked-within}
 use Rattle.operations.specs.declared.GreaterSide.{GreaterSide}
 use Rattle.operations.specs.declared.GreaterSide.the-variants.{Left, Right, Equivalent, Unrelated}
@@ -143,6 +147,14 @@ picked-small bytes left right h g =
     side-small (Right n) w = omega arith
     side-small Equivalent w = omega arith
     side-small Unrelated w = omega arith
+
+pub oftener-small : (bytes left right : List ℕ) → Small (length left) → Small (length right) →
+    Small (numberOf countOf (oftener bytes left right))
+unfolding oftener
+oftener-small bytes left right h g =
+    inputs-small countOf readTerm (λ i. firstOftener (i .left) (i .right)) bytes left right
+    (λ σ words code offset. faults-within words code offset .2 σ .0) h g
+    λ i e. omega (arith, firstOftener-le (i .left) (i .right))
 
 -- A fingerprint has 32 bits.
 pub fingerprinted-small : (bytes words : List ℕ) → Small (length words) →

@@ -7,6 +7,7 @@ ghost use lib.Seq.{sets};
 ghost use Rattle.operations.specs.Coding.{decoded, encoded};
 ghost use Rattle.operations.specs.Comparing.{compared};
 ghost use Rattle.operations.specs.Picking.{picked};
+ghost use Rattle.operations.specs.Variables.{oftener};
 ghost use Rattle.operations.specs.Hashing.{fingerprinted};
 ghost use Rattle.operations.specs.Enums.{numberReply};
 ghost use Rattle.ackbo.specs.Numbers.{Small, numberOf, countOf, wordsOf};
@@ -156,6 +157,23 @@ pub extern "C" fn ackbo_pick(book: &[u8], left: &[u16], right: &[u16], reply: &m
         PickReply::Accepted(side) => put_side(reply, side),
         PickReply::Refused(error) => put_error(reply, error.code, error.input, error.offset),
     }
+}
+
+#[no_mangle]
+pub extern "C" fn ackbo_oftener(
+    book: &[u8],
+    left: &[u16],
+    right: &[u16],
+    reply: &mut [i64; 3],
+) -> u8
+    ensures { λ r. ⌜ r ≡ codeOf (oftener (now (book .entry)) (now (left .entry)) (now (right .entry))) ⌝ }
+    ensures { λ _. ⌜
+        now (reply .exit)
+        ≡ sets (now (reply .entry)) 0
+        (valuesOf numberValues (oftener (now (book .entry)) (now (left .entry)) (now (right .entry))))
+        ⌝ }
+{
+    put_number(reply, comparing::oftener(book, left, right))
 }
 
 #[no_mangle]

@@ -7,6 +7,7 @@ use crate::print::print_number;
 use crate::print::print_pick;
 use crate::print::print_report;
 use crate::print::show;
+use comparing::oftener;
 use hashing::fingerprint;
 
 // The sample; where 01 does not group a sum, each grouping is a rule.
@@ -145,6 +146,15 @@ fn hash_terms(book: &[u8]) {
     print_number(fingerprint(book, &[0, 0])); // o, and a word after it
 }
 
+// The variable test under the book of the sample.
+fn test_terms(book: &[u8]) {
+    print_number(oftener(book, &[3, 256, 1], &[256])); // u+z, u
+    print_number(oftener(book, &[3, 256, 1], &[3, 256, 256])); // u+z, u+u
+    print_number(oftener(book, &[256], &[3, 257, 271])); // u, v+ variable 15
+    print_number(oftener(book, &[0], &[271])); // o, variable 15
+    print_number(oftener(book, &[0], &[1, 1])); // o, z and a word after it
+}
+
 fn terms() {
     let mut book = [0u8; 256];
     let count = close(&SAMPLE, &mut book);
@@ -154,6 +164,8 @@ fn terms() {
     pick_terms(&book[..count]);
     print(b"sample, fingerprints\n");
     hash_terms(&book[..count]);
+    print(b"sample, variable tests\n");
+    test_terms(&book[..count]);
 }
 
 pub fn run() {

@@ -1,2 +1,3 @@
 -- What the code of comparing cites.
 pub mod CompareLaws
+pub mod OftenerLaws

@@ -23,6 +23,10 @@ use operations::Error;
 use order::relation::relation;
 use symbols::TABLE_WORDS;
 
+mod variables;
+
+pub use crate::variables::oftener;
+
 // How two terms compare, and how many words they have; or the error.
 pub enum Related {
     Read {

@@ -1,6 +1,7 @@
 -- Operations on terms do not tell like inputs apart.
 --     like-reads          like inputs read alike: to AC-equivalent terms, or to the same fault
 --     comparison-like     AC-equivalent terms compare alike
+--     oftener-like        AC-equivalent terms have the same variable test
 --     fingerprints-like   like terms have the same fingerprint
 --     terms-like          two like terms read alike under one signature
 --     replies-agree       what does not tell AC-equivalent terms apart replies the same
@@ -19,6 +20,8 @@ use Rattle.terms.specs.Equivalence.{Equivalent, isEquivalent}
 use Rattle.terms.specs.Equivalence.Equivalent.{same, back, then}
 use Rattle.terms.proofs.WordsLaws.{termOf-words}
 use Rattle.terms.specs.Fingerprint.{fingerprint}
+use Rattle.terms.specs.Oftener.{firstOftener}
+use Rattle.terms.proofs.OftenerLaws.{firstOftener-same}
 use Rattle.terms.proofs.Theorems.{measures-respect-equivalence, test-decides, fingerprint-respects-equivalence}
 use Rattle.theory.proofs.Theorems.{order-invariant}
 use Rattle.format.specs.Layout.{maxNodes}
@@ -85,6 +88,12 @@ module _ (σ : Signature) (A : Admissible σ) where
           measures-respect-equivalence σ s s' d .weight,
           measures-respect-equivalence σ t t' e .weight,
         )
+
+pub oftener-like : (σ : Signature) → Admissible σ → (s s' t t' : Term) → WellFormed σ s → WellFormed σ s' →
+    WellFormed σ t → WellFormed σ t' → Equivalent σ s s' → Equivalent σ t t' → firstOftener s t ≡ firstOftener s' t'
+oftener-like σ A s s' t t' v v' w w' d e =
+    firstOftener-same s t s' t' (λ x. measures-respect-equivalence σ s s' d .occurrences x)
+    λ x. measures-respect-equivalence σ t t' e .occurrences x
 
 -- ---- the fingerprint of one term
 

@@ -9,6 +9,7 @@ use Rattle.terms.specs.Signature.{Admissible}
 use Rattle.terms.specs.Term.Term.{var}
 use Rattle.terms.specs.Words.{firstVariable, words}
 use Rattle.terms.specs.Order.{mark}
+use Rattle.terms.specs.Oftener.{firstOftener}
 use Rattle.terms.specs.Rewriting.{Rule, WellFormedRules, AllDecreasing}
 use Rattle.theory.proofs.Theorems.{greater-irreflexive, greater-transitive, closed-under-contexts, derivations-descend}
 use Rattle.theory.proofs.Theorems.{step-ceiling}
@@ -26,13 +27,15 @@ use Rattle.operations.specs.Inputs.{readTerms, readInputs}
 use Rattle.operations.specs.Comparing.{comparison, compared}
 use Rattle.operations.specs.Picking.{picked}
 use Rattle.operations.specs.Hashing.{fingerprintedTerm, fingerprinted}
+use Rattle.operations.specs.Variables.{oftener}
 use Rattle.guarantees.specs.Guarantees.{Holds, ReadableOrder, FilesDescend, FilesBounded, CountedAll, CountTells}
 use Rattle.guarantees.specs.Guarantees.{Like, LikeComparisonsAgree, LikeFingerprintsAgree, MarksExact, FallingCounted}
+use Rattle.guarantees.specs.Guarantees.{LikeVariableTestsAgree}
 use Rattle.guarantees.proofs.MarkedLaws.{test-of-marks, marks-of-test, all-decreasing, marks-accepted}
 use Rattle.guarantees.proofs.MarkedLaws.{counted-all, mark-written, falling-counted}
 use Rattle.guarantees.proofs.MarkedLaws.{length-rules, getD-member}
 use Rattle.guarantees.proofs.LikeLaws.{AlikeInputs, refusals, comparison-like, terms-like, replies-agree}
-use Rattle.guarantees.proofs.LikeLaws.{fingerprints-like}
+use Rattle.guarantees.proofs.LikeLaws.{oftener-like, fingerprints-like}
 use Rattle.guarantees.specs.Picks.{PartIsGreater, PartEmpty, WordsAfterIgnored, PicksAsCompared}
 use Rattle.guarantees.proofs.PickLaws.{called-picked, called-compared, handed-by, empty-of, no-side, called-part}
 use Rattle.guarantees.specs.RoundTrips.{DecodeThenEncode, EncodeThenDecode}
@@ -114,6 +117,11 @@ unfolding compared
 like-comparisons-agree bytes left left' right right' h =
     replies-agree (λ i. comparison (i .signature) (i .left) (i .right)) comparison-like
     (like-inputs bytes left left' right right' h)
+
+pub like-variable-tests-agree : LikeVariableTestsAgree
+unfolding oftener
+like-variable-tests-agree bytes left left' right right' h =
+    replies-agree (λ i. firstOftener (i .left) (i .right)) oftener-like (like-inputs bytes left left' right right' h)
 
 pub like-fingerprints-agree : LikeFingerprintsAgree
 unfolding fingerprinted

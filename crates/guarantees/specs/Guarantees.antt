@@ -1,6 +1,6 @@
 -- What a reader may rely on, over the definitions that the operations' contracts cite. Proofs: proofs/Theorems.antt.
 -- Renders: demand 3, with 01's "Rewrite steps and like comparisons"; demand 2, "Each mark is given exactly when its own
--- condition holds", 'falls' being Definition 5.1 of 000; 02, order 2.
+-- condition holds", 'falls' being Definition 5.1 of 000; 02, orders 2 and 3.
 use mathlib.Core.List.{List}
 use mathlib.Core.Logic.{_↔_}
 use mathlib.Core.Path.{_≡_}
@@ -23,6 +23,7 @@ use Rattle.format.specs.Files.{readBytes}
 use Rattle.operations.specs.Replies.Reply.{accepted}
 use Rattle.operations.specs.Comparing.{compared}
 use Rattle.operations.specs.Hashing.{fingerprinted}
+use Rattle.operations.specs.Variables.{oftener}
 use Rattle.operations.specs.declared.Summary.{Summary}
 use Rattle.operations.specs.Marking.{decreasingCount, marked}
 
@@ -94,6 +95,12 @@ abbrev pub LikeFingerprintsAgree : Type 0
 LikeFingerprintsAgree = (bytes term term' : List ℕ) →
     ((file : RuleFile) → Holds bytes file → Like (file .signature) term term') →
     fingerprinted bytes term ≡ fingerprinted bytes term'
+
+-- 02, order 3: like inputs get the same variable, or the same refusal.
+abbrev pub LikeVariableTestsAgree : Type 0
+LikeVariableTestsAgree = (bytes left left' right right' : List ℕ) →
+    ((file : RuleFile) → Holds bytes file → Like (file .signature) left left' × Like (file .signature) right right') →
+    oftener bytes left right ≡ oftener bytes left' right'
 
 -- ---- (e) marks
 

@@ -5,5 +5,6 @@ mod CodingChecks
 mod LongFileChecks
 mod ComparingChecks
 mod PickingChecks
+mod VariablesChecks
 mod HashingChecks
 mod MarkingChecks

@@ -4,6 +4,7 @@ pub mod Coding
 pub mod Inputs
 pub mod Comparing
 pub mod Picking
+pub mod Variables
 pub mod Hashing
 pub mod Marking
 pub mod Text

@@ -3,6 +3,7 @@
 --     first-low, first-high             the first of m + n variables is that of the first m, or of the n after them
 --     oftener-some, oftener-none        the order's variable test by that answer
 --     first-answer                      all of it
+--     firstOftener-same, firstOftener-le     by occurrences alone; at most 16
 use mathlib.Core.Bool.{true, false, false≢true}
 use mathlib.Core.Path.{_≡_, refl, sym, _∙_}
 use Prim.Native.Nat.{ℕ, suc, zero, _+_, _≤_, _<_}
@@ -104,3 +105,19 @@ module _ (s t : Term) where
           λ e. sym (oftener-none refl (omega arith)),
         );
       }
+
+-- Terms with the same occurrences are not told apart.
+oftenerFrom-same : (n x : ℕ) (s t s' t' : Term) → ((y : ℕ) → occurrences y s ≡ occurrences y s') →
+    ((y : ℕ) → occurrences y t ≡ occurrences y t') → oftenerFrom x n s t ≡ oftenerFrom x n s' t'
+unfolding oftenerFrom
+oftenerFrom-same zero x s t s' t' h k = refl
+oftenerFrom-same (suc n) x s t s' t' h k = rw (h x, k x, oftenerFrom-same n (suc x) s t s' t' h k)
+
+pub firstOftener-same : (s t s' t' : Term) → ((y : ℕ) → occurrences y s ≡ occurrences y s') →
+    ((y : ℕ) → occurrences y t ≡ occurrences y t') → firstOftener s t ≡ firstOftener s' t'
+unfolding firstOftener
+firstOftener-same = oftenerFrom-same variableCount 0
+
+pub firstOftener-le : (s t : Term) → firstOftener s t ≤ variableCount
+unfolding firstOftener
+firstOftener-le s t = oftener-first s t variableCount 0 .to

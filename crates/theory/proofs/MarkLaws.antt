@@ -3,10 +3,11 @@
 --     mark-greater                the marks 1 to 6 are those of the order
 --     mark-equivalent             mark 9 is that of AC-equivalent sides
 --     mark-resp-like              AC-equivalent sides have the same mark
+--     oftener-found, found-oftener     mark 7 is that of the variable test
 use mathlib.Core.Logic.{_↔_}
 use mathlib.Core.Path.{_≡_, refl, sym, _∙_}
 use mathlib.Core.Bool.{Bool, true, false, cond, not, true≢false}
-use Prim.Native.Nat.{ℕ, suc, _≤_}
+use Prim.Native.Nat.{ℕ, suc, _≤_, _<_}
 use native.Mathlib.Omega.{arith}
 use lib.ListN.{length}
 use lib.Dec.{ltb}
@@ -17,6 +18,7 @@ use Rattle.terms.specs.Term.Term.{app}
 use Rattle.terms.specs.Equivalence.{Equivalent, isEquivalent}
 use Rattle.terms.specs.Order.{noneOftener, highEqual, highGreater, flattenedMark, rootMark, decreasingMark, isGreater}
 use Rattle.terms.specs.Order.{mark}
+use Rattle.terms.specs.Oftener.{firstOftener}
 use Rattle.terms.specs.Marks.{NoneOftener, Balanced, Marked}
 use Rattle.terms.specs.Marks.Marked.{mark1, mark2, mark3, mark4, mark5, mark6, mark7, mark8, mark9, mark10}
 use Rattle.multisets.proofs.Relations.{byTest, byOrder, refuted, like-resp}
@@ -25,7 +27,7 @@ use Rattle.terms.proofs.TermLaws.{flattenings-formed}
 use Rattle.terms.proofs.EquivalenceLaws.{isEquivalent-equivalence}
 use Rattle.terms.proofs.OrderLaws.{noneOftener-facts, oftener, noneOftener-resp, highEqual-agree, highGreater-agree}
 use Rattle.terms.proofs.OrderLaws.{isGreater-unfolds}
-use Rattle.terms.proofs.Theorems.{test-decides, measures-respect-equivalence}
+use Rattle.terms.proofs.Theorems.{test-decides, measures-respect-equivalence, first-oftener-found}
 use Rattle.theory.proofs.DecreasesView.{RootDecreases, Decreases, argumentsMark, rootMark-same, isGreater-view}
 use Rattle.theory.proofs.DecreasesView.Decreases.{byWeight, byRoot}
 use Rattle.theory.proofs.DecreasesView.FlattenedDecreases.{byHigh, byLength, byLow}
@@ -211,3 +213,13 @@ module _ (σ : Signature) where
           b .weights,
           like-resp (isEquivalent σ) (isEquivalent-equivalence σ) d e,
         )
+
+-- ---- mark 7 and the variable test
+
+pub oftener-found : (σ : Signature) (s t : Term) → Marked σ 7 s t → firstOftener s t < variableCount
+oftener-found σ s t (mark7 x l h) =
+    let f = first-oftener-found s t in
+    byOrder (firstOftener s t) variableCount (λ m. m) λ m. absurd (omega (arith, f .before x (omega arith)))
+
+pub found-oftener : (σ : Signature) (s t : Term) → firstOftener s t < variableCount → Marked σ 7 s t
+found-oftener σ s t l = mark7 (firstOftener s t) l (first-oftener-found s t .oftener l)

@@ -10,7 +10,7 @@ use Rattle.terms.specs.Order.{isGreater}
 use Rattle.terms.specs.Rewriting.{System}
 use Rattle.terms.specs.FirstUse.{firstUses, placeIn, ruleWords}
 use Rattle.theory.specs.Statements.{Irreflexive, Transitive, OrderInvariant, MarkInvariant, ExactlyOneMark}
-use Rattle.theory.specs.Statements.{DecreasingMarks, MarkNine, EquivalenceUnfolds, OrderUnfolds}
+use Rattle.theory.specs.Statements.{DecreasingMarks, MarkSeven, MarkNine, EquivalenceUnfolds, OrderUnfolds}
 use Rattle.theory.specs.Statements.{TestDecidesArticle, TotalOnExpressions, GreaterThanParts}
 use Rattle.theory.specs.Statements.{ClosedUnderContexts, ClosedUnderSubstitutions}
 use Rattle.theory.specs.StepStatements.{NodesBounded, StepsDecrease, DerivationsDescend, StepCeiling}
@@ -27,6 +27,7 @@ use Rattle.terms.proofs.WeightLaws.{nodes-le-weight}
 use Rattle.terms.proofs.RenamingLaws.{weight-rename, formed-rename}
 use Rattle.theory.proofs.StrictOrder.{isGreater-order, greater-resp-like, greater-not-equivalent}
 use Rattle.theory.proofs.MarkLaws.{mark-exact, mark-holds, mark-greater, mark-equivalent, mark-resp-like}
+use Rattle.theory.proofs.MarkLaws.{oftener-found, found-oftener}
 use Rattle.theory.proofs.TotalOrder.{exactly-one}
 use Rattle.theory.proofs.ArticleComplete.{isGreater→Greater}
 use Rattle.theory.proofs.ArticleSound.{Greater→isGreater}
@@ -61,6 +62,11 @@ module _ (σ : Signature) where
 
   pub decreasing-marks : DecreasingMarks σ
   decreasing-marks = mark-greater σ
+
+  pub mark-seven : MarkSeven σ
+  mark-seven A s t v w =
+      let (down, up) = exactly-one-mark A s t v w 7 in
+      (λ e. oftener-found σ s t (up e), λ h. down (found-oftener σ s t h))
 
   pub mark-nine : MarkNine σ
   mark-nine = mark-equivalent σ

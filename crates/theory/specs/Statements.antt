@@ -5,13 +5,14 @@ use mathlib.Core.List.{List}
 use mathlib.Core.Logic.{_↔_, _⊎_}
 use mathlib.Core.Path.{_≡_}
 use mathlib.Core.Bool.{true, false, _&&_}
-use Prim.Native.Nat.{ℕ, _≤_}
+use Prim.Native.Nat.{ℕ, _≤_, _<_}
 use lib.Dec.{eqb, ltb}
 use Rattle.terms.specs.Signature.{Signature, Admissible}
-use Rattle.terms.specs.Term.{Term, Terms, Ground, WellFormed, Expression}
+use Rattle.terms.specs.Term.{Term, Terms, variableCount, Ground, WellFormed, Expression}
 use Rattle.terms.specs.Term.Term.{var, app}
 use Rattle.terms.specs.Equivalence.{Equivalent, argumentsAlike, isEquivalent}
 use Rattle.terms.specs.Order.{decreasingMark, isGreater, mark}
+use Rattle.terms.specs.Oftener.{firstOftener}
 use Rattle.terms.specs.Marks.{Marked}
 use Rattle.terms.specs.Article.{Greater}
 use Rattle.terms.specs.Rewriting.{Context, fill, Substitution, substitute, ExpressionContext, ExpressionSubstitution}
@@ -51,6 +52,10 @@ module _ (σ : Signature) where
   -- 01: "s is greater than t if one of them holds", of the marks 1 to 6.
   abbrev pub DecreasingMarks : Type 0
   DecreasingMarks = ForWellFormed λ s t. isGreater σ s t ≡ true ↔ ((1 ≤ mark σ s t) × (mark σ s t ≤ 6))
+
+  -- 02, order 3: a rule has mark 7 exactly if the variable test answers a variable.
+  abbrev pub MarkSeven : Type 0
+  MarkSeven = ForWellFormed λ s t. mark σ s t ≡ 7 ↔ (firstOftener s t < variableCount)
 
   -- 01: "9 the sides are AC-equal".
   abbrev pub MarkNine : Type 0

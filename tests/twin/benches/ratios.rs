@@ -5,7 +5,7 @@ use std::hint::black_box;
 use std::time::{Duration, Instant};
 
 use twin::generate::{families, Book, Family, Random, Signature, MAX_RULES};
-use twin::table::MAX_NODES;
+use twin::table::{MAX_NODES, VARIABLES};
 use twin::Pick;
 
 const SEED: u64 = 32_768;
@@ -157,10 +157,14 @@ impl Report {
             let followed: Vec<Pair> = pairs.iter().map(followed).collect();
             self.pick(&format!("pick {name}, followed"), &followed);
             self.fingerprint(&format!("fingerprint {name}"), &pairs);
+            self.oftener(&format!("oftener {name}"), &pairs);
         }
         self.fingerprint("fingerprint a bag of 64", &[family_pair("wide-constants/equal")]);
         self.fingerprint("fingerprint 64 leaves", &[family_pair("left-comb/equal")]);
         self.fingerprint("fingerprint 63 bags", &[family_pair("deepest/equal")]);
+        self.oftener("oftener variable 0", &[variables_pair(Some(0))]);
+        self.oftener("oftener variable 15", &[variables_pair(Some(15))]);
+        self.oftener("oftener none", &[variables_pair(None)]);
     }
 
     fn compare(&mut self, name: &str, pairs: &[Pair]) {
@@ -191,6 +195,18 @@ impl Report {
             pairs,
             |pair| ackbo::fingerprint(&pair.book, &pair.left).expect("the term is read") as usize,
             |pair| twin::fingerprint(&pair.book, &pair.left).expect("the term is read") as usize,
+        );
+    }
+
+    fn oftener(&mut self, name: &str, pairs: &[Pair]) {
+        self.row(
+            name,
+            pairs,
+            |pair| {
+                let variable = ackbo::oftener(&pair.book, &pair.left, &pair.right).expect("the terms are read");
+                variable.map_or(VARIABLES, usize::from)
+            },
+            |pair| twin::oftener(&pair.book, &pair.left, &pair.right).expect("the terms are read"),
         );
     }
 
@@ -243,6 +259,16 @@ fn family_pair(name: &str) -> Pair {
     let family = families().into_iter().find(|family| family.name == name).expect("a family's name");
     let (left, right) = family.pair(MAX_NODES);
     Pair { book: family.book(), left, right }
+}
+
+/// Two sums of 63 variables and a constant, which one variable takes the place of on the right.
+fn variables_pair(oftener: Option<u16>) -> Pair {
+    let mut pair = family_pair("wide-variables/equal");
+    let constant = *pair.left.iter().find(|&&word| word < VARIABLE && word != pair.left[0]).expect("there is one");
+    if let (Some(number), Some(leaf)) = (oftener, pair.right.iter_mut().find(|word| **word == constant)) {
+        *leaf = VARIABLE + number;
+    }
+    pair
 }
 
 /// The pair with words after both terms.

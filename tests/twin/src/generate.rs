@@ -2,8 +2,8 @@
 //! empty to largest, and damage aimed at each error. `call` draws a whole call of one of the operations.
 //!
 //! - `Random::new(seed)` is the source of all choices.
-//! - `Signature::random`, `Signature::tree`, `Signature::variant`, `Signature::lowered` and `Signature::pair` make
-//!   terms.
+//! - `Signature::random`, `Signature::tree`, `Signature::variant`, `Signature::lowered`, `Signature::pair` and
+//!   `Signature::oftener_pair` make terms.
 //! - `Book::random`, `Book::empty` and `Book::largest` make valid rule files; `packed` and `words` write them.
 //! - `damaged_packed`, `damaged_words` and `damaged_term` make inputs that are mostly refused; `followed` puts words
 //!   after a term.

@@ -1,8 +1,9 @@
 //! A second implementation of the rule file format and of AC-KBO, written from the papers alone, to be compared with
 //! the first one. `format` reads and writes rule files, `order` compares terms, `picking` picks the greater one,
-//! `fingerprint` gives a number that AC-equivalent terms share, `marking` orients the rules of a file, and `generate`
-//! makes inputs of every kind: valid, damaged, largest and empty ones. Below, 01 is the scope paper, 02 the requests
-//! after it, and 000, 001 and 004 are the articles that 01 cites.
+//! `fingerprint` gives a number that AC-equivalent terms share, `variables` names a variable that occurs oftener on the
+//! right, `marking` orients the rules of a file, and `generate` makes inputs of every kind: valid, damaged, largest and
+//! empty ones. Below, 01 is the scope paper, 02 the requests after it, and 000, 001 and 004 are the articles that 01
+//! cites.
 
 mod ackbo;
 mod bits;
@@ -17,6 +18,7 @@ pub mod picking;
 mod source;
 pub mod table;
 mod term;
+pub mod variables;
 
 pub use error::Error;
 pub use fingerprint::fingerprint;
@@ -24,3 +26,4 @@ pub use format::{decode, encode};
 pub use marking::{mark, report, Marked};
 pub use order::{compare, Comparison, Relation};
 pub use picking::{pick, Pick};
+pub use variables::oftener;

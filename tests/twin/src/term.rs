@@ -42,6 +42,18 @@ impl Occurrences {
     pub fn covers(&self, other: &Self) -> bool {
         self.0.iter().zip(&other.0).fold(true, |covers, (mine, others)| covers & (mine >= others))
     }
+
+    /// The lowest variable that occurs oftener in `other`, or 16 where there is none.
+    pub fn first_oftener(&self, other: &Self) -> usize {
+        self.0.iter().zip(&other.0).position(|(mine, others)| mine < others).unwrap_or(VARIABLES)
+    }
+}
+
+/// The occurrences of the variables of a term.
+pub fn occurrences(term: &[u16]) -> Occurrences {
+    let mut occurrences = Occurrences::NONE;
+    term.iter().for_each(|&node| occurrences.add(Occurrences::of_node(node)));
+    occurrences
 }
 
 /// The weight of a term and the occurrences of its variables.

@@ -7,12 +7,13 @@ use std::path::{Path, PathBuf};
 
 /// The operations, each by the file of its contract. The functions for C are all of `crates/ackbo/src/lib.rt` that it
 /// exports.
-const OPERATIONS: [(&str, &str); 8] = [
+const OPERATIONS: [(&str, &str); 9] = [
     ("crates/decoder/src/lib.rt", "decode"),
     ("crates/encoder/src/lib.rt", "encode"),
     ("crates/comparing/src/lib.rt", "compare"),
     ("crates/picking/src/lib.rt", "greater_side"),
     ("crates/picking/src/lib.rt", "greater_part"),
+    ("crates/comparing/src/variables.rt", "oftener"),
     ("crates/hashing/src/lib.rt", "fingerprint"),
     ("crates/marking/src/mark.rt", "mark"),
     ("crates/marking/src/report.rt", "report"),

@@ -5,9 +5,9 @@ mod common;
 mod examples;
 
 use common::{Example, Theory};
-use examples::sample::{sample, CASES, COMPARISONS, FINGERPRINTS, PICKS};
+use examples::sample::{sample, CASES, COMPARISONS, FINGERPRINTS, OFTENER, PICKS};
 use examples::{articles, sample};
-use twin::{compare, encode, fingerprint, mark, pick, report, Comparison, Error, Marked, Pick, Relation};
+use twin::{compare, encode, fingerprint, mark, oftener, pick, report, Comparison, Error, Marked, Pick, Relation};
 
 /// 01's listing.
 const LISTING: [u8; 17] =
@@ -72,6 +72,20 @@ fn equivalent_sides_have_one_fingerprint() {
 }
 
 #[test]
+fn sample_terms_have_their_oftener_variable() {
+    let theory = sample();
+    let book = theory.book(&[]);
+    for (left, right, variable) in OFTENER {
+        assert_eq!(oftener(&book, &theory.term(left), &theory.term(right)), Ok(variable), "{left}, {right}");
+    }
+    for (rule, mark, _) in CASES {
+        let (left, right) = rule.split_once("->").expect("a rule has an arrow");
+        let variable = oftener(&book, &theory.term(left), &theory.term(right)).expect("the terms are read");
+        assert_eq!(variable < 16, mark == 7, "{rule}");
+    }
+}
+
+#[test]
 fn listing_prints_its_text() {
     assert_eq!(report(&LISTING), b"rules 2\n0 2 0\n1 10 0\nscore 50\nreturned\n");
     assert_eq!(mark(&LISTING, &mut [0; 2]), Ok(Marked { rules: 2, falling: 1, score: 50 }));
@@ -93,7 +107,7 @@ fn score_is_rounded_down() {
 
 #[test]
 fn program_prints_what_the_twin_gives() {
-    let terms = [comparisons(), picks(), fingerprints()].concat();
+    let terms = [comparisons(), picks(), fingerprints(), variable_tests()].concat();
     let parts = [reports(&sample::examples()), terms, listing(), reports(&articles::examples()), limits()];
     assert_eq!(parts.concat(), include_str!("../../../crates/cases/stdout"));
 }
@@ -147,6 +161,20 @@ fn fingerprints() -> String {
     let terms: [&[u16]; 5] = [&[3, 0, 1], &[5, 1, 0], &[3, 3, 0, 1, 3, 0, 256], &[5, 5, 5, 3, 1, 0, 0, 0, 0], &[0, 0]];
     let line = |term| fingerprint(&book, term).map_or_else(error_line, |number| format!("{number} 0 0\n"));
     terms.map(line).into_iter().fold("sample, fingerprints\n".into(), |text: String, line| text + &line)
+}
+
+/// A line for each variable test of terms of the sample.
+fn variable_tests() -> String {
+    let book = sample().book(&[]);
+    let calls: [(&[u16], &[u16]); 5] = [
+        (&[3, 256, 1], &[256]),
+        (&[3, 256, 1], &[3, 256, 256]),
+        (&[256], &[3, 257, 271]),
+        (&[0], &[271]),
+        (&[0], &[1, 1]),
+    ];
+    let line = |(left, right)| oftener(&book, left, right).map_or_else(error_line, |number| format!("{number} 0 0\n"));
+    calls.map(line).into_iter().fold("sample, variable tests\n".into(), |text: String, line| text + &line)
 }
 
 fn listing() -> String {

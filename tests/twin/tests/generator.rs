@@ -109,7 +109,8 @@ fn generated_calls_reach_every_mark_and_error() {
     let mut random = Random::new(SEED);
     let (mut marks, mut errors, mut relations) = ([0; 11], [[0; 3]; 17], [0; 4]);
     let mut picks = [0; 4];
-    let mut operations = [0; 6];
+    let mut operations = [0; 7];
+    let mut oftener = [0; 17];
     for _ in 0..CALLS {
         let reply = call(&mut random).run();
         if let Some(error) = reply.error() {
@@ -140,16 +141,25 @@ fn generated_calls_reach_every_mark_and_error() {
                 }
             }
             Reply::Fingerprint(_) => operations[5] += 1,
+            Reply::Oftener(result) => {
+                operations[6] += 1;
+                if let Ok(variable) = result {
+                    oftener[variable] += 1;
+                }
+            }
         }
     }
-    println!("decoding, encoding, comparing, marking, picking, fingerprints: {operations:?}");
+    println!("decoding, encoding, comparing, marking, picking, fingerprints, oftener: {operations:?}");
     println!("marks 1 to 10: {:?}", &marks[1..]);
     println!("greater, less, equivalent, unrelated: {relations:?}");
     println!("left, right, equivalent, unrelated: {picks:?}");
+    println!("oftener, variables 0 to 15 and none: {oftener:?}");
     let totals = errors.map(|inputs: [usize; 3]| inputs.iter().sum::<usize>());
     println!("errors 1 to 16: {:?}", &totals[1..]);
     println!("errors 1 to 16 by input: {:?}", &errors[1..]);
-    assert!(operations.iter().chain(&relations).chain(&picks).all(|&count| count > CALLS / 100));
+    assert!(operations.iter().all(|&count| count > CALLS / 10), "{operations:?}");
+    assert!(relations.iter().chain(&picks).all(|&count| count > CALLS / 200), "{relations:?} {picks:?}");
+    assert!(oftener.iter().all(|&count| count > 0), "{oftener:?}");
     assert!(marks[1..].iter().all(|&count| count > CALLS / 100), "{marks:?}");
     assert!(totals[1..].iter().all(|&count| count > CALLS / 1_000), "{totals:?}");
     let term_errors = [2, 9, 10, 14, 15];
@@ -180,7 +190,7 @@ fn refused_calls_leave_their_output() {
             Reply::Encode(Ok(len), bytes) => assert!(bytes[len..].iter().all(|&byte| byte == UNTOUCHED)),
             Reply::Mark(Ok(marked), bytes) => assert!(bytes[marked.rules..].iter().all(|&byte| byte == UNTOUCHED)),
             Reply::Compare(Ok(comparison)) => assert!(comparison.margin <= 0 || comparison.relation != Relation::Less),
-            Reply::Compare(Err(_)) | Reply::Pick(_) | Reply::Fingerprint(_) => {}
+            Reply::Compare(Err(_)) | Reply::Pick(_) | Reply::Fingerprint(_) | Reply::Oftener(_) => {}
         }
     }
 }

@@ -4,7 +4,7 @@ mod packing;
 
 use packing::{book, header, node, pack, symbol, variable, FILLER, SHEET};
 use twin::generate::{Book, Random, Signature};
-use twin::{compare, decode, encode, fingerprint, mark, pick, Comparison, Error, Marked, Pick, Relation};
+use twin::{compare, decode, encode, fingerprint, mark, oftener, pick, Comparison, Error, Marked, Pick, Relation};
 
 #[test]
 fn an_encoded_book_has_at_most_32_768_bytes() {
@@ -123,4 +123,26 @@ fn fingerprints_of_128_nodes_and_of_the_greatest_words() {
     let table = |last| pack(&[header(255, 1, 0), constants.clone(), last].concat());
     assert_eq!(fingerprint(&table(symbol(2, 1, 0, 254)), &[254, 253, 254, 271, 0]), Ok(65_599 * 255 + 254 + 272 + 1));
     assert_eq!(fingerprint(&table(symbol(7, 0, 0, 254)), &[254, 0, 0, 0, 0, 0, 0, 0]), Ok(2_952_091_074));
+}
+
+#[test]
+fn every_variable_is_counted_up_to_64_times() {
+    let packed = pack(&[header(2, 1, 0), symbol(2, 1, 0, 0), symbol(0, 0, 1, 1)].concat());
+    let sum = |leaves: &[u16]| [&vec![0; leaves.len() - 1], leaves].concat();
+    for variable in 0..16 {
+        let word = 256 + variable as u16;
+        let all = sum(&[word; 64]);
+        let one_less = sum(&[[word; 63].as_slice(), &[1]].concat());
+        assert_eq!(oftener(&packed, &one_less, &all), Ok(variable));
+        assert_eq!(oftener(&packed, &all, &one_less), Ok(16));
+        assert_eq!(oftener(&packed, &all, &all), Ok(16));
+        // All higher ones occur oftener too, and all lower ones less often.
+        let (lower, higher): (Vec<u16>, Vec<u16>) = ((256..word).chain([1]).collect(), (word..272).collect());
+        assert_eq!(oftener(&packed, &sum(&lower), &sum(&higher)), Ok(variable));
+    }
+    assert_eq!(oftener(&packed, &[1], &[0; 128]), Err(Error { code: 10, input: 2, offset: 128 }));
+    assert_eq!(
+        oftener(&packed, &[1], &[sum(&[271; 64]), vec![271]].concat()),
+        Err(Error { code: 15, input: 2, offset: 127 })
+    );
 }

@@ -4,9 +4,9 @@ mod oracle;
 
 use twin::format::System;
 use twin::generate::{followed, Book, Random, Signature, Tree};
-use twin::order::{Comparer, Relation};
+use twin::order::{Comparer, Orientation, Relation};
 use twin::table::{Table, MAX_NODES};
-use twin::{fingerprint, pick, Pick};
+use twin::{fingerprint, oftener, pick, Pick};
 
 const SEED: u64 = 20_150_312;
 const CASES: usize = 20_000;
@@ -128,6 +128,24 @@ fn fingerprints_agree_with_the_slow_ones_and_equivalent_terms_share_them() {
     });
     // Few terms that are not AC-equivalent share a fingerprint.
     assert!(shared < CASES / 10, "{shared}");
+}
+
+#[test]
+fn the_oftener_variable_agrees_with_the_slow_one_and_with_mark_7() {
+    let mut counts = [0; VARIABLES + 1];
+    for_all(false, |random, signature, comparer| {
+        let aim = random.between(0, VARIABLES);
+        let size = random.between(1, 2 * SIZE);
+        let (left, right) =
+            if random.one_in(4) { pair(random, signature) } else { signature.oftener_pair(random, aim, size) };
+        let variable = oftener(&Book::empty(signature.clone()).packed(), &left.words(), &right.words());
+        assert_eq!(variable, Ok(oracle::oftener(&left, &right)), "{signature:?} {left:?} {right:?}");
+        let variable = variable.expect("the terms are read");
+        let (orientation, _) = comparer.orient(&left.words(), &right.words());
+        assert_eq!(variable < VARIABLES, orientation == Orientation::Variables, "{signature:?} {left:?} {right:?}");
+        counts[variable] += 1;
+    });
+    assert!(counts.iter().all(|&count| count > CASES / 100), "{counts:?}");
 }
 
 #[test]

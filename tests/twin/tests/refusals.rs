@@ -3,7 +3,7 @@
 mod packing;
 
 use packing::{book, header, node, pack, symbol, variable, FILLER, SHEET};
-use twin::{compare, decode, encode, fingerprint, mark, pick, Comparison, Error, Marked, Pick, Relation};
+use twin::{compare, decode, encode, fingerprint, mark, oftener, pick, Comparison, Error, Marked, Pick, Relation};
 
 /// The first bit of the rules in `book`.
 const RULES_AT: usize = 38 + 2 * 28;
@@ -32,6 +32,8 @@ fn refuse_packed(packed: &[u8], code: u8, offset: usize) {
     assert_eq!(pick(packed, &[], &[999]), Err(error), "the book comes before the terms");
     assert_eq!(fingerprint(packed, &[0]), Err(error));
     assert_eq!(fingerprint(packed, &[]), Err(error), "the book comes before the term");
+    assert_eq!(oftener(packed, &[0], &[0]), Err(error));
+    assert_eq!(oftener(packed, &[], &[999]), Err(error), "the book comes before the terms");
     assert_eq!(twin::report(packed), format!("refusal {code} {offset}\n").into_bytes());
 }
 
@@ -182,6 +184,7 @@ fn terms_are_checked_left_before_right() {
     let packed = book(0, &[]);
     let refuse = |left: &[u16], right: &[u16], code, input, offset| {
         assert_eq!(compare(&packed, left, right), Err(Error { code, input, offset }), "{left:?} {right:?}");
+        assert_eq!(oftener(&packed, left, right), Err(Error { code, input, offset }), "{left:?} {right:?}");
     };
     for (term, code, offset) in BAD_TERMS.into_iter().chain(FOLLOWED_TERMS) {
         refuse(term, &[0], code, 1, offset);

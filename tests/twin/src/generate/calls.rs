@@ -1,8 +1,8 @@
 //! Whole calls of the operations, with outputs of every length.
 
 use super::{damaged_packed, damaged_term, damaged_words, followed, Book, Random};
-use crate::table::MAX_NODES;
-use crate::{compare, decode, encode, fingerprint, mark, pick, Comparison, Error, Marked, Pick};
+use crate::table::{MAX_NODES, VARIABLES};
+use crate::{compare, decode, encode, fingerprint, mark, oftener, pick, Comparison, Error, Marked, Pick};
 
 /// The rules of most generated rule files.
 const FEW_RULES: usize = 24;
@@ -18,6 +18,7 @@ pub enum Call {
     Mark { book: Vec<u8>, room: usize },
     Pick { book: Vec<u8>, left: Vec<u16>, right: Vec<u16> },
     Fingerprint { book: Vec<u8>, term: Vec<u16> },
+    Oftener { book: Vec<u8>, left: Vec<u16>, right: Vec<u16> },
 }
 
 /// The reply to a call, and the output after it; the output held `UNTOUCHED` in each place before.
@@ -29,6 +30,7 @@ pub enum Reply {
     Mark(Result<Marked, Error>, Vec<u8>),
     Pick(Result<Pick, Error>),
     Fingerprint(Result<u32, Error>),
+    Oftener(Result<usize, Error>),
 }
 
 impl Call {
@@ -50,6 +52,7 @@ impl Call {
             }
             Call::Pick { book, left, right } => Reply::Pick(pick(book, left, right)),
             Call::Fingerprint { book, term } => Reply::Fingerprint(fingerprint(book, term)),
+            Call::Oftener { book, left, right } => Reply::Oftener(oftener(book, left, right)),
         }
     }
 }
@@ -58,7 +61,7 @@ impl Reply {
     /// The error, if the call was refused.
     pub fn error(&self) -> Option<Error> {
         match self {
-            Reply::Decode(result, _) | Reply::Encode(result, _) => result.err(),
+            Reply::Decode(result, _) | Reply::Encode(result, _) | Reply::Oftener(result) => result.err(),
             Reply::Compare(result) => result.err(),
             Reply::Mark(result, _) => result.err(),
             Reply::Pick(result) => result.err(),
@@ -72,7 +75,7 @@ pub fn call(random: &mut Random) -> Call {
     let many_rules = random.one_in(2);
     let book = if random.one_in(256) { Book::largest(random, many_rules) } else { Book::random(random, FEW_RULES) };
     let intact = random.one_in(2);
-    match random.below(6) {
+    match random.below(7) {
         0 => {
             let packed = if intact { book.packed() } else { damaged_packed(random, &book) };
             Call::Decode { book: packed, room: room(random, book.words().len()) }
@@ -87,9 +90,13 @@ pub fn call(random: &mut Random) -> Call {
             Call::Mark { book: packed, room: room(random, book.rules.len()) }
         }
         4 => pick_call(random, &book, intact),
-        _ => {
+        5 => {
             let (book, term, _) = terms(random, &book, intact);
             Call::Fingerprint { book, term }
+        }
+        _ => {
+            let (book, left, right) = terms(random, &book, intact);
+            Call::Oftener { book, left, right }
         }
     }
 }
@@ -131,11 +138,17 @@ fn pick_call(random: &mut Random, book: &Book, intact: bool) -> Call {
     Call::Pick { book, left, right }
 }
 
-/// A packed rule file and two terms: aimed at a mark, or random ones, at times too long or otherwise at fault.
+/// A packed rule file and two terms: aimed at a mark or at a variable that occurs oftener on the right, or random ones,
+/// at times too long or otherwise at fault.
 fn terms(random: &mut Random, book: &Book, intact: bool) -> (Vec<u8>, Vec<u16>, Vec<u16>) {
-    let mark = random.between(1, 11) as u8;
     let size = if random.one_in(8) { MAX_NODES / 4 } else { 8 };
-    let (left, right) = book.signature.pair_in_context(random, mark, size);
+    let (left, right) = if random.one_in(4) {
+        let lowest = random.between(0, VARIABLES);
+        book.signature.oftener_pair(random, lowest, size)
+    } else {
+        let mark = random.between(1, 11) as u8;
+        book.signature.pair_in_context(random, mark, size)
+    };
     let (mut left, mut right) = (left.words(), right.words());
     if random.one_in(16) {
         left = book.signature.sized_words(random, MAX_NODES);

@@ -2,7 +2,7 @@
 
 use super::signature::join;
 use super::{Random, Signature, Tree};
-use crate::table::Symbol;
+use crate::table::{is_variable, Symbol, FIRST_VARIABLE, VARIABLES};
 
 /// The variables that terms of a pair draw from.
 const PAIR_VARIABLES: usize = 3;
@@ -38,6 +38,36 @@ impl Signature {
         }
         let context = self.tree(random, size, 1);
         (context.substitute(&[left]), context.substitute(&[right]))
+    }
+
+    /// A pair of `size` nodes over all variables, aimed at the lowest one that occurs oftener on the right; 16 is aimed
+    /// at none. At times higher ones do too.
+    pub fn oftener_pair(&self, random: &mut Random, lowest: usize, size: usize) -> Pair {
+        let left = Tree::from_words(&self.symbols, &self.sized_words(random, size));
+        let mut words = self.variant(random, &left).words();
+        let changes = if random.one_in(2) { 1 } else { random.between(2, VARIABLES) };
+        for change in 0..changes {
+            let variable = match change {
+                0 => lowest,
+                _ => random.between(lowest, VARIABLES),
+            };
+            self.replace_leaf(random, &mut words, lowest, variable);
+        }
+        (left, Tree::from_words(&self.symbols, &words))
+    }
+
+    /// Puts a variable, or a constant for 16, in the place of a leaf other than the variable `kept`, if there is one.
+    fn replace_leaf(&self, random: &mut Random, words: &mut [u16], kept: usize, variable: usize) {
+        let word = |variable: usize| FIRST_VARIABLE + variable as u16;
+        let is_leaf = |node: u16| is_variable(node) || self.symbols[usize::from(node)].arity == 0;
+        let leaves: Vec<usize> =
+            (0..words.len()).filter(|&place| is_leaf(words[place]) && words[place] != word(kept)).collect();
+        let constants = self.numbers(|symbol| symbol.arity == 0);
+        let new =
+            if variable < VARIABLES { Some(word(variable)) } else { random.choose(&constants).map(|&c| c.into()) };
+        if let (Some(&place), Some(new)) = (random.choose(&leaves), new) {
+            words[place] = new;
+        }
     }
 
     fn heavier(&self, random: &mut Random, size: usize, variables: usize) -> Pair {

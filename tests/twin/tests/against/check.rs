@@ -4,6 +4,7 @@
 use std::fmt::Debug;
 
 use ackbo::sys;
+use twin::table::VARIABLES;
 use twin::{Comparison, Error, Marked, Pick, Relation};
 
 use crate::lent::{pattern, Around, Element, Lent};
@@ -108,6 +109,17 @@ pub fn fingerprint(book: &[u8], term: &[u16]) -> Result<u32, Error> {
     });
     with_terms((book, term, &[]), Around::Ones, |(book, term, _)| {
         agree(ackbo::fingerprint(book, term).map_err(error), result, &(book, term));
+    });
+    result
+}
+
+/// Gives the lowest variable that occurs oftener in the right of two terms under a book, or 16.
+pub fn oftener(book: &[u8], left: &[u16], right: &[u16]) -> Result<usize, Error> {
+    let result = twin::oftener(book, left, right);
+    over_terms((book, left, right), sys::ackbo_oftener, numbers(result, |variable| [variable as i64, 0, 0]));
+    with_terms((book, left, right), Around::Ones, |(book, left, right)| {
+        let ours = ackbo::oftener(book, left, right).map_err(error);
+        agree(ours.map(|variable| variable.map_or(VARIABLES, usize::from)), result, &(book, left, right));
     });
     result
 }

@@ -9,6 +9,7 @@ mod encoding;
 mod fingerprints;
 mod lent;
 mod marking;
+mod oftener;
 mod picking;
 mod slices;
 

@@ -24,6 +24,7 @@ fn empty_inputs_agree_with_the_twin() {
     assert_eq!(ackbo::compare(&[], &[], &[]).map_err(error).err(), twin::compare(&[], &[], &[]).err());
     assert_eq!(ackbo::pick(&[], &[], &[]).map_err(error).err(), twin::pick(&[], &[], &[]).err());
     assert_eq!(ackbo::fingerprint(&[], &[]).map_err(error), twin::fingerprint(&[], &[]));
+    assert_eq!(ackbo::oftener(&[], &[], &[]).map_err(error).err(), twin::oftener(&[], &[], &[]).err());
     assert_eq!((words, bytes), ([7; 4], [7; 4]));
 }
 
@@ -53,6 +54,7 @@ fn empty_terms_agree_with_the_twin() {
             assert_eq!(code(&refused), 2);
             assert_eq!(ackbo::compare(&book, left, right).map_err(error).err(), refused.err());
             assert_eq!(ackbo::pick(&book, left, right).map_err(error).err(), refused.err());
+            assert_eq!(ackbo::oftener(&book, left, right).map_err(error).err(), refused.err());
         }
     }
 }
@@ -65,6 +67,7 @@ fn a_term_is_equivalent_to_itself_in_one_memory() {
             let same = ackbo::Comparison { relation: ackbo::Relation::Equivalent, margin: 0 };
             assert_eq!(ackbo::compare(&family.book(), &term, &term), Ok(same));
             assert_eq!(ackbo::pick(&family.book(), &term, &term), Ok(ackbo::Side::Equivalent));
+            assert_eq!(ackbo::oftener(&family.book(), &term, &term), Ok(None));
         }
     }
 }

@@ -97,6 +97,22 @@ pub const FINGERPRINTS: [(&str, u32); 18] = [
     (WRAPPED, 1_237_138_790),
     (WRAPPED_SUM, 653_850_260),
 ];
+/// Terms of the sample, and the lowest variable that occurs oftener in the right one, or 16.
+pub const OFTENER: [(&str, &str, usize); 12] = [
+    ("u+z", "u", 16),
+    ("u+z", "u+u", 0),
+    ("b", "u", 0),
+    ("u", "v", 1),
+    ("v", "u", 0),
+    ("u+v", "v+u", 16),
+    ("u+v", "v+v", 1),
+    ("u+v", "sub(w,x)", 2),
+    ("u+(u+v)", "(v+v)+(u+s)", 1),
+    ("neg(y)", "neg(neg(s))", 5),
+    ("o", "b", 16),
+    ("u+neg(u)", "sub(u,u)", 16),
+];
+
 /// Traps that show in the sample.
 const SAMPLE_TRAPS: [Case; 13] = [
     // AC-equivalent members are cancelled.

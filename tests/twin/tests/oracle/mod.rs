@@ -78,6 +78,12 @@ fn covers(s: &Tree, t: &Tree) -> bool {
     (0..16).all(|variable| occurrences(s, variable) >= occurrences(t, variable))
 }
 
+/// The lowest variable that occurs oftener in t than in s, or 16.
+pub fn oftener(s: &Tree, t: &Tree) -> usize {
+    let first = (0..16).find(|&variable| occurrences(t, variable) > occurrences(s, variable));
+    first.map_or(16, usize::from)
+}
+
 /// The mark 1 to 6 by which s is greater than t.
 fn greater(signature: &Signature, s: &Tree, t: &Tree) -> Option<u8> {
     let (s_weight, t_weight) = (weight(signature, s), weight(signature, t));

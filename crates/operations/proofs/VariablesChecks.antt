@@ -1,0 +1,48 @@
+-- What the variable test gives back under the file of ComparingChecks: answers from 0 to 16, and errors of both terms.
+use mathlib.Core.Path.{_≡_, refl}
+use mathlib.Core.List.{List, [], _∷_, map}
+use Prim.Native.Nat.{ℕ}
+use lib.ListN.{replicate}
+use Rattle.terms.specs.Words.{forestOf}
+use Rattle.terms.specs.Oftener.{oftenerFrom, firstOftener}
+use Rattle.format.specs.Errors.{fieldMissing, noSuchSymbol, tooManyNodes, wordTooWide, wordsLeftOver}
+use Rattle.format.specs.Reading.{bitField, wordBelow}
+use Rattle.format.specs.Format.{symbolReader, symbolsReader, forestReader, ruleReader, rulesReader, bodyReader}
+use Rattle.format.specs.Format.{fileReader}
+use Rattle.format.specs.Files.{wholeReader, readBytes, readTerm}
+use Rattle.operations.specs.Replies.{Reply}
+use Rattle.operations.specs.Replies.Reply.{accepted, refused}
+use Rattle.operations.specs.Inputs.{readTerms, readInputs}
+use Rattle.operations.specs.Variables.{oftener}
+use Rattle.operations.proofs.ComparingChecks.{book}
+
+record Case : Type 0 where
+  left : List ℕ
+  right : List ℕ
+  reply : Reply ℕ
+
+abbrev answers : List ℕ → List ℕ → ℕ → Case
+answers s t n = record { left = s; right = t; reply = accepted n }
+
+abbrev gives : List ℕ → List ℕ → ℕ → ℕ → ℕ → Case
+gives s t code input offset =
+    record { left = s; right = t; reply = refused (record { code = code; input = input; offset = offset }) }
+
+abbrev cases : List Case
+cases =
+    answers (1 ∷ []) (0 ∷ 1 ∷ []) 16 ∷
+    answers (256 ∷ []) (0 ∷ 256 ∷ []) 16 ∷
+    answers (1 ∷ []) (256 ∷ []) 0 ∷
+    answers (256 ∷ []) (264 ∷ []) 8 ∷
+    answers (256 ∷ []) (271 ∷ []) 15 ∷
+    gives (replicate 129 0) (1 ∷ []) tooManyNodes 1 128 ∷
+    gives (1 ∷ 1 ∷ []) [] wordsLeftOver 1 1 ∷
+    gives (1 ∷ []) (0 ∷ []) fieldMissing 2 1 ∷
+    gives (1 ∷ []) (272 ∷ []) wordTooWide 2 0 ∷
+    gives (1 ∷ []) (255 ∷ []) noSuchSymbol 2 0 ∷
+    []
+
+cases-hold : map (λ (c : Case). oftener book (c .left) (c .right)) cases ≡ map (λ (c : Case). c .reply) cases
+unfolding oftener readInputs readTerms readBytes readTerm wholeReader fileReader bodyReader symbolsReader
+    symbolReader rulesReader ruleReader forestReader bitField wordBelow forestOf firstOftener oftenerFrom
+cases-hold = refl

@@ -19,8 +19,8 @@
    Each call reads its whole book, which takes about 0.1 ms for the longest (docs/BENCHMARKS.md has times), and keeps
    nothing for the next one.
 
-   Stack, as measured: ackbo_decode 110 KB for every book, ackbo_encode, ackbo_fingerprint and ackbo_oftener 12 KB, ackbo_compare,
-   ackbo_pick and ackbo_mark up to 72 KB, where AC symbols nest 63 deep. */
+   Stack, as measured: ackbo_decode 110 KB for every book, ackbo_encode 5 KB, ackbo_fingerprint 7 KB, ackbo_oftener
+   15 KB, ackbo_compare, ackbo_pick and ackbo_mark up to 72 KB, where AC symbols nest 63 deep. */
 #ifndef ACKBO_H
 #define ACKBO_H
 

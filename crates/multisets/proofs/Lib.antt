@@ -6,6 +6,7 @@ pub mod MultisetLaws
 pub mod MultisetOrder
 pub mod Totality
 pub mod MultisetMaps
+pub mod MapLaws
 pub mod SumLaws
 pub mod MultisetImages
 pub mod Agreement

@@ -1,5 +1,4 @@
 -- The laws of the definitions of specs/, up to the theorems of specs/Statements.antt.
-pub mod MapLaws
 pub mod TermLaws
 pub mod FlatteningLaws
 pub mod FormedTest

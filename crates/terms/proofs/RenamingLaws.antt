@@ -22,7 +22,7 @@ use Rattle.terms.specs.Equivalence.{argumentsAlike, isEquivalentTo, isEq
 use Rattle.terms.specs.Order.{rootAbove, rootBelow}
 use Rattle.terms.specs.Renaming.{rename, renames}
 use Rattle.multisets.proofs.Relations.{byTest, byOrder, sameTest, eqb-self}
-use Rattle.terms.proofs.MapLaws.{along, multisetEqual-map, rowEqual-map}
+use Rattle.multisets.proofs.MapLaws.{along, multisetEqual-map, rowEqual-map}
 use Rattle.terms.proofs.TermLaws.{Hereditary, row-each, flattenings-each, Parts}
 use Rattle.terms.proofs.EquivalenceLaws.{argumentsAlike-agree}
 use Rattle.terms.proofs.RewritingLaws.{occurrencesIn}

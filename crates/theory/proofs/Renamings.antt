@@ -20,8 +20,8 @@ use Rattle.terms.specs.Order.{highGreater, lowGreater, flattenedMark, rootMark,
 use Rattle.terms.specs.Order.{isGreater, mark}
 use Rattle.terms.specs.Renaming.{rename, OccursIn, OneToOneOn, WithinCount}
 use Rattle.multisets.proofs.Relations.{byOrder, sameTest}
-use Rattle.terms.proofs.MapLaws.{along, choose-map, cancel-map, multisetEqual-map, multisetGreater-map}
-use Rattle.terms.proofs.MapLaws.{rowGreater-map}
+use Rattle.multisets.proofs.MapLaws.{along, choose-map, cancel-map, multisetEqual-map, multisetGreater-map}
+use Rattle.multisets.proofs.MapLaws.{rowGreater-map}
 use Rattle.terms.proofs.TermLaws.{AgreeOn}
 use Rattle.terms.proofs.OrderLaws.{noneOftener-facts, decreasingMark-agree}
 use Rattle.terms.proofs.VariableLaws.{occurrences-past}

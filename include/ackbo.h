@@ -1,20 +1,24 @@
-/* The seven operations of libackbo.a, for C. Each is proved, for every input, to reply and to leave the lent memory as
-   its definition says (crates/operations/specs: Boundary, over Coding, Comparing, Picking, Variables,
+/* The eight operations of libackbo.a, for C. Each is proved, for every input, to reply and to leave the lent memory as
+   its definition says (crates/operations/specs: Boundary, over Coding, Converting, Comparing, Picking, Variables,
    Hashing and Marking).
 
    The caller owes this, and nothing else: each pointer is valid for its length, aligned, and not NULL even where the
    length is 0; reply has room for three numbers; what is written to overlaps nothing else that is lent.
 
-   The result is 0, or the number of the refusal, 1 to 16. Of a refusal reply holds the input at fault (0 the first), the
-   place (a bit of a book, a word of a sheet or a term, from 0), and 0. A refused call changes no other buffer. The
+   The result is 0, or the number of the refusal, 1 to 18. Of a refusal reply holds the input at fault (0 the first),
+   the place (a bit of a book, a word of a sheet or a term, from 0), and 0. A refused call changes no other buffer. The
    first fault in reading order is given, one input after another.
 
-   A book, input 0 but in ackbo_encode, is refused with 1 over 32,768 bytes, 2 a field does not fit, 3 its form is not
-   1, 4 it has no symbol, 5 w0 is 0, 6 an AC symbol's arity is not 2, 7 a weight is inadmissible, 8 an earlier symbol
-   has the rank, 9 a symbol number is too great, 10 a 129th node is called for, 11 more than padding follows the last
-   rule. A term is refused, at the word of a node, with 10 a 129th node is called for, 2 the word is missing, 14 it is
-   above 271, 9 it is a symbol number too great for the book; or, at the first word after the term, 15 words are left
-   over.
+   A book is of form 2: within a rule, left side first, a variable's first appearance takes the lowest unused number. A
+   book, input 0 but in ackbo_encode, is refused with 1 over 32,768 bytes, 2 a field does not fit, 3 its form is neither
+   1 nor 2, 4 it has no symbol, 5 w0 is 0, 6 an AC symbol's arity is not 2, 7 a weight is inadmissible, 8 an earlier
+   symbol has the rank, 9 a symbol number is too great, 10 a 129th node is called for, 11 more than padding follows the
+   last rule, 17 its form is 1, which ackbo_convert turns into 2, 18 a variable is out of turn, its number above the
+   count of different variables before it in its rule.
+
+   The variables of a term have any numbers, 0 to 15. A term is refused, at the word of a node, with 10 a 129th node is
+   called for, 2 the word is missing, 14 it is above 271, 9 it is a symbol number too great for the book; or, at the
+   first word after the term, 15 words are left over.
 
    Each call reads its whole book, which takes about 0.1 ms for the longest (docs/BENCHMARKS.md has times), and keeps
    nothing for the next one.
@@ -45,6 +49,13 @@ uint8_t ackbo_decode(const uint8_t *book, size_t book_len, uint16_t *words, size
 
 /* Closes a sheet to a book: writes its bytes at the front of book. reply: how many, 0, 0. */
 uint8_t ackbo_encode(const uint16_t *words, size_t words_len, uint8_t *book, size_t book_len, int64_t reply[3]);
+
+/* Converts a stored book of form 1 to form 2: writes its bytes, as many as it has, at the front of converted. reply:
+   how many, 0, 0. In each rule a variable gets the number of its first appearance, left side first; no other bit
+   changes but the form, and the marks are what they were. Refused are the book, with 1 to 11, where 3 is for every form
+   but 1, and then, with 16, a converted that is shorter than the book (input 1). */
+uint8_t ackbo_convert(const uint8_t *book, size_t book_len, uint8_t *converted, size_t converted_len,
+                      int64_t reply[3]);
 
 /* Compares two terms under a book. reply: the relation, the weight of the left less that of the right, 0. */
 uint8_t ackbo_compare(const uint8_t *book, size_t book_len, const uint16_t *left, size_t left_len,

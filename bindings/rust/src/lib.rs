@@ -1,5 +1,5 @@
 //! Safe functions over `libackbo.a`: opening, closing and marking of rule books, comparing of terms under them, picking
-//! the greater one, fingerprints of terms, and the variable test.
+//! the greater one, fingerprints of terms, the variable test, and converting stored books of form 1.
 //!
 //! Every reply, and every buffer afterwards, is proved to equal a definition, for every input: see the
 //! repository's `README.md`. A refused call leaves its buffers as they were.
@@ -7,7 +7,7 @@
 //! ```
 //! // Two constants of weight 1 with ranks 1 and 0; the rules 0 -> 1 and 1 -> 0.
 //! let book = [
-//!     0x10, 0x20, 0x00, 0x10, 0x08, 0x00, 0x00, 0x40, 0x40, 0x00, 0x04, 0x00, 0x00, 0x01, 0x00, 0x80, 0x00,
+//!     0x20, 0x20, 0x00, 0x10, 0x08, 0x00, 0x00, 0x40, 0x40, 0x00, 0x04, 0x00, 0x00, 0x01, 0x00, 0x80, 0x00,
 //! ];
 //! let mut marks = [0; 2];
 //! let marked = ackbo::mark(&book, &mut marks).unwrap();
@@ -83,13 +83,20 @@ pub mod sys {
             right_len: usize,
             reply: *mut [i64; 3],
         ) -> u8;
+        pub fn ackbo_convert(
+            book: *const u8,
+            book_len: usize,
+            converted: *mut u8,
+            converted_len: usize,
+            reply: *mut [i64; 3],
+        ) -> u8;
     }
 }
 
 /// The count of variables, which is the number that `ackbo_oftener` replies for none.
 const VARIABLES: i64 = 16;
 
-/// A refusal: its number, 1 to 16, the input at fault, 0 the first, and the place in it: a bit of a book, a word of a
+/// A refusal: its number, 1 to 18, the input at fault, 0 the first, and the place in it: a bit of a book, a word of a
 /// sheet or of a term.
 #[derive(Clone, Copy, Debug, PartialEq, Eq, Hash)]
 pub struct Error {
@@ -192,9 +199,9 @@ pub fn mark(book: &[u8], marks: &mut [u8]) -> Result<Marked, Error> {
 /// rule from the picked part to the other term. No part is picked where the terms are AC-equal or unrelated.
 ///
 /// # Errors
-/// The first that holds: of the book, input 0, refusals 1 to 11; of `left`, input 1, then of `right`, input 2, at the
-/// word of each node: 10, a 129th node is called for; 2, the word is missing; 14, it is above 271; 9, it is a symbol
-/// number too great for the book.
+/// The first that holds: of the book, input 0, refusals 1 to 11, 17 and 18; of `left`, input 1, then of `right`, input
+/// 2, at the word of each node: 10, a 129th node is called for; 2, the word is missing; 14, it is above 271; 9, it is a
+/// symbol number too great for the book.
 ///
 /// # Cost
 /// That of [`compare`] on the two terms: each call reads its whole book, then each term, and compares them. What
@@ -204,7 +211,7 @@ pub fn mark(book: &[u8], marks: &mut [u8]) -> Result<Marked, Error> {
 /// use ackbo::Side;
 ///
 /// // 01's sample: o, z, b are 0, 1, 2; + is 3 and AC; neg is 4 and sub 5; the variable u is 256.
-/// let sheet = [1, 6, 1, 0, 0, 0, 1, 0, 0, 0, 1, 1, 0, 0, 3, 2, 2, 1, 1, 3, 1, 0, 1, 4, 2, 0, 1, 5];
+/// let sheet = [2, 6, 1, 0, 0, 0, 1, 0, 0, 0, 1, 1, 0, 0, 3, 2, 2, 1, 1, 3, 1, 0, 1, 4, 2, 0, 1, 5];
 /// let mut book = [0; 26];
 /// assert_eq!(ackbo::encode(&sheet, &mut book), Ok(26));
 ///
@@ -243,16 +250,16 @@ pub fn pick<'a>(book: &[u8], left: &'a [u16], right: &'a [u16]) -> Result<Side<'
 /// drawer asks [`compare`] whether it is the one.
 ///
 /// # Errors
-/// The first that holds: of the book, input 0, refusals 1 to 11; of the term, input 1, at the word of each node: 10, a
-/// 129th node is called for; 2, the word is missing; 14, it is above 271; 9, it is a symbol number too great for the
-/// book; then 15, words are left over, at the first of them.
+/// The first that holds: of the book, input 0, refusals 1 to 11, 17 and 18; of the term, input 1, at the word of each
+/// node: 10, a 129th node is called for; 2, the word is missing; 14, it is above 271; 9, it is a symbol number too
+/// great for the book; then 15, words are left over, at the first of them.
 ///
 /// # Cost
 /// Each call reads its whole book; past that, the cost grows with the nodes of the term, however its bags nest.
 ///
 /// ```
 /// // 01's sample: o, z, b are 0, 1, 2; + is 3 and AC; neg is 4 and sub 5; the variable u is 256.
-/// let sheet = [1, 6, 1, 0, 0, 0, 1, 0, 0, 0, 1, 1, 0, 0, 3, 2, 2, 1, 1, 3, 1, 0, 1, 4, 2, 0, 1, 5];
+/// let sheet = [2, 6, 1, 0, 0, 0, 1, 0, 0, 0, 1, 1, 0, 0, 3, 2, 2, 1, 1, 3, 1, 0, 1, 4, 2, 0, 1, 5];
 /// let mut book = [0; 26];
 /// assert_eq!(ackbo::encode(&sheet, &mut book), Ok(26));
 ///
@@ -282,16 +289,16 @@ pub fn fingerprint(book: &[u8], term: &[u16]) -> Result<u32, Error> {
 /// variable out of the right side, or puts it into the left one, and asks again for the next.
 ///
 /// # Errors
-/// Those of [`compare`], the first that holds: of the book, input 0, refusals 1 to 11; of `left`, input 1, then of
-/// `right`, input 2, at the word of each node: 10, a 129th node is called for; 2, the word is missing; 14, it is above
-/// 271; 9, it is a symbol number too great for the book; then 15, words are left over, at the first of them.
+/// Those of [`compare`], the first that holds: of the book, input 0, refusals 1 to 11, 17 and 18; of `left`, input 1,
+/// then of `right`, input 2, at the word of each node: 10, a 129th node is called for; 2, the word is missing; 14, it
+/// is above 271; 9, it is a symbol number too great for the book; then 15, words are left over, at the first of them.
 ///
 /// # Cost
 /// Each call reads its whole book; past that, the cost grows with the nodes of the two terms, which are not compared.
 ///
 /// ```
 /// // 01's sample: o, z, b are 0, 1, 2; + is 3 and AC; neg is 4 and sub 5; the variables u, v, w are 256, 257, 258.
-/// let sheet = [1, 6, 1, 0, 0, 0, 1, 0, 0, 0, 1, 1, 0, 0, 3, 2, 2, 1, 1, 3, 1, 0, 1, 4, 2, 0, 1, 5];
+/// let sheet = [2, 6, 1, 0, 0, 0, 1, 0, 0, 0, 1, 1, 0, 0, 3, 2, 2, 1, 1, 3, 1, 0, 1, 4, 2, 0, 1, 5];
 /// let mut book = [0; 26];
 /// assert_eq!(ackbo::encode(&sheet, &mut book), Ok(26));
 ///
@@ -310,6 +317,43 @@ pub fn oftener(book: &[u8], left: &[u16], right: &[u16]) -> Result<Option<u8>, E
         sys::ackbo_oftener(book.as_ptr(), book.len(), left.as_ptr(), left.len(), right.as_ptr(), right.len(), reply)
     })
     .map(|[variable, _, _]| (variable < VARIABLES).then_some(variable as u8))
+}
+
+/// Converts a stored book of form 1 to one of form 2: writes its bytes at the front of `converted`, and gives their
+/// number, which is the length of `book`.
+///
+/// In each rule a variable gets the number of its first appearance, left side first. No other bit changes but the form,
+/// and the converted book has the marks that the old one had. Every other operation refuses a book of form 1 with 17,
+/// and reads what this one writes.
+///
+/// # Errors
+/// The first that holds: of the book, input 0, refusals 1 to 11, where 3 is for every form but 1; then 16, `converted`
+/// is shorter than the book, input 1 at 0.
+///
+/// # Cost
+/// That of [`decode`] and of writing the bytes.
+///
+/// ```
+/// // 01's sample in form 1 with the rule v+u -> u, and in form 2 with the rule u+v -> v.
+/// let old = [
+///     0x10, 0x60, 0x00, 0x10, 0x04, 0x00, 0x00, 0x40, 0x00, 0x00, 0x04, 0x04, 0x00, 0x00, 0xc0, 0x94, 0x00, 0x04,
+///     0x0c, 0x80, 0x00, 0x41, 0x10, 0x00, 0x04, 0x14, 0x07, 0x18, 0x40,
+/// ];
+/// let mut book = [0xff; 32];
+/// assert_eq!(ackbo::convert(&old, &mut book), Ok(29));
+/// assert_eq!((book[0], &book[1..27], &book[27..29]), (0x20, &old[1..27], &[0x08, 0xc4][..]));
+/// assert_eq!(ackbo::mark(&book[..29], &mut [0]).unwrap().falling, 1);
+///
+/// // No other operation reads the old one, and the converter does not read the new one.
+/// assert_eq!(ackbo::mark(&old, &mut [0]).unwrap_err().code, 17);
+/// assert_eq!(ackbo::convert(&book[..29], &mut [0; 29]).unwrap_err().code, 3);
+/// let error = ackbo::convert(&old, &mut [0; 28]).unwrap_err();
+/// assert_eq!((error.code, error.input, error.offset), (16, 1, 0));
+/// ```
+pub fn convert(book: &[u8], converted: &mut [u8]) -> Result<usize, Error> {
+    let (output, room) = (converted.as_mut_ptr(), converted.len());
+    call(|reply| unsafe { sys::ackbo_convert(book.as_ptr(), book.len(), output, room, reply) })
+        .map(|[count, _, _]| count as usize)
 }
 
 /// The three numbers of an acceptance, or the refusal that they describe.

@@ -1,5 +1,6 @@
 -- The numbers of every reply are below 2^63, so that they fit the values that cross the boundary.
---     decoded-small, encoded-small, compared-small, picked-small     of an answer's count, and of an error's offset
+--     decoded-small, encoded-small, converted-small, compared-small, picked-small    of an answer's count, and of an
+--                                                      error's offset
 --     oftener-small                                    of a variable's number, and of an error's offset
 --     fingerprinted-small                              of a fingerprint, and of an error's offset
 --     marked-small                                     of the counts and the score, and of an error's offset
@@ -21,11 +22,12 @@ use Rattle.terms.specs.Oftener.{firstOftener}
 use Rattle.terms.proofs.OftenerLaws.{firstOftener-le}
 use Rattle.terms.proofs.Theorems.{fingerprint-fits}
 use Rattle.format.specs.Errors.{wordsTooShort, bytesTooShort, fileTooLong, marksTooShort}
-use Rattle.format.specs.Layout.{maxBytes}
+use Rattle.format.specs.Layout.{firstForm, formNumber, maxBytes}
 use Rattle.format.specs.Reading.{Reading}
 use Rattle.format.specs.Reading.Reading.{got, fault}
 use Rattle.format.specs.Format.{RuleFile, systemOf}
-use Rattle.format.specs.Files.{readBytes, readWords, readFirstTerm, readTerm}
+use Rattle.format.specs.Conversion.{convertedFile}
+use Rattle.format.specs.Files.{readBytesIn, readBytes, readWords, readFirstTerm, readTerm}
 use Rattle.format.specs.Packing.{packed, unpacked}
 use Rattle.operations.specs.declared.Error.{Error}
 use Rattle.operations.specs.declared.Summary.{Summary}
@@ -33,7 +35,9 @@ use Rattle.operations.specs.Replies.{Reply, Written, _>>=_, _>>_, fromInput, de
 use Rattle.operations.specs.Replies.Reply.{accepted, refused}
 use Rattle.format.specs.Statements.IsRead.{fromBytes}
 use Rattle.operations.specs.Coding.{write, decoded, encoded}
+use Rattle.operations.specs.Converting.{converted}
 use Rattle.ackbo.specs.Numbers.{Small, numberOf, countOf, wordsOf}
+use Rattle.format.proofs.FaultLaws.{fault-small}
 use Rattle.format.proofs.Theorems.{readable-well-formed, read-term-well-formed, faults-within}
 use Rattle.operations.specs.Inputs.{TermReader, Inputs, readTerms, readInputs}
 use Rattle.operations.specs.Comparing.{comparison, compared}
@@ -44,7 +48,6 @@ use Rattle.operations.proofs.PickingLaws.{SideWithin, picked-accepted, picked-w
 use Rattle.operations.specs.declared.GreaterSide.{GreaterSide}
 use Rattle.operations.specs.declared.GreaterSide.the-variants.{Left, Right, Equivalent, Unrelated}
 use Rattle.operations.specs.Marking.{summaryOf, marksOf, isDecreasing, decreasingCount, marked}
-use Rattle.marking.proofs.MarkLaws.{fault-small}
 
 abbrev nought : {A : Type 0} → A → ℕ
 nought a = 0
@@ -82,8 +85,8 @@ write-small code front output h =
     (accepted (record { value = length front; front = front }))
     λ t. omega (arith, leb-true (length front) (length output) t)
 
-book-small : (bytes : List ℕ) (code offset : ℕ) → readBytes bytes ≡ fault code offset → Small offset
-book-small bytes code offset e = omega (arith, fault-small bytes code offset e)
+book-small : (form : ℕ) (bytes : List ℕ) (code offset : ℕ) → readBytesIn form bytes ≡ fault code offset → Small offset
+book-small form bytes code offset e = omega (arith, fault-small bytes form code offset e)
 
 pub decoded-small : (bytes words : List ℕ) → Small (length words) → Small
     (numberOf countOf (decoded bytes words .reply))
@@ -91,7 +94,7 @@ unfolding decoded
 decoded-small bytes words h =
     let k : RuleFile → Reply (Written ℕ) = λ file. write wordsTooShort (unpacked file) words in
     outcome-small countOf (_>>=_ (fromInput 0 (readBytes bytes)) k) words
-    (read-small count 0 (readBytes bytes) k (book-small bytes)
+    (read-small count 0 (readBytes bytes) k (book-small formNumber bytes)
     λ file end e. write-small wordsTooShort (unpacked file) words h)
 
 pub encoded-small : (words bytes : List ℕ) → Small (length words) → Small (length bytes) →
@@ -106,6 +109,18 @@ encoded-small words bytes h g =
     λ file end e. demand-small count (leb (length (packed file)) maxBytes) fileTooLong 0 (last file)
     λ t. write-small bytesTooShort (packed file) bytes g)
 
+pub converted-small : (bytes output : List ℕ) → Small (length bytes) →
+    Small (numberOf countOf (converted bytes output .reply))
+unfolding converted
+converted-small bytes output h =
+    let last : RuleFile → Reply (Written ℕ) =
+    λ file. accepted (record { value = length bytes; front = packed (convertedFile file) }) in
+    let k : RuleFile → Reply (Written ℕ) =
+    λ file. _>>_ (demand (leb (length bytes) (length output)) bytesTooShort 1) (last file) in
+    outcome-small countOf (_>>=_ (fromInput 0 (readBytesIn firstForm bytes)) k) output
+    (read-small count 0 (readBytesIn firstForm bytes) k (book-small firstForm bytes)
+    λ file end e. demand-small count (leb (length bytes) (length output)) bytesTooShort 1 (last file) λ t. h)
+
 -- What is replied of two terms that were read, by a reader whose faults lie within the words.
 inputs-small : {A : Type 0} (m : A → ℕ) (reader : TermReader) (answer : Inputs → A) (bytes left right : List ℕ) →
     ((σ : Signature) (words : List ℕ) (code offset : ℕ) → reader σ words ≡ fault code offset → offset ≤ length words) →
@@ -115,7 +130,8 @@ inputs-small : {A : Type 0} (m : A → ℕ) (reader : TermReader) (answer : Inpu
 unfolding readInputs readTerms
 inputs-small m reader answer bytes left right within h g k =
     go (readInputs reader bytes left right) k
-    (read-small nought 0 (readBytes bytes) (λ file. readTerms reader (file .signature) left right) (book-small bytes)
+    (read-small nought 0 (readBytes bytes) (λ file. readTerms reader (file .signature) left right)
+    (book-small formNumber bytes)
     λ file end e. let σ = file .signature in
     read-small nought 1 (reader σ left) _ (λ code offset e. omega (arith, within σ left code offset e))
     λ s end e. read-small nought 2 (reader σ right) _ (λ code offset e. omega (arith, within σ right code offset e))
@@ -161,7 +177,8 @@ pub fingerprinted-small : (bytes words : List ℕ) → Small (length words) →
     Small (numberOf countOf (fingerprinted bytes words))
 unfolding fingerprinted fingerprintedTerm
 fingerprinted-small bytes words h =
-    read-small countOf 0 (readBytes bytes) (λ file. fingerprintedTerm (file .signature) words) (book-small bytes)
+    read-small countOf 0 (readBytes bytes) (λ file. fingerprintedTerm (file .signature) words)
+    (book-small formNumber bytes)
     λ file end e. let σ = file .signature in
     let few = readable-well-formed file (fromBytes bytes end e) .0 .within .symbolCount in
     read-small countOf 1 (readTerm σ words) (λ t. accepted (fingerprint σ (termOf σ t)))
@@ -184,7 +201,7 @@ marked-small bytes marks m h =
     let k : RuleFile → Reply (Written Summary) =
     λ file. _>>_ (demand (leb (length (file .rules)) (length marks)) marksTooShort 1) (last file) in
     outcome-small m (_>>=_ (fromInput 0 (readBytes bytes)) k) marks
-    (read-small value 0 (readBytes bytes) k (book-small bytes)
+    (read-small value 0 (readBytes bytes) k (book-small formNumber bytes)
     λ file end e. demand-small value (leb (length (file .rules)) (length marks)) marksTooShort 1 (last file)
     λ t. h file (readable-well-formed file (fromBytes bytes end e) .0 .within .ruleCount))
 

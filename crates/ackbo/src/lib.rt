@@ -5,6 +5,7 @@ ghost use Prim.Native.Nat.{_<_};
 ghost use lib.IntN.{pos};
 ghost use lib.Seq.{sets};
 ghost use Rattle.operations.specs.Coding.{decoded, encoded};
+ghost use Rattle.operations.specs.Converting.{converted};
 ghost use Rattle.operations.specs.Comparing.{compared};
 ghost use Rattle.operations.specs.Picking.{picked};
 ghost use Rattle.operations.specs.Variables.{oftener};
@@ -105,6 +106,18 @@ pub extern "C" fn ackbo_encode(words: &[u16], book: &mut [u8], reply: &mut [i64;
     ensures { λ _. ⌜ now (book .exit) ≡ encoded (now (words .entry)) (now (book .entry)) .output ⌝ }
 {
     put_number(reply, encoder::encode(words, book))
+}
+
+#[no_mangle]
+pub extern "C" fn ackbo_convert(book: &[u8], out: &mut [u8], reply: &mut [i64; 3]) -> u8
+    ensures { λ r. ⌜ r ≡ codeOf (converted (now (book .entry)) (now (out .entry)) .reply) ⌝ }
+    ensures { λ _. ⌜
+        now (reply .exit)
+        ≡ sets (now (reply .entry)) 0 (valuesOf numberValues (converted (now (book .entry)) (now (out .entry)) .reply))
+        ⌝ }
+    ensures { λ _. ⌜ now (out .exit) ≡ converted (now (book .entry)) (now (out .entry)) .output ⌝ }
+{
+    put_number(reply, converter::convert(book, out))
 }
 
 #[no_mangle]

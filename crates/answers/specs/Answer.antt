@@ -12,10 +12,14 @@ abbrev pub readingOf : {A : Type 0} → (ℕ → A) → Answer → Reading A
 readingOf meaning (Got value next) = got (meaning value) next
 readingOf meaning (Fault offset code) = fault code offset
 
+-- The answer to a reading of which a number and the end are told.
+abbrev pub answered : {A : Type 0} → (A → ℕ) → Reading A → Answer
+answered value (got a next) = Got (value a) next
+answered value (fault code offset) = Fault offset code
+
 -- The answer to a reading of which the end alone is told.
 abbrev pub endOf : {A : Type 0} → Reading A → Answer
-endOf (got a next) = Got 0 next
-endOf (fault code offset) = Fault offset code
+endOf r = answered (λ _. 0) r
 
 -- The value is below that, and an error's code has six bits and is not 0.
 abbrev pub Fits : ℕ → Answer → Type 0
@@ -27,6 +31,6 @@ abbrev pub Within : ℕ → ℕ → Answer → Type 0
 Within most last (Got value next) = (value ≤ most) × (next ≤ last)
 Within most last (Fault offset code) = Unit {0}
 
--- A number has an error's code, or 0, in its last six bits, a value in the eight before them, and then an offset.
+-- A number has an error's code, or 0, in its last six bits, a value in the 13 before them, and then an offset.
 abbrev pub answerOf : ℕ → Answer
-answerOf n = cond (eqb (n % 64) 0) (Got (n / 64 % 256) (n / 16384)) (Fault (n / 16384) (n % 64))
+answerOf n = cond (eqb (n % 64) 0) (Got (n / 64 % 8192) (n / 524288)) (Fault (n / 524288) (n % 64))

@@ -12,18 +12,18 @@ pub enum Answer {
 
 // A value and the next offset as one number.
 pub fn pack_value(value: usize, next: usize) -> usize
-    requires { ⌜ (value < 256) × (next < 2 ^ 48) ⌝ }
+    requires { ⌜ (value < 8192) × (next < 2 ^ 44) ⌝ }
     ensures { λ r. ⌜ answerOf r ≡ Got value next ⌝ }
 {
-    (next * 256 + value) * 64
+    (next * 8192 + value) * 64
 }
 
 // A fault as one number.
 pub fn pack_fault(code: u8, offset: usize) -> usize
-    requires { ⌜ (0 < code) × (code < 64) × (offset < 2 ^ 48) ⌝ }
+    requires { ⌜ (0 < code) × (code < 64) × (offset < 2 ^ 44) ⌝ }
     ensures { λ r. ⌜ answerOf r ≡ Fault offset code ⌝ }
 {
-    offset * 16384 + code as usize
+    offset * 524288 + code as usize
 }
 
 // The answer that a number stands for.
@@ -31,10 +31,10 @@ pub fn unpack(number: usize) -> Answer
     ensures { λ r. ⌜ r ≡ answerOf number ⌝ }
 {
     let code = number % 64;
-    let offset = number / 16384;
+    let offset = number / 524288;
     if code == 0 {
         return Answer::Got {
-            value: number / 64 % 256,
+            value: number / 64 % 8192,
             next: offset,
         };
     }

@@ -6,17 +6,17 @@ use crate::print::show;
 // 000, example 5.3: f > + > g > a > b > h.
 #[rattlefmt::skip]
 const EXAMPLE_5_3: [u16; 86] = [
-    1, 6, 1, 7,                      // form, K, w0, N
+    2, 6, 1, 7,                      // form, K, w0, N
     2, 0, 0, 0,                      // h
     0, 0, 1, 1,                      // b
     0, 0, 1, 2,                      // a
     1, 0, 2, 3,                      // g
     2, 1, 0, 4,                      // +
     1, 0, 1, 5,                      // f
-    5, 4, 259, 260,  4, 5, 259, 260, // f(x+y) -> f(x)+y
+    5, 4, 256, 257,  4, 5, 256, 257, // f(x+y) -> f(x)+y
     0, 2, 1,  0, 1, 2,               // h(a,b) -> h(b,a)
     0, 3, 2, 2,  0, 2, 3, 1,         // h(g(a),a) -> h(a,g(b))
-    4, 3, 259, 260,  3, 4, 259, 260, // g(x)+y -> g(x+y)
+    4, 3, 256, 257,  3, 4, 256, 257, // g(x)+y -> g(x+y)
     0, 2, 3, 3, 2,  0, 3, 2, 5, 2,   // h(a,g(g(a))) -> h(g(a),f(a))
     0, 3, 2, 1,  0, 2, 3, 2,         // h(g(a),b) -> h(a,g(a))
     4, 5, 2, 3, 1,  4, 5, 1, 3, 2,   // f(a)+g(b) -> f(b)+g(a)
@@ -25,17 +25,17 @@ const EXAMPLE_5_3: [u16; 86] = [
 // The same rules from right to left.
 #[rattlefmt::skip]
 const EXAMPLE_5_3_REVERSED: [u16; 86] = [
-    1, 6, 1, 7,                      // form, K, w0, N
+    2, 6, 1, 7,                      // form, K, w0, N
     2, 0, 0, 0,                      // h
     0, 0, 1, 1,                      // b
     0, 0, 1, 2,                      // a
     1, 0, 2, 3,                      // g
     2, 1, 0, 4,                      // +
     1, 0, 1, 5,                      // f
-    4, 5, 259, 260,  5, 4, 259, 260, // f(x)+y -> f(x+y)
+    4, 5, 256, 257,  5, 4, 256, 257, // f(x)+y -> f(x+y)
     0, 1, 2,  0, 2, 1,               // h(b,a) -> h(a,b)
     0, 2, 3, 1,  0, 3, 2, 2,         // h(a,g(b)) -> h(g(a),a)
-    3, 4, 259, 260,  4, 3, 259, 260, // g(x+y) -> g(x)+y
+    3, 4, 256, 257,  4, 3, 256, 257, // g(x+y) -> g(x)+y
     0, 3, 2, 5, 2,  0, 2, 3, 3, 2,   // h(g(a),f(a)) -> h(a,g(g(a)))
     0, 2, 3, 2,  0, 3, 2, 1,         // h(a,g(a)) -> h(g(a),b)
     4, 5, 1, 3, 2,  4, 5, 2, 3, 1,   // f(b)+g(a) -> f(a)+g(b)
@@ -44,35 +44,35 @@ const EXAMPLE_5_3_REVERSED: [u16; 86] = [
 // 000, example 7.3: g > + > f > a. Its first rule reversed, its second, and its first as it stands.
 #[rattlefmt::skip]
 const EXAMPLE_7_3: [u16; 52] = [
-    1, 4, 1, 3,                                       // form, K, w0, N
+    2, 4, 1, 3,                                       // form, K, w0, N
     0, 0, 1, 0,                                       // a
     1, 0, 3, 1,                                       // f
     2, 1, 0, 2,                                       // +
     1, 0, 1, 3,                                       // g
-    2, 3, 259, 2, 3, 259, 3, 259,  2, 1, 259, 3, 259, // g(x)+(g(x)+g(x)) -> f(x)+g(x)
-    1, 259,  2, 3, 259, 0,                            // f(x) -> g(x)+a
-    2, 1, 259, 3, 259,  2, 3, 259, 2, 3, 259, 3, 259, // f(x)+g(x) -> g(x)+(g(x)+g(x))
+    2, 3, 256, 2, 3, 256, 3, 256,  2, 1, 256, 3, 256, // g(x)+(g(x)+g(x)) -> f(x)+g(x)
+    1, 256,  2, 3, 256, 0,                            // f(x) -> g(x)+a
+    2, 1, 256, 3, 256,  2, 3, 256, 2, 3, 256, 3, 256, // f(x)+g(x) -> g(x)+(g(x)+g(x))
 ];
 
 // 000, example 9.1, with e for the empty bit sequence.
 #[rattlefmt::skip]
 const EXAMPLE_9_1: [u16; 58] = [
-    1, 4, 1, 5,                               // form, K, w0, N
+    2, 4, 1, 5,                               // form, K, w0, N
     0, 0, 1, 0,                               // e
     1, 0, 1, 1,                               // zero
     1, 0, 3, 2,                               // one
     2, 1, 0, 3,                               // +
     3, 0, 1, 0,  0,                           // e+zero(e) -> e
-    3, 259, 0,  259,                          // x+e -> x
-    3, 1, 259, 1, 260,  1, 3, 259, 260,       // zero(x)+zero(y) -> zero(x+y)
-    3, 1, 259, 2, 260,  2, 3, 259, 260,       // zero(x)+one(y) -> one(x+y)
-    3, 2, 259, 2, 260,  1, 3, 3, 259, 260, 0, // one(x)+one(y) -> zero((x+y)+e)
+    3, 256, 0,  256,                          // x+e -> x
+    3, 1, 256, 1, 257,  1, 3, 256, 257,       // zero(x)+zero(y) -> zero(x+y)
+    3, 1, 256, 2, 257,  2, 3, 256, 257,       // zero(x)+one(y) -> one(x+y)
+    3, 2, 256, 2, 257,  1, 3, 3, 256, 257, 0, // one(x)+one(y) -> zero((x+y)+e)
 ];
 
 // 000, example 6.6, for the clause {x, not y, not z}, its symbols x, y and z named p, q and r: true where above +.
 #[rattlefmt::skip]
 const EXAMPLE_6_6: [u16; 96] = [
-    1, 11, 1, 1, // form, K, w0, N
+    2, 11, 1, 1, // form, K, w0, N
     0, 0, 1, 0,  // c
     0, 0, 9, 1,  // d
     1, 0, 1, 2,  // b
@@ -129,7 +129,7 @@ fn example_6_6() {
 // 000, the base systems before lemma 6.5 and of section A.3, for two symbols p and q.
 #[rattlefmt::skip]
 const BASE_SYSTEMS: [u16; 96] = [
-    1, 8, 1, 9,              // form, K, w0, N
+    2, 8, 1, 9,              // form, K, w0, N
     0, 0, 1, 0,              // c
     1, 0, 2, 1,              // b
     1, 0, 2, 2,              // p
@@ -152,13 +152,13 @@ const BASE_SYSTEMS: [u16; 96] = [
 // 000, examples 4.6 and 4.9: the second rule is the first in the context + c.
 #[rattlefmt::skip]
 const EXAMPLES_4_6_AND_4_9: [u16; 40] = [
-    1, 4, 1, 2,                            // form, K, w0, N
+    2, 4, 1, 2,                            // form, K, w0, N
     0, 0, 1, 0,                            // c
     2, 1, 1, 1,                            // +
     1, 0, 1, 2,                            // f
     2, 0, 1, 3,                            // g
-    3, 2, 0, 259,  3, 0, 2, 0,             // g(f(c),x) -> g(c,f(c))
-    1, 3, 2, 0, 259, 0,  1, 3, 0, 2, 0, 0, // g(f(c),x)+c -> g(c,f(c))+c
+    3, 2, 0, 256,  3, 0, 2, 0,             // g(f(c),x) -> g(c,f(c))
+    1, 3, 2, 0, 256, 0,  1, 3, 0, 2, 0, 0, // g(f(c),x)+c -> g(c,f(c))+c
 ];
 
 pub fn run() {

@@ -6,19 +6,19 @@ use crate::print::show;
 // 000, examples 4.5, 4.8 and 4.11, and 004, examples 3.7 and 3.9, f of weight 1, not 0.
 #[rattlefmt::skip]
 const SYMBOL_OVER_VARIABLE: [u16; 29] = [
-    1, 3, 1, 3,                   // form, K, w0, N
+    2, 3, 1, 3,                   // form, K, w0, N
     0, 0, 1, 0,                   // c
     2, 1, 1, 1,                   // +
     1, 0, 1, 2,                   // f
     2, 0,  0,                     // f(c) -> c
-    2, 259,  259,                 // f(x) -> x
-    1, 2, 259, 260,  1, 259, 260, // f(x)+y -> x+y
+    2, 256,  256,                 // f(x) -> x
+    1, 2, 256, 257,  1, 256, 257, // f(x)+y -> x+y
 ];
 
 // 000, examples 3.2 and 4.3, and 004, example 3.4 and section 4, f of weight 1, not 0: rule 2 both ways, and rule 1.
 #[rattlefmt::skip]
 const SYSTEM_R1: [u16; 45] = [
-    1, 3, 1, 3,                    // form, K, w0, N
+    2, 3, 1, 3,                    // form, K, w0, N
     0, 0, 1, 1,                    // a
     2, 1, 0, 0,                    // +
     1, 0, 1, 2,                    // f
@@ -50,42 +50,42 @@ fn system_r1() {
 // 004, examples 3.1 and 3.2: the top-flattening of (a+b)+a, and the parts of one for f > + > g.
 #[rattlefmt::skip]
 const EXAMPLES_3_1_AND_3_2: [u16; 82] = [
-    1, 5, 1, 3,                               // form, K, w0, N
+    2, 5, 1, 3,                               // form, K, w0, N
     0, 0, 1, 0,                               // b
     0, 0, 1, 1,                               // a
     1, 0, 1, 2,                               // g
     2, 1, 1, 3,                               // +
     1, 0, 1, 4,                               // f
     3, 3, 1, 0, 1,  3, 1, 3, 1, 0,            // (a+b)+a -> a+(a+b)
-    3, 3, 3, 3, 4, 1, 2, 0, 2, 259, 259, 260, // f(a)+g(b)+g(x)+x+y
-    3, 3, 3, 3, 4, 0, 2, 1, 2, 259, 259, 260, // -> f(b)+g(a)+g(x)+x+y
-    3, 3, 3, 3, 4, 0, 2, 1, 2, 259, 259, 260, // f(b)+g(a)+g(x)+x+y
-    3, 3, 3, 3, 4, 0, 2, 0, 2, 259, 259, 260, // -> f(b)+g(b)+g(x)+x+y
+    3, 3, 3, 3, 4, 1, 2, 0, 2, 256, 256, 257, // f(a)+g(b)+g(x)+x+y
+    3, 3, 3, 3, 4, 0, 2, 1, 2, 256, 256, 257, // -> f(b)+g(a)+g(x)+x+y
+    3, 3, 3, 3, 4, 0, 2, 1, 2, 256, 256, 257, // f(b)+g(a)+g(x)+x+y
+    3, 3, 3, 3, 4, 0, 2, 0, 2, 256, 256, 257, // -> f(b)+g(b)+g(x)+x+y
 ];
 
 // 001, section 5: c + d is above g(c) in every context.
 #[rattlefmt::skip]
 const SECTION_5: [u16; 60] = [
-    1, 5, 1, 4,                           // form, K, w0, N
+    2, 5, 1, 4,                           // form, K, w0, N
     0, 0, 1, 0,                           // c
     0, 0, 1, 1,                           // d
     1, 0, 1, 2,                           // g
     2, 1, 0, 3,                           // +
     1, 0, 1, 4,                           // h
     3, 0, 1,  2, 0,                       // c+d -> g(c)
-    3, 3, 259, 0, 1,  3, 259, 2, 0,       // (x+c)+d -> x+g(c)
-    3, 3, 4, 259, 0, 1,  3, 4, 259, 2, 0, // (h(x)+c)+d -> h(x)+g(c)
-    3, 3, 2, 259, 0, 1,  3, 2, 259, 2, 0, // (g(x)+c)+d -> g(x)+g(c)
+    3, 3, 256, 0, 1,  3, 256, 2, 0,       // (x+c)+d -> x+g(c)
+    3, 3, 4, 256, 0, 1,  3, 4, 256, 2, 0, // (h(x)+c)+d -> h(x)+g(c)
+    3, 3, 2, 256, 0, 1,  3, 2, 256, 2, 0, // (g(x)+c)+d -> g(x)+g(c)
 ];
 
 // 001, section 2.1: a proper superset is greater.
 #[rattlefmt::skip]
 const SECTION_2_1: [u16; 29] = [
-    1, 3, 1, 1,                                   // form, K, w0, N
+    2, 3, 1, 1,                                   // form, K, w0, N
     0, 0, 2, 0,                                   // o
     2, 1, 1, 1,                                   // +
     1, 0, 1, 2,                                   // h
-    1, 1, 2, 259, 2, 259, 0,  1, 2, 259, 1, 0, 0, // (h(x)+h(x))+o -> h(x)+(o+o)
+    1, 1, 2, 256, 2, 256, 0,  1, 2, 256, 1, 0, 0, // (h(x)+h(x))+o -> h(x)+(o+o)
 ];
 
 pub fn run() {

@@ -11,10 +11,10 @@ use crate::print::print_report;
 const MAX_WORDS: usize = 29128;
 
 // A sheet where w0 is 2, of one constant, of weight 2, and no rule.
-const WEIGHT_2: [u16; 8] = [1, 1, 2, 0, 0, 0, 2, 0];
+const WEIGHT_2: [u16; 8] = [2, 1, 2, 0, 0, 0, 2, 0];
 
 // The same with a constant of weight 1.
-const WEIGHT_1: [u16; 8] = [1, 1, 2, 0, 0, 0, 1, 0];
+const WEIGHT_1: [u16; 8] = [2, 1, 2, 0, 0, 0, 1, 0];
 
 // Stores rules f(..f(c)) -> c, each with that many f, from word 12 of a sheet of zeros, which stand for f, and gives the
 // index past them.
@@ -41,7 +41,7 @@ fn close_towers(rules: u16, height: usize, book: &mut [u8]) -> usize
 {
     let mut sheet = [0u16; MAX_WORDS];
     // Form, K, w0, N.
-    sheet[0] = 1;
+    sheet[0] = 2;
     sheet[1] = 2;
     sheet[2] = 1;
     sheet[3] = rules;

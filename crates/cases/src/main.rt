@@ -1,12 +1,15 @@
-// Runs 01's sample cases, its limits and the articles' examples by the proved operations, and prints what comes out.
+// Runs 01's sample cases, its limits, 02's forms and the articles' examples by the proved operations, and prints what
+// comes out.
 mod document_000;
 mod documents_001_004;
+mod forms;
 mod limits;
 mod print;
 mod sample;
 
 fn main() {
     sample::run();
+    forms::run();
     document_000::run();
     documents_001_004::run();
     limits::run();

@@ -13,7 +13,7 @@ use hashing::fingerprint;
 // The sample; where 01 does not group a sum, each grouping is a rule.
 #[rattlefmt::skip]
 const SAMPLE: [u16; 149] = [
-    1, 6, 1, 20,                         // form, K, w0, N
+    2, 6, 1, 20,                         // form, K, w0, N
     0, 0, 1, 0,                          // o
     0, 0, 1, 1,                          // z
     0, 0, 3, 2,                          // b
@@ -45,7 +45,7 @@ const SAMPLE: [u16; 149] = [
 // Traps that show in the sample.
 #[rattlefmt::skip]
 const SAMPLE_TRAPS: [u16; 135] = [
-    1, 6, 1, 13,                                           // form, K, w0, N
+    2, 6, 1, 13,                                           // form, K, w0, N
     0, 0, 1, 0,                                            // o
     0, 0, 1, 1,                                            // z
     0, 0, 3, 2,                                            // b
@@ -73,7 +73,7 @@ const SAMPLE_TRAPS: [u16; 135] = [
 // Traps of top-flattenings: constants o < z < c < d, then g < + < * < h.
 #[rattlefmt::skip]
 const TRAPS: [u16; 287] = [
-    1, 8, 1, 23,                                          // form, K, w0, N
+    2, 8, 1, 23,                                          // form, K, w0, N
     0, 0, 1, 0,                                           // o
     0, 0, 1, 1,                                           // z
     0, 0, 2, 2,                                           // c
@@ -108,7 +108,7 @@ const TRAPS: [u16; 287] = [
     5, 5, 7, 1, 2, 0,  5, 5, 7, 1, 7, 0, 0,               // (h(z)+c)+o -> (h(z)+h(o))+o
     // All members are counted, variables too.
     5, 5, 256, 257, 0,  5, 256, 4, 0,                     // (u+v)+o -> u+g(o)
-    5, 5, 7, 1, 257, 0,  5, 7, 1, 4, 0,                   // (h(z)+v)+o -> h(z)+g(o)
+    5, 5, 7, 1, 256, 0,  5, 7, 1, 4, 0,                   // (h(z)+u)+o -> h(z)+g(o)
     5, 5, 0, 0, 1,  5, 4, 0, 1,                           // (o+o)+z -> g(o)+z
     5, 4, 0, 1,  5, 5, 0, 0, 1,                           // g(o)+z -> (o+o)+z
     5, 4, 0, 256,  5, 5, 0, 0, 256,                       // g(o)+u -> (o+o)+u
@@ -174,5 +174,5 @@ pub fn run() {
     show(b"traps\n", &TRAPS);
     terms();
     print(b"listing\n");
-    print_report(b"\x10\x20\x00\x10\x08\x00\x00\x40\x40\x00\x04\x00\x00\x01\x00\x80\x00");
+    print_report(b"\x20\x20\x00\x10\x08\x00\x00\x40\x40\x00\x04\x00\x00\x01\x00\x80\x00");
 }

@@ -1,32 +1,36 @@
 -- What the code that decodes has to show.
 --     stored-file          the words of a file, stored in three parts
 --     decode-fault, decode-short, decode-written   the reply and the words afterwards
---     word-count, nodes-few, nodes-front   a file whose nodes were stored elsewhere
+--     symbol-count, rule-count, word-count, nodes-few, nodes-front   a file whose nodes were stored elsewhere
 use mathlib.Core.Path.{_≡_, refl, sym, ap, _∙_}
-use mathlib.Core.List.{List, [], _∷_, _++_}
+use mathlib.Core.List.{List, [], _∷_, _++_, map}
 use mathlib.Core.Bool.{true}
 use Prim.Native.Nat.{ℕ, _+_, _*_, _≤_, _<_}
 use native.Mathlib.Omega.{arith}
 use native.Mathlib.Nat.{zero-add}
 use borrow.Author.Tests.{lt-leb, le-leb}
-use lib.ListN.{length, take, drop}
+use lib.Dec.{eqb}
+use lib.ListN.{length, length-append, length-map, take, drop}
 use lib.Seq.{sets, sets-eq, take-append-seam}
+use Rattle.multisets.proofs.Relations.{byTest}
 use Rattle.multisets.proofs.ListLaws.{sets-append}
 use Rattle.terms.specs.Signature.{Signature}
 use Rattle.format.specs.Errors.{wordsTooShort}
-use Rattle.format.specs.Layout.{formNumber, maxBytes}
+use Rattle.format.specs.Layout.{firstForm, formNumber, maxBytes}
 use Rattle.format.specs.Reading.Reading.{got, fault}
-use Rattle.format.specs.Format.{Sides, RuleFile}
+use Rattle.format.specs.Format.{Sides, RuleFile, unusedOf}
+use Rattle.format.specs.Conversion.{convertedSides}
+use Rattle.format.proofs.ConversionLaws.{converted-words}
 use Rattle.format.specs.Files.{readBytes}
 use Rattle.format.specs.Packing.{unpacked}
 use Rattle.operations.specs.Replies.Reply.{accepted, refused}
 use Rattle.operations.specs.Coding.{decoded}
 use Rattle.symbols.specs.Table.{entryWords, symbolsWords}
 use Rattle.symbols.proofs.EntryLaws.{length-symbolsWords}
-use Rattle.sides.specs.Side.{rulesWords}
+use Rattle.sides.specs.Side.{sideWords, rulesWords}
 use Rattle.sides.proofs.UnpackedLaws.{unpacked-parts, unpacked-length}
 use Rattle.reader.specs.Source.{sourceOf, Reached}
-use Rattle.reader.specs.File.{FileParts, storedWords}
+use Rattle.reader.specs.File.{FileParts, rulesIn, storedWords}
 use Rattle.decoder.proofs.NodesLaws.{nodes-fit}
 
 -- The header, the symbols and the rules, stored one after the other.
@@ -73,26 +77,51 @@ module _ (bytes words : List ℕ) where
 
 -- ---- a file whose nodes were stored elsewhere
 
-module _ (bytes table before after : List ℕ) (file : RuleFile) (symbols rules nodes offset : ℕ)
-    (parts : FileParts true bytes [] table before after file symbols rules nodes offset) where
-  pub word-count : 4 + entryWords symbols + nodes ≡ length (unpacked file)
+-- A file of that form with its variables in order of first use.
+abbrev pub fileIn : ℕ → RuleFile → RuleFile
+fileIn form file = record { signature = file .signature; rules = rulesIn form (file .rules) }
+
+as-many : (form : ℕ) (rules : List Sides) → length (rulesIn form rules) ≡ length rules
+as-many form rules = byTest (eqb form firstForm) (λ e. rw e (length-map rules _)) λ e. rw e
+
+same-words : (rules : List Sides) → length (rulesWords (map convertedSides rules)) ≡ length (rulesWords rules)
+same-words [] = refl
+same-words (r ∷ rules) =
+    omega (
+      arith,
+      length-append (sideWords (convertedSides r)) (rulesWords (map convertedSides rules)),
+      length-append (sideWords r) (rulesWords rules),
+      ap length (converted-words r) ∙ length-map (sideWords r) _,
+      same-words rules,
+    )
+
+as-long : (form : ℕ) (rules : List Sides) → length (rulesWords (rulesIn form rules)) ≡ length (rulesWords rules)
+as-long form rules = byTest (eqb form firstForm) (λ e. rw e (same-words rules)) λ e. rw e
+
+module _ (form : ℕ) (bytes table before after : List ℕ) (file : RuleFile) (symbols rules nodes offset : ℕ)
+    (parts : FileParts form true bytes [] table before after file symbols rules nodes offset) where
+  pub symbol-count : symbols ≡ length (file .signature .symbols)
+  symbol-count = parts .head .symbolCount ∙ ap (λ (σ : Signature). length (σ .symbols)) (parts .signature)
+
+  pub rule-count : rules ≡ length (rulesIn form (file .rules))
+  rule-count = parts .ruleCount ∙ sym (as-many form (file .rules))
+
+  pub word-count : 4 + entryWords symbols + nodes ≡ length (unpacked (fileIn form file))
   unfolding storedWords
   word-count =
-      let k : symbols ≡ length (file .signature .symbols) =
-      parts .head .symbolCount ∙ ap (λ (σ : Signature). length (σ .symbols)) (parts .signature) in
-      omega (arith, ap entryWords k, parts .nodeCount, unpacked-length file)
+      omega (arith, ap entryWords symbol-count, parts .nodeCount, unpacked-length (fileIn form file))
 
   module _ (room : length bytes ≤ maxBytes → 8 * length bytes ≤ 5 * length before) where
     pub nodes-few : nodes ≤ length before
     unfolding sourceOf Reached storedWords
     nodes-few =
-        rw (parts .nodeCount)
-        (nodes-fit bytes (file .signature) rules offset (file .rules) (parts .end) (length before) (parts .rulesRead)
-        (parts .head .within) (room (parts .head .short)))
+        rw (parts .nodeCount, as-long form (file .rules))
+        (nodes-fit bytes (unusedOf form) (file .signature) rules offset (file .rules) (parts .end) (length before)
+        (parts .rulesRead) (parts .head .within) (room (parts .head .short)))
 
-    pub nodes-front : take nodes after ≡ rulesWords (file .rules)
+    pub nodes-front : take nodes after ≡ rulesWords (rulesIn form (file .rules))
     unfolding storedWords
     nodes-front =
-        let l = rulesWords (file .rules) in
+        let l = rulesWords (rulesIn form (file .rules)) in
         rw (parts .stored nodes-few, parts .nodeCount, sets-eq l before 0 (omega (arith, nodes-few, parts .nodeCount)))
         (take-append-seam l (drop (0 + length l) before))

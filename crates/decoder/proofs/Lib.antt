@@ -1,3 +1,3 @@
 -- What the code of the decoder cites.
 mod NodesLaws
-mod DecodeLaws
+pub mod DecodeLaws

@@ -14,10 +14,10 @@ ghost use Rattle.sides.specs.Side.{rulesWords};
 use operations::NumberReply;
 use symbols::put_word;
 
-const HEADER_WORDS: usize = 4;
+pub const HEADER_WORDS: usize = 4;
 
 // Stores the words of a file: the header, the symbols, and those of the rules.
-fn put_file(table: &[u16], words: &mut [u16], rules: usize, nodes: &[u16])
+pub fn put_file(table: &[u16], words: &mut [u16], rules: usize, nodes: &[u16])
     requires { ⌜ (length (now table) ≤ maxTableWords) × (rules < 1024) ⌝ }
     requires { ⌜
         4 + entryWords (length (signatureOf (now table) .symbols)) + length (now nodes) ≤ length (now words)
@@ -46,7 +46,7 @@ fn decode_through(book: &[u8], words: &mut [u16], nodes: &mut [u16]) -> NumberRe
     ensures { λ r. ⌜ now (words .exit) ≡ decoded (now (book .entry)) (now (words .entry)) .output ⌝ }
 {
     let mut table = [0u16; symbols::TABLE_WORDS];
-    match reader::read_file(book, &[0u16; 0], true, &mut table, nodes) {
+    match reader::read_file(book, &[0u16; 0], true, format::FORM, &mut table, nodes) {
         reader::File::Fault { code, offset } => NumberReply::Refused(answers::refusal(
             code,
             0,
@@ -70,14 +70,14 @@ fn decode_through(book: &[u8], words: &mut [u16], nodes: &mut [u16]) -> NumberRe
 }
 
 // Room for the nodes of a file of at most 2,048 bytes: a node takes five bits or more.
-fn small_room() -> [u16; 3277]
+pub fn small_room() -> [u16; 3277]
     ensures { λ r. ⌜ 3277 ≡ length r ⌝ }
 {
     [0; 3277]
 }
 
 // Room for the nodes of any file.
-fn large_room() -> [u16; 52429]
+pub fn large_room() -> [u16; 52429]
     ensures { λ r. ⌜ 52429 ≡ length r ⌝ }
 {
     [0; 52429]

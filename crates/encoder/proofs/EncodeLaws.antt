@@ -11,12 +11,13 @@ use lib.ListN.{length, length-append, drop}
 use lib.Seq.{sets, sets-eq}
 use borrow.Author.Tests.{le-leb, lt-leb}
 use Rattle.terms.specs.Signature.{Signature}
-use Rattle.format.specs.Layout.{maxNodes}
+use Rattle.terms.specs.FirstUse.{unusedAfterAll}
+use Rattle.format.specs.Layout.{formNumber, maxNodes}
 use Rattle.format.specs.Reading.{Source}
 use Rattle.format.specs.Reading.Reading.{got, fault}
-use Rattle.format.specs.Format.{RuleFile, forestReader, ruleReader, rulesReader}
+use Rattle.format.specs.Format.{RuleFile, unusedOf, forestReader, ruleReader, rulesReader}
 use Rattle.format.specs.Files.{readWords}
-use Rattle.format.specs.Packing.{Item, items, itemBits, bytesOf, packed}
+use Rattle.format.specs.Packing.{Item, items, itemBits, bytesOf, packedIn, packed}
 use Rattle.format.proofs.ReadingLaws.{HoldsOf, holds-got, holds-then}
 use Rattle.format.proofs.SideLaws.{forest-short}
 use Rattle.format.proofs.FileLaws.{words-unpacked}
@@ -34,25 +35,25 @@ use Rattle.encoder.specs.Items.{itemsFrom, bitsTo}
 use Rattle.encoder.proofs.ItemsLaws.{file-items}
 
 -- A rule has at most 256 nodes.
-module _ (source : Source) (σ : Signature) where
-  rule-short : (at : ℕ) → HoldsOf (λ r end. length (sideWords r) ≤ 256) (ruleReader source σ at)
+module _ (source : Source) (unused : ℕ) (σ : Signature) where
+  rule-short : (at : ℕ) → HoldsOf (λ r end. length (sideWords r) ≤ 256) (ruleReader source unused σ at)
   unfolding ruleReader HoldsOf
   rule-short at =
-      holds-then _ (forestReader source σ maxNodes 1 at) _ λ left mid e.
-      holds-then _ (forestReader source σ maxNodes 1 mid) _ λ right end f.
+      holds-then _ (forestReader source unused σ maxNodes 1 at) _ λ left mid e.
+      holds-then _ (forestReader source (unusedAfterAll unused left) σ maxNodes 1 mid) _ λ right end f.
       simp length-append
       (omega (
         arith,
-        forest-short source σ maxNodes 1 at left mid e,
-        forest-short source σ maxNodes 1 mid right end f,
+        forest-short source unused σ maxNodes 1 at left mid e,
+        forest-short source (unusedAfterAll unused left) σ maxNodes 1 mid right end f,
       ))
 
-  rules-short : (n at : ℕ) → HoldsOf (λ rs end. length (rulesWords rs) ≤ 256 * n) (rulesReader source σ n at)
+  rules-short : (n at : ℕ) → HoldsOf (λ rs end. length (rulesWords rs) ≤ 256 * n) (rulesReader source unused σ n at)
   unfolding rulesReader HoldsOf
   rules-short zero at = omega arith
   rules-short (suc n) at =
-      holds-then _ (ruleReader source σ at) _ λ r mid e.
-      holds-then _ (rulesReader source σ n mid) _ λ rs end f.
+      holds-then _ (ruleReader source unused σ at) _ λ r mid e.
+      holds-then _ (rulesReader source unused σ n mid) _ λ rs end f.
       let one = holds-got _ _ r mid (rule-short at) e in
       let others = holds-got _ _ rs end (rules-short n mid) f in
       rw (length-append (sideWords r) (rulesWords rs)) (omega arith)
@@ -65,7 +66,8 @@ pub record Listed (words : List ℕ) (file : RuleFile) (symbols start : ℕ) : T
   pub short : length words ≤ 263000
 
 pub file-listed : (words table before after : List ℕ) (file : RuleFile) (end symbols rules nodes start : ℕ) →
-    readWords words ≡ got file end → FileParts false [] words table before after file symbols rules nodes start →
+    readWords words ≡ got file end →
+    FileParts formNumber false [] words table before after file symbols rules nodes start →
     Listed words file symbols start
 unfolding sourceOf Reached
 file-listed words table before after file end symbols rules nodes start read parts =
@@ -74,8 +76,8 @@ file-listed words table before after file end symbols rules nodes start read par
     parts .head .symbolCount ∙ ap (λ (σ : Signature). length (σ .symbols)) (parts .signature) in
     let begin : start ≡ 4 + entryWords (length (file .signature .symbols)) =
     parts .head .within .0 ∙ ap (λ (n : ℕ). 4 + entryWords n) count in
-    let few = holds-got _ _ (file .rules) (parts .end) (rules-short _ (file .signature) rules start) (parts .rulesRead)
-    in
+    let few = holds-got _ _ (file .rules) (parts .end)
+    (rules-short _ (unusedOf formNumber) (file .signature) rules start) (parts .rulesRead) in
     record {
       all = sym (file-items file) ∙ rw (same, begin);
       begin = parts .head .within .0;
@@ -111,7 +113,7 @@ module _ (words bytes : List ℕ) where
     count = (length bits + 7) / 8
 
     same-packed : packed file ≡ bytesOf bits
-    unfolding packed
+    unfolding packedIn
     same-packed = ap (λ (is : List Item). bytesOf (flatMap itemBits is)) (listed .all)
 
     size : length (packed file) ≡ count

@@ -14,7 +14,7 @@ use borrow.Author.Tests.{lt-ltb, le-ltb}
 use Rattle.terms.specs.Signature.{Symbol}
 use Rattle.format.specs.Layout.{formNumber}
 use Rattle.format.specs.Format.{RuleFile}
-use Rattle.format.specs.Packing.{Item, itemWord, symbolItems, items, unpacked}
+use Rattle.format.specs.Packing.{Item, itemWord, symbolItems, itemsIn, items, unpacked}
 use Rattle.format.specs.Packing.Item.{field, node}
 use Rattle.symbols.specs.Table.{entryWords, symbolsWords}
 use Rattle.symbols.proofs.EntryLaws.{length-symbolsWords}
@@ -99,13 +99,14 @@ module _ (file : RuleFile) where
   whole = formNumber ∷ length ss ∷ file .signature .w0 ∷ length (file .rules) ∷ rest
 
   abbrev header : List Item
-  header = field 4 1 ∷ field 8 (length ss) ∷ field 16 (file .signature .w0) ∷ field 10 (length (file .rules)) ∷ []
+  header = field 4 formNumber ∷ field 8 (length ss) ∷ field 16 (file .signature .w0) ∷ field 10
+      (length (file .rules)) ∷ []
 
   abbrev begin : ℕ
   begin = 4 + 4 * length ss
 
   whole-items : itemsFrom whole begin 0 (length whole) ≡ items file
-  unfolding items entryWords
+  unfolding itemsIn entryWords
   whole-items =
       let from = itemsFrom whole begin in
       let n = length (rulesWords (file .rules)) in

@@ -1,4 +1,4 @@
 -- Laws of encoding.
-mod ItemsLaws
+pub mod ItemsLaws
 mod ItemBits
 mod EncodeLaws

@@ -6,6 +6,8 @@ use operations::NumberReply;
 
 mod items;
 
+pub use crate::items::write_items;
+
 // Writes the packed form of a file to the front of the bytes.
 pub fn encode(words: &[u16], bytes: &mut [u8]) -> NumberReply
     ensures { λ r. ⌜ numberReply r ≡ encoded (now (words .entry)) (now (bytes .entry)) .reply ⌝ }
@@ -13,7 +15,7 @@ pub fn encode(words: &[u16], bytes: &mut [u8]) -> NumberReply
 {
     let mut table = [0u16; symbols::TABLE_WORDS];
     let mut none = [0u16; 0];
-    match reader::read_file(&[0u8; 0], words, false, &mut table, &mut none) {
+    match reader::read_file(&[0u8; 0], words, false, format::FORM, &mut table, &mut none) {
         reader::File::Fault { code, offset } => NumberReply::Refused(answers::refusal(
             code,
             0,

@@ -3,19 +3,21 @@
 --     node-within-got, node-within-fault   the same of a node
 --     BoundedSource, whole-within          what is asked of a source, and what then holds of reading a file
 --     words-bounded, bits-bounded, bits-within, bits-node     the two sources
---     bytes-fault, words-fault, term-fault, first-fault
+--     bytes-fault, fault-small, words-fault, term-fault, first-fault
 use mathlib.Core.Path.{_≡_}
 use mathlib.Core.List.{List, [], _∷_, _++_}
 use mathlib.Core.Bool.{Bool, true, false, cond, _||_, not}
-use Prim.Native.Nat.{ℕ, suc, zero, _+_, _*_, _^_, _≤_}
+use Prim.Native.Nat.{ℕ, suc, zero, _+_, _*_, _^_, _≤_, _<_}
 use native.Mathlib.Omega.{arith}
 use lib.ListN.{length, getD}
 use lib.Dec.{eqb, ltb, leb}
-use borrow.Author.Tests.{leb-true, ltb-true}
-use Rattle.multisets.proofs.Relations.{byTest}
+use borrow.Author.Tests.{leb-true, ltb-true, lt-leb}
+use Rattle.multisets.proofs.Relations.{byTest, byOrder}
 use Rattle.terms.specs.Term.{variableCount}
 use Rattle.terms.specs.Words.{firstVariable}
+use Rattle.terms.specs.FirstUse.{unusedAfter, unusedAfterAll}
 use Rattle.terms.specs.Signature.{Symbol, Signature, leastWeight}
+use Rattle.format.specs.Errors.{fileTooLong}
 use Rattle.format.specs.Layout.{formWidth, symbolCountWidth, weightWidth, ruleCountWidth, arityWidth}
 use Rattle.format.specs.Layout.{acWidth, rankWidth, tagWidth, symbolWidth, variableWidth, maxNodes, maxBytes}
 use Rattle.format.specs.Layout.{formNumber}
@@ -23,8 +25,8 @@ use Rattle.format.specs.Reading.{Reading, Reader, andThen, require, Node
 use Rattle.format.specs.Reading.{bitField, bitSource, wordBelow, wordSource}
 use Rattle.format.specs.Reading.Reading.{got, fault}
 use Rattle.format.specs.Format.{heldBy, symbolReader, symbolsReader, forestReader, ruleReader, rulesReader}
-use Rattle.format.specs.Format.{bodyReader, fileReader}
-use Rattle.format.specs.Files.{wholeReader, readBytes, readWords, readFirstTerm, readTerm}
+use Rattle.format.specs.Format.{allUsed, unusedOf, bodyReader, fileReader}
+use Rattle.format.specs.Files.{wholeReader, readBytesIn, readWords, readFirstTerm, readTerm}
 use Rattle.format.proofs.ForestLaws.{known, argumentCount}
 
 module _ (limit : ℕ) where
@@ -90,29 +92,36 @@ module _ (limit : ℕ) where
     pub end : (at : ℕ) → at ≤ limit → Within (source .end at)
 
   module _ (source : Source) (b : BoundedSource source) where
-    forest-within : (σ : Signature) (a n at : ℕ) → at ≤ limit → Within (forestReader source σ a n at)
+    forest-within : (unused : ℕ) (σ : Signature) (a n at : ℕ) → at ≤ limit →
+        Within (forestReader source unused σ a n at)
     unfolding forestReader Within
-    forest-within σ zero zero at h = h
-    forest-within σ zero (suc n) at h = h
-    forest-within σ (suc a) zero at h = h
-    forest-within σ (suc a) (suc n) at h =
+    forest-within unused σ zero zero at h = h
+    forest-within unused σ zero (suc n) at h = h
+    forest-within unused σ (suc a) zero at h = h
+    forest-within unused σ (suc a) (suc n) at h =
         node-then (source .node at) _ (b .node at h) λ v next o l.
         within-require (known σ (v .word)) _ (v .offset) next _ o
-        (within-then (forestReader source σ a (argumentCount σ (v .word) + n) next) _
-        (forest-within σ a (argumentCount σ (v .word) + n) next l) λ ws end e. e)
+        (within-require (leb (v .word) (firstVariable + unused)) _ (v .offset) next _ o
+        (let after = unusedAfter unused (v .word) in
+        let owed = argumentCount σ (v .word) + n in
+        within-then (forestReader source after σ a owed next) _ (forest-within after σ a owed next l) λ ws end e. e))
 
-    rule-within : (σ : Signature) (at : ℕ) → at ≤ limit → Within (ruleReader source σ at)
+    rule-within : (unused : ℕ) (σ : Signature) (at : ℕ) → at ≤ limit → Within (ruleReader source unused σ at)
     unfolding ruleReader Within
-    rule-within σ at h =
-        within-then (forestReader source σ maxNodes 1 at) _ (forest-within σ maxNodes 1 at h) λ left at₁ h₁.
-        within-then (forestReader source σ maxNodes 1 at₁) _ (forest-within σ maxNodes 1 at₁ h₁) λ right end e. e
+    rule-within unused σ at h =
+        within-then (forestReader source unused σ maxNodes 1 at) _
+        (forest-within unused σ maxNodes 1 at h) λ left at₁ h₁.
+        let after = unusedAfterAll unused left in
+        within-then (forestReader source after σ maxNodes 1 at₁) _ (forest-within after σ maxNodes 1 at₁ h₁)
+        λ right end e. e
 
-    pub rules-within : (σ : Signature) (n at : ℕ) → at ≤ limit → Within (rulesReader source σ n at)
+    pub rules-within : (unused : ℕ) (σ : Signature) (n at : ℕ) → at ≤ limit →
+        Within (rulesReader source unused σ n at)
     unfolding rulesReader Within
-    rules-within σ zero at h = h
-    rules-within σ (suc n) at h =
-        within-then (ruleReader source σ at) _ (rule-within σ at h) λ r mid l.
-        within-then (rulesReader source σ n mid) _ (rules-within σ n mid l) λ rest end e. e
+    rules-within unused σ zero at h = h
+    rules-within unused σ (suc n) at h =
+        within-then (ruleReader source unused σ at) _ (rule-within unused σ at h) λ r mid l.
+        within-then (rulesReader source unused σ n mid) _ (rules-within unused σ n mid l) λ rest end e. e
 
     symbol-within : (w0 : ℕ) (earlier : List Symbol) (at : ℕ) → at ≤ limit → Within (symbolReader source w0 earlier at)
     unfolding symbolReader Within
@@ -133,12 +142,12 @@ module _ (limit : ℕ) where
         within-then (symbolReader source w0 earlier at) _ (symbol-within w0 earlier at h) λ s mid l.
         symbols-within w0 n (earlier ++ (s ∷ [])) mid l
 
-    body-within : (w0 k n at : ℕ) → at ≤ limit → Within (bodyReader source w0 k n at)
+    body-within : (unused w0 k n at : ℕ) → at ≤ limit → Within (bodyReader source unused w0 k n at)
     unfolding bodyReader Within
-    body-within w0 k n at h =
+    body-within unused w0 k n at h =
         within-then (symbolsReader source w0 k [] at) _ (symbols-within w0 k [] at h) λ ss mid l.
-        within-then (rulesReader source (record { w0 = w0; symbols = ss }) n mid) _
-        (rules-within (record { w0 = w0; symbols = ss }) n mid l) λ rs end e. e
+        within-then (rulesReader source unused (record { w0 = w0; symbols = ss }) n mid) _
+        (rules-within unused (record { w0 = w0; symbols = ss }) n mid l) λ rs end e. e
 
     file-within : (form at : ℕ) → at ≤ limit → Within (fileReader form source at)
     unfolding fileReader Within
@@ -150,7 +159,7 @@ module _ (limit : ℕ) where
         (within-then (source .field weightWidth at₂) _ (b .field weightWidth at₂ h₂) λ w0 at₃ h₃.
         within-require (ltb 0 w0) _ at₂ at₃ _ h₂
         (within-then (source .field ruleCountWidth at₃) _ (b .field ruleCountWidth at₃ h₃) λ n at₄ h₄.
-        body-within w0 k n at₄ h₄)))
+        body-within (unusedOf form) w0 k n at₄ h₄)))
 
     pub whole-within : (form at : ℕ) → at ≤ limit → Within (wholeReader form source at)
     unfolding wholeReader Within
@@ -192,8 +201,8 @@ module _ (words : List ℕ) where
   term-within : (σ : Signature) → Within (length words) (readTerm σ words)
   unfolding readTerm Within
   term-within σ =
-      within-then (length words) (forestReader (wordSource words) σ maxNodes 1 0) _
-      (forest-within (length words) (wordSource words) words-bounded σ maxNodes 1 0 (omega arith)) λ ws end h.
+      within-then (length words) (forestReader (wordSource words) allUsed σ maxNodes 1 0) _
+      (forest-within (length words) (wordSource words) words-bounded allUsed σ maxNodes 1 0 (omega arith)) λ ws end h.
       within-require (length words) (eqb end (length words)) _ end end _ h h
 
   pub term-fault : (σ : Signature) (code offset : ℕ) → readTerm σ words ≡ fault code offset → offset ≤ length words
@@ -203,7 +212,7 @@ module _ (words : List ℕ) where
       offset ≤ length words
   unfolding readFirstTerm
   first-fault σ code offset = within-fault (length words) (readFirstTerm σ words) code offset
-      (forest-within (length words) (wordSource words) words-bounded σ maxNodes 1 0 (omega arith))
+      (forest-within (length words) (wordSource words) words-bounded allUsed σ maxNodes 1 0 (omega arith))
 
 module _ (bytes : List ℕ) where
   abbrev bitCount : ℕ
@@ -228,12 +237,21 @@ module _ (bytes : List ℕ) where
     end = λ at. within-end bitCount (isPadding bytes at) _ at;
   }
 
-  bytes-within : Within bitCount (readBytes bytes)
-  unfolding readBytes Within
-  bytes-within =
+  bytes-within : (form : ℕ) → Within bitCount (readBytesIn form bytes)
+  unfolding readBytesIn Within
+  bytes-within form =
       byTest (leb (length bytes) maxBytes)
-      (λ e. rw e (whole-within bitCount (bitSource bytes) bits-bounded formNumber 0 (omega arith)))
+      (λ e. rw e (whole-within bitCount (bitSource bytes) bits-bounded form 0 (omega arith)))
       λ e. rw e (omega arith)
 
-  pub bytes-fault : (code offset : ℕ) → readBytes bytes ≡ fault code offset → offset ≤ 8 * length bytes
-  bytes-fault code offset = within-fault bitCount (readBytes bytes) code offset bytes-within
+  pub bytes-fault : (form code offset : ℕ) → readBytesIn form bytes ≡ fault code offset → offset ≤ 8 * length bytes
+  bytes-fault form code offset = within-fault bitCount (readBytesIn form bytes) code offset (bytes-within form)
+
+  -- It lies within 32,768 bytes.
+  pub fault-small : (form code offset : ℕ) → readBytesIn form bytes ≡ fault code offset → offset < 10 ^ 9
+  unfolding readBytesIn
+  fault-small form code offset e =
+      byOrder maxBytes (length bytes)
+      (λ h. let d : fault fileTooLong 0 ≡ fault code offset = rw (lt-leb (length bytes) maxBytes h) at e in
+      let z : 0 ≡ offset = cc in omega arith)
+      λ h. omega (arith, bytes-fault form code offset e)

@@ -7,21 +7,25 @@
 --     file-read, file-reads      the two directions
 use mathlib.Core.Path.{_≡_, refl, sym, ap, _∙_}
 use mathlib.Core.List.{List, [], _∷_, _++_, map, flatMap, append-nil, append-assoc}
-use mathlib.Core.Bool.{Bool, true, false, cond, _||_, not}
+use mathlib.Core.Bool.{Bool, true, false, cond, _||_, not, and-eq-true-iff as both}
 use Prim.Native.Nat.{ℕ, suc, zero, _+_, _<_, _^_}
 use native.Mathlib.Omega.{arith}
 use lib.ListN.{length}
 use lib.Dec.{eqb, ltb, leb}
 use borrow.Author.Tests.{eqb-true}
+use Rattle.multisets.proofs.Relations.{eqb-self}
 use Rattle.terms.specs.Signature.{Symbol, Signature, leastWeight}
-use Rattle.format.specs.Layout.{formWidth, formNumber, symbolCountWidth, weightWidth, ruleCountWidth, arityWidth}
+use Rattle.terms.specs.Words.{firstVariable}
+use Rattle.terms.specs.FirstUse.{unusedAfter, unusedAfterAll, inOrderFrom}
+use Rattle.terms.proofs.FirstUseLaws.{inOrder-append}
+use Rattle.format.specs.Layout.{formWidth, symbolCountWidth, weightWidth, ruleCountWidth, arityWidth}
 use Rattle.format.specs.Layout.{acWidth, rankWidth, maxNodes}
 use Rattle.format.specs.Reading.{Source}
 use Rattle.format.specs.Reading.Reading.{got}
-use Rattle.format.specs.Format.{Sides, RuleFile, heldBy}
+use Rattle.format.specs.Format.{Sides, RuleFile, heldBy, unusedOf}
 use Rattle.format.specs.Format.{symbolReader, symbolsReader, forestReader, ruleReader, rulesReader, bodyReader}
 use Rattle.format.specs.Format.{fileReader}
-use Rattle.format.specs.Packing.{symbolItems, ruleItems, items}
+use Rattle.format.specs.Packing.{symbolItems, ruleItems, itemsIn}
 use Rattle.format.specs.Packing.Item.{field, node}
 use Rattle.format.proofs.ReadingLaws.{HoldsOf, holds-got, holds-map, holds-then, holds-require}
 use Rattle.format.proofs.ForestLaws.{known, argumentCount, nothing-owed}
@@ -47,15 +51,17 @@ pub data Forest (σ : Signature) : ℕ → ℕ → List ℕ → Type 0 where
   termNode : {a n w : ℕ} {ws : List ℕ} → known σ w ≡ true → Forest σ a (argumentCount σ w + n) ws →
       Forest σ (suc a) (suc n) (w ∷ ws)
 
-abbrev pub RulesOk : Signature → List Sides → Type 0
-RulesOk σ [] = Unit {0}
-RulesOk σ (r ∷ rs) = Forest σ maxNodes 1 (r .left) × Forest σ maxNodes 1 (r .right) × RulesOk σ rs
+abbrev pub RulesOk : ℕ → Signature → List Sides → Type 0
+RulesOk unused σ [] = Unit {0}
+RulesOk unused σ (r ∷ rs) =
+    Forest σ maxNodes 1 (r .left) × Forest σ maxNodes 1 (r .right) × (inOrderFrom unused (r .left ++ r .right) ≡ true)
+    × RulesOk unused σ rs
 
-pub record FileOk (f : RuleFile) : Type 0 where
+pub record FileOk (form : ℕ) (f : RuleFile) : Type 0 where
   pub someSymbol : ltb 0 (length (f .signature .symbols)) ≡ true
   pub variableWeighs : ltb 0 (f .signature .w0) ≡ true
   pub symbolsOk : SymbolsOk (f .signature .w0) [] (f .signature .symbols)
-  pub rulesOk : RulesOk (f .signature) (f .rules)
+  pub rulesOk : RulesOk (unusedOf form) (f .signature) (f .rules)
 
 ac-back : (ac : ℕ) → ac < 2 ^ acWidth → cond (eqb ac 1) 1 0 ≡ ac
 ac-back zero h = refl
@@ -69,73 +75,85 @@ ac-same false = refl
 module _ (source : Source) where
   -- ---- nodes
 
-  abbrev pub ForestRead : Signature → ℕ → ℕ → ℕ → List ℕ → ℕ → Type 0
-  ForestRead σ a n at ws end = Forest σ a n ws × Spells source (map node ws) at end
+  abbrev pub ForestRead : ℕ → Signature → ℕ → ℕ → ℕ → List ℕ → ℕ → Type 0
+  ForestRead unused σ a n at ws end =
+      Forest σ a n ws × (inOrderFrom unused ws ≡ true) × Spells source (map node ws) at end
 
-  pub forest-read : (σ : Signature) (a n at : ℕ) → HoldsOf (ForestRead σ a n at) (forestReader source σ a n at)
-  unfolding forestReader HoldsOf
-  forest-read σ zero zero at = (noTerm, none)
-  forest-read σ zero (suc n) at = tt
-  forest-read σ (suc a) zero at = (noTerm, none)
-  forest-read σ (suc a) (suc n) at =
+  pub forest-read : (unused : ℕ) (σ : Signature) (a n at : ℕ) →
+      HoldsOf (ForestRead unused σ a n at) (forestReader source unused σ a n at)
+  unfolding forestReader HoldsOf inOrderFrom
+  forest-read unused σ zero zero at = (noTerm, refl, none)
+  forest-read unused σ zero (suc n) at = tt
+  forest-read unused σ (suc a) zero at = (noTerm, refl, none)
+  forest-read unused σ (suc a) (suc n) at =
       holds-then _ (source .node at) _ λ v next e.
       holds-require _ (known σ (v .word)) _ (v .offset) next _ λ k.
-      holds-then _ (forestReader source σ a (argumentCount σ (v .word) + n) next) _ λ ws end r.
-      let h = holds-got _ _ ws end (forest-read σ a (argumentCount σ (v .word) + n) next) r in
-      (termNode k (h .0), more (v .offset, e) (h .1))
+      holds-require _ (leb (v .word) (firstVariable + unused)) _ (v .offset) next _ λ t.
+      let after = unusedAfter unused (v .word) in
+      let owed = argumentCount σ (v .word) + n in
+      holds-then _ (forestReader source after σ a owed next) _ λ ws end r.
+      let (f, o, p) = holds-got _ _ ws end (forest-read after σ a owed next) r in
+      (termNode k f, both _ _ .1 (t, o), more (v .offset, e) p)
 
-  pub forest-reads : (σ : Signature) {a n : ℕ} {ws : List ℕ} → Forest σ a n ws → {at end : ℕ} →
-      Spells source (map node ws) at end → forestReader source σ a n at ≡ got ws end
-  unfolding forestReader
-  forest-reads σ (noTerm {a}) {at} none = nothing-owed source σ a at
-  forest-reads σ (termNode k f) (more e p) = rw (e .1, k, forest-reads σ f p)
+  pub forest-reads : (unused : ℕ) (σ : Signature) {a n : ℕ} {ws : List ℕ} → Forest σ a n ws →
+      inOrderFrom unused ws ≡ true → {at end : ℕ} →
+      Spells source (map node ws) at end → forestReader source unused σ a n at ≡ got ws end
+  unfolding forestReader inOrderFrom
+  forest-reads unused σ (noTerm {a}) o {at} none = nothing-owed source unused σ a at
+  forest-reads unused σ (termNode {w = w} k f) o (more e p) =
+      let (t, rest) = both (leb w (firstVariable + unused)) _ .0 o in
+      rw (e .1, k, t, forest-reads (unusedAfter unused w) σ f rest p)
 
   -- ---- rules
 
-  abbrev RuleRead : Signature → ℕ → Sides → ℕ → Type 0
-  RuleRead σ at r end =
-      Forest σ maxNodes 1 (r .left) × Forest σ maxNodes 1 (r .right) × Spells source (ruleItems r) at end
+  module _ (unused : ℕ) (σ : Signature) where
+    abbrev pub RuleRead : ℕ → Sides → ℕ → Type 0
+    RuleRead at r end =
+        Forest σ maxNodes 1 (r .left) × Forest σ maxNodes 1 (r .right)
+        × (inOrderFrom unused (r .left ++ r .right) ≡ true) × Spells source (ruleItems r) at end
 
-  rule-read : (σ : Signature) (at : ℕ) → HoldsOf (RuleRead σ at) (ruleReader source σ at)
-  unfolding ruleReader HoldsOf
-  rule-read σ at =
-      holds-then _ (forestReader source σ maxNodes 1 at) _ λ ls mid e₁.
-      holds-then _ (forestReader source σ maxNodes 1 mid) _ λ rs end e₂.
-      let l = holds-got _ _ ls mid (forest-read σ maxNodes 1 at) e₁ in
-      let r = holds-got _ _ rs end (forest-read σ maxNodes 1 mid) e₂ in
-      (l .0, r .0, spells-append source (l .1) (r .1))
+    pub rule-read : (at : ℕ) → HoldsOf (RuleRead at) (ruleReader source unused σ at)
+    unfolding ruleReader HoldsOf
+    rule-read at =
+        holds-then _ (forestReader source unused σ maxNodes 1 at) _ λ ls mid e₁.
+        let after = unusedAfterAll unused ls in
+        holds-then _ (forestReader source after σ maxNodes 1 mid) _ λ rs end e₂.
+        let (f, o, p) = holds-got _ _ ls mid (forest-read unused σ maxNodes 1 at) e₁ in
+        let (g, o′, q) = holds-got _ _ rs end (forest-read after σ maxNodes 1 mid) e₂ in
+        (f, g, inOrder-append unused ls rs ∙ both _ _ .1 (o, o′), spells-append source p q)
 
-  rule-reads : (σ : Signature) (r : Sides) (at end : ℕ) → Forest σ maxNodes 1 (r .left) →
-      Forest σ maxNodes 1 (r .right) → Spells source (ruleItems r) at end → ruleReader source σ at ≡ got r end
-  unfolding ruleReader
-  rule-reads σ r at end f g p =
-      let (mid, p₁, p₂) = spells-split source (map node (r .left)) p in
-      rw (forest-reads σ f p₁, forest-reads σ g p₂)
+    rule-reads : (r : Sides) (at end : ℕ) → RuleRead at r end → ruleReader source unused σ at ≡ got r end
+    unfolding ruleReader
+    rule-reads r at end (f, g, o, p) =
+        let (mid, p₁, p₂) = spells-split source (map node (r .left)) p in
+        let (o₁, o₂) =
+        both (inOrderFrom unused (r .left)) _ .0 (sym (inOrder-append unused (r .left) (r .right)) ∙ o) in
+        rw (forest-reads unused σ f o₁ p₁, forest-reads (unusedAfterAll unused (r .left)) σ g o₂ p₂)
 
-  abbrev RulesRead : Signature → ℕ → ℕ → List Sides → ℕ → Type 0
-  RulesRead σ n at rs end = (length rs ≡ n) × RulesOk σ rs × Spells source (flatMap ruleItems rs) at end
+    abbrev pub RulesRead : ℕ → ℕ → List Sides → ℕ → Type 0
+    RulesRead n at rs end = (length rs ≡ n) × RulesOk unused σ rs × Spells source (flatMap ruleItems rs) at end
 
-  rules-read : (σ : Signature) (n at : ℕ) → HoldsOf (RulesRead σ n at) (rulesReader source σ n at)
-  unfolding rulesReader HoldsOf flatMap
-  rules-read σ zero at = (refl, tt, none)
-  rules-read σ (suc n) at =
-      holds-then _ (ruleReader source σ at) _ λ r mid e₁.
-      holds-then _ (rulesReader source σ n mid) _ λ rs end e₂.
-      let (f, g, p) = holds-got _ _ r mid (rule-read σ at) e₁ in
-      let (k, ok, q) = holds-got _ _ rs end (rules-read σ n mid) e₂ in
-      (ap suc k, (f, g, ok), spells-append source p q)
+    pub rules-read : (n at : ℕ) → HoldsOf (RulesRead n at) (rulesReader source unused σ n at)
+    unfolding rulesReader HoldsOf flatMap
+    rules-read zero at = (refl, tt, none)
+    rules-read (suc n) at =
+        holds-then _ (ruleReader source unused σ at) _ λ r mid e₁.
+        holds-then _ (rulesReader source unused σ n mid) _ λ rs end e₂.
+        let (f, g, o, p) = holds-got _ _ r mid (rule-read at) e₁ in
+        let (k, ok, q) = holds-got _ _ rs end (rules-read n mid) e₂ in
+        (ap suc k, (f, g, o, ok), spells-append source p q)
 
-  pub rules-length : (σ : Signature) (n at : ℕ) (rs : List Sides) (end : ℕ) → rulesReader source σ n at ≡ got rs end →
-      length rs ≡ n
-  rules-length σ n at rs end e = holds-got _ _ rs end (rules-read σ n at) e .0
+    pub rules-length : (n at : ℕ) (rs : List Sides) (end : ℕ) → rulesReader source unused σ n at ≡ got rs end →
+        length rs ≡ n
+    rules-length n at rs end e = holds-got _ _ rs end (rules-read n at) e .0
 
-  rules-reads : (σ : Signature) (rs : List Sides) (at end : ℕ) → RulesOk σ rs →
-      Spells source (flatMap ruleItems rs) at end → rulesReader source σ (length rs) at ≡ got rs end
-  unfolding rulesReader flatMap
-  rules-reads σ [] at end h none = refl
-  rules-reads σ (r ∷ rs) at end h p =
-      let (mid, q, q′) = spells-split source (ruleItems r) p in
-      rw (rule-reads σ r at mid (h .0) (h .1) q, rules-reads σ rs mid end (h .2) q′)
+    rules-reads : (rs : List Sides) (at end : ℕ) → RulesOk unused σ rs →
+        Spells source (flatMap ruleItems rs) at end → rulesReader source unused σ (length rs) at ≡ got rs end
+    unfolding rulesReader flatMap
+    rules-reads [] at end h none = refl
+    rules-reads (r ∷ rs) at end (f, g, o, h) p =
+        let (mid, q, q′) = spells-split source (ruleItems r) p in
+        rw (rule-reads r at mid (f, g, o, q), rules-reads rs mid end h q′)
 
   -- ---- symbols
 
@@ -191,28 +209,29 @@ module _ (source : Source) where
         holds-map _ _ (symbolsReader source w0 n upTo mid) (symbols-read w0 n upTo mid) λ all end (ss, a, k, oks, q).
         (s ∷ ss, a ∙ append-assoc earlier (s ∷ []) ss, ap suc k, symbol ok oks, spells-append source p q)
 
-    pub file-read : (at : ℕ) → HoldsOf (λ f end. FileOk f × Spells source (items f) at end) (fileReader formNumber
-        source at)
-    unfolding fileReader bodyReader items HoldsOf
-    file-read at =
-        holds-then _ (source .field formWidth at) _ λ form at₁ e₁.
-        holds-require _ (eqb form formNumber) _ at at₁ _ λ isForm.
+    pub file-read : (form at : ℕ) →
+        HoldsOf (λ f end. FileOk form f × Spells source (itemsIn form f) at end) (fileReader form source at)
+    unfolding fileReader bodyReader itemsIn HoldsOf
+    file-read form at =
+        let unused = unusedOf form in
+        holds-then _ (source .field formWidth at) _ λ read at₁ e₁.
+        holds-require _ (eqb read form) _ at at₁ _ λ isForm.
         holds-then _ (source .field symbolCountWidth at₁) _ λ k at₂ e₂.
         holds-require _ (ltb 0 k) _ at₁ at₂ _ λ some.
         holds-then _ (source .field weightWidth at₂) _ λ w0 at₃ e₃.
         holds-require _ (ltb 0 w0) _ at₂ at₃ _ λ weighs.
         holds-then _ (source .field ruleCountWidth at₃) _ λ n at₄ e₄.
         holds-then _ (symbolsReader source w0 k [] at₄) _ λ ss at₅ e₅.
-        holds-then _ (rulesReader source (record { w0 = w0; symbols = ss }) n at₅) _ λ rs end e₆.
+        holds-then _ (rulesReader source unused (record { w0 = w0; symbols = ss }) n at₅) _ λ rs end e₆.
         let (new, a, length-new, oks, p) = holds-got _ _ ss at₅ (symbols-read w0 k [] at₄) e₅ in
         let σ : Signature = record { w0 = w0; symbols = ss } in
-        let (length-rs, rulesOk, q) = holds-got _ _ rs end (rules-read σ n at₅) e₆ in
+        let (length-rs, rulesOk, q) = holds-got _ _ rs end (rules-read unused σ n at₅) e₆ in
         let length-ss : length ss ≡ k = ap length a ∙ length-new in
         let symbolsOk : SymbolsOk w0 [] ss = rw (← a) at oks in
-        let r₁ : source .field formWidth at ≡ got formNumber at₁ = rw (eqb-true form formNumber isForm) at e₁ in
+        let r₁ : source .field formWidth at ≡ got form at₁ = rw (eqb-true read form isForm) at e₁ in
         let r₂ : source .field symbolCountWidth at₁ ≡ got (length ss) at₂ = rw (← length-ss) at e₂ in
         let r₄ : source .field ruleCountWidth at₃ ≡ got (length rs) at₄ = rw (← length-rs) at e₄ in
-        let ok : FileOk (record { signature = σ; rules = rs }) = record {
+        let ok : FileOk form (record { signature = σ; rules = rs }) = record {
           someSymbol = rw length-ss some;
           variableWeighs = weighs;
           symbolsOk = symbolsOk;
@@ -220,11 +239,11 @@ module _ (source : Source) where
         } in
         (ok, more r₁ (more r₂ (more e₃ (more r₄ (spells-append source (rw (← a) at p) q)))))
 
-  pub file-reads : (f : RuleFile) (at end : ℕ) → FileOk f → Spells source (items f) at end →
-      fileReader formNumber source at ≡ got f end
-  unfolding fileReader bodyReader items
-  file-reads f at end ok (more e₁ (more e₂ (more e₃ (more e₄ p)))) =
+  pub file-reads : (form : ℕ) (f : RuleFile) (at end : ℕ) → FileOk form f → Spells source (itemsIn form f) at end →
+      fileReader form source at ≡ got f end
+  unfolding fileReader bodyReader itemsIn
+  file-reads form f at end ok (more e₁ (more e₂ (more e₃ (more e₄ p)))) =
       let (mid, q, r) = spells-split source (flatMap symbolItems (f .signature .symbols)) p in
       let symbols = symbols-reads (ok .symbolsOk) _ mid q in
-      let rules = rules-reads (f .signature) (f .rules) mid end (ok .rulesOk) r in
-      rw (e₁, e₂, ok .someSymbol, e₃, ok .variableWeighs, e₄, symbols, rules)
+      let rules = rules-reads (unusedOf form) (f .signature) (f .rules) mid end (ok .rulesOk) r in
+      rw (e₁, eqb-self form, e₂, ok .someSymbol, e₃, ok .variableWeighs, e₄, symbols, rules)

@@ -5,21 +5,21 @@ use Rattle.format.specs.Reading.{bitField, wordBelow}
 use Rattle.format.specs.Reading.Reading.{got}
 use Rattle.format.specs.Format.{symbolReader, symbolsReader, forestReader, ruleReader, rulesReader, bodyReader}
 use Rattle.format.specs.Format.{fileReader}
-use Rattle.format.specs.Files.{wholeReader, readBytes, readWords}
-use Rattle.format.specs.Packing.{items, packed, unpacked}
+use Rattle.format.specs.Files.{wholeReader, readBytesIn, readBytes, readWords}
+use Rattle.format.specs.Packing.{itemsIn, packedIn, packed, unpacked}
 use Rattle.format.specs.Listing.{listing, listingFile, listingWords}
 
 pub listing-reads : readBytes listing ≡ got listingFile 130
-unfolding readBytes wholeReader fileReader bodyReader symbolsReader symbolReader rulesReader ruleReader forestReader
+unfolding readBytesIn wholeReader fileReader bodyReader symbolsReader symbolReader rulesReader ruleReader forestReader
     bitField
 listing-reads = refl
 
 pub listing-packs : packed listingFile ≡ listing
-unfolding packed items flatMap
+unfolding packedIn itemsIn flatMap
 listing-packs = refl
 
 pub listing-unpacks : unpacked listingFile ≡ listingWords
-unfolding unpacked items flatMap
+unfolding unpacked itemsIn flatMap
 listing-unpacks = refl
 
 pub listing-words-read : readWords listingWords ≡ got listingFile 16

@@ -3,7 +3,8 @@
 --     readable-system            and so are the rules that it means
 --     first-term, whole-term     a term that is read from words
 use mathlib.Core.Path.{_≡_, sym, ap, _∙_}
-use mathlib.Core.List.{List, [], _∷_, map, flatMap, List·Memᴰ, List·Memᴰ·head, List·Memᴰ·tail}
+use mathlib.Core.Bool.{true}
+use mathlib.Core.List.{List, [], _∷_, _++_, map, flatMap, List·Memᴰ, List·Memᴰ·head, List·Memᴰ·tail}
 use mathlib.Core.List.{List·Memᴰ·not-nil, Memᴰ·of-map}
 use Prim.Native.Nat.{ℕ, _≤_, _<_}
 use native.Mathlib.Nat.{zero-add}
@@ -13,15 +14,16 @@ use lib.Seq.{ext-getD, getD-take, length-take-le, take-all}
 use lib.Dec.{eqb}
 use borrow.Author.Tests.{ltb-true, eqb-true}
 use Rattle.terms.specs.Signature.{Signature}
+use Rattle.terms.specs.FirstUse.{inOrderFrom}
 use Rattle.terms.specs.Rewriting.{WellFormedRules}
 use Rattle.format.specs.Layout.{maxNodes}
 use Rattle.format.specs.Reading.{wordSource}
 use Rattle.format.specs.Reading.Reading.{got}
-use Rattle.format.specs.Format.{Sides, RuleFile, systemOf, forestReader}
+use Rattle.format.specs.Format.{Sides, RuleFile, unusedOf, allUsed, systemOf, forestReader}
 use Rattle.format.specs.Files.{readFirstTerm, readTerm}
-use Rattle.format.specs.Packing.{items, symbolItems, ruleItems}
+use Rattle.format.specs.Packing.{itemsIn, symbolItems, ruleItems}
 use Rattle.format.specs.Packing.Item.{node}
-use Rattle.format.specs.Statements.{IsTerm, WellFormedFile}
+use Rattle.format.specs.Statements.{IsTerm, WellFormedIn}
 use Rattle.format.proofs.ReadingLaws.{HoldsOf, holds-got, holds-then, holds-require}
 use Rattle.format.proofs.SpellingLaws.{AllFit, all-fit-split, Agrees, agrees-at, spells→coded}
 use Rattle.format.proofs.FormatLaws.{Forest, RulesOk, forest-read}
@@ -37,20 +39,21 @@ forest-term σ ws f fits =
 
 -- ---- a file
 
-rules-at : (σ : Signature) (rs : List Sides) → RulesOk σ rs → AllFit (flatMap ruleItems rs) → (r : Sides) →
-    List·Memᴰ r rs → IsTerm σ (r .left) × IsTerm σ (r .right)
+rules-at : (unused : ℕ) (σ : Signature) (rs : List Sides) → RulesOk unused σ rs → AllFit (flatMap ruleItems rs) →
+    (r : Sides) → List·Memᴰ r rs →
+    (IsTerm σ (r .left) × IsTerm σ (r .right)) × (inOrderFrom unused (r .left ++ r .right) ≡ true)
 unfolding flatMap
-rules-at σ [] ok fits r m = absurd (List·Memᴰ·not-nil m)
-rules-at σ (q ∷ rs) ok fits r (List·Memᴰ·head e) =
+rules-at unused σ [] ok fits r m = absurd (List·Memᴰ·not-nil m)
+rules-at unused σ (q ∷ rs) ok fits r (List·Memᴰ·head e) =
     let (here, later) = all-fit-split (ruleItems q) (flatMap ruleItems rs) fits in
     let (a, b) = all-fit-split (map node (q .left)) (map node (q .right)) here in
-    rw e (forest-term σ (q .left) (ok .0) a, forest-term σ (q .right) (ok .1) b)
-rules-at σ (q ∷ rs) ok fits r (List·Memᴰ·tail m) =
-    rules-at σ rs (ok .2) (all-fit-split (ruleItems q) (flatMap ruleItems rs) fits .1) r m
+    rw e ((forest-term σ (q .left) (ok .0) a, forest-term σ (q .right) (ok .1) b), ok .2)
+rules-at unused σ (q ∷ rs) ok fits r (List·Memᴰ·tail m) =
+    rules-at unused σ rs (ok .3) (all-fit-split (ruleItems q) (flatMap ruleItems rs) fits .1) r m
 
-module _ (f : RuleFile) (r : Readable f) where
-  pub readable-formed : WellFormedFile f
-  unfolding items
+module _ (form : ℕ) (f : RuleFile) (r : Readable form f) where
+  pub readable-formed : WellFormedIn form f
+  unfolding itemsIn
   readable-formed =
       let σ = f .signature in
       let (count, (w0, (rules, rest))) = r .fits .1 in
@@ -67,7 +70,8 @@ module _ (f : RuleFile) (r : Readable f) where
           weight = λ g. each g .1 .1 .0;
           precedence = λ g. each g .1 .1 .1 .0;
         };
-        sides = rules-at σ (f .rules) (r .ok .rulesOk) nodes;
+        sides = λ s m. rules-at (unusedOf form) σ (f .rules) (r .ok .rulesOk) nodes s m .0;
+        inTurn = λ s m. rules-at (unusedOf form) σ (f .rules) (r .ok .rulesOk) nodes s m .1;
       }
 
   pub readable-system : WellFormedRules (systemOf f)
@@ -83,7 +87,7 @@ module _ (σ : Signature) (input nodes : List ℕ) (end : ℕ) where
       (nodes ≡ take end input) × (end ≡ length nodes) × IsTerm σ nodes × (end ≤ length input)
   unfolding readFirstTerm
   first-term e =
-      let (f, p) = holds-got _ _ nodes end (forest-read (wordSource input) σ maxNodes 1 0) e in
+      let (f, o, p) = holds-got _ _ nodes end (forest-read (wordSource input) allUsed σ maxNodes 1 0) e in
       let (fits, ends, l, a) = spells→coded (word-coding input) p (omega arith) in
       let same = nodes-each nodes in
       let cells : Agrees (wordAt input) 0 nodes = rw same at a in
@@ -97,7 +101,7 @@ module _ (σ : Signature) (input nodes : List ℕ) (end : ℕ) where
   term-read : HoldsOf (λ ws at. (readFirstTerm σ input ≡ got ws at) × (at ≡ length input)) (readTerm σ input)
   unfolding readFirstTerm readTerm HoldsOf
   term-read =
-      holds-then _ (forestReader (wordSource input) σ maxNodes 1 0) _ λ ws at e.
+      holds-then _ (forestReader (wordSource input) allUsed σ maxNodes 1 0) _ λ ws at e.
       holds-require _ (eqb at (length input)) _ at at _ λ t.
       (e, eqb-true at (length input) t)
 

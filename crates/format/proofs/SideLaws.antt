@@ -3,6 +3,7 @@
 --     forest-formed     what is read as a forest is spelled by the terms of `forestOf`
 --     side-formed       what is read as one term is the words of `termOf`
 --     forest-le, forest-short    it has no more nodes than are allowed
+--     rule-fits         a rule that is read from bits fits
 use mathlib.Core.Path.{_≡_, refl, sym, ap, _∙_}
 use mathlib.Core.List.{List, [], _∷_, _++_, map, append-nil, append-assoc}
 use Prim.Native.Nat.{ℕ, suc, _+_, _-_, _≤_, _<_}
@@ -17,13 +18,15 @@ use Rattle.terms.specs.Term.{Term, row, arguments, variableCount, WellFormed, W
 use Rattle.terms.specs.Term.Term.{var}
 use Rattle.terms.specs.Words.{firstVariable, words, wordsOf, grow, forestOf, termOf}
 use Rattle.terms.proofs.TermLaws.{row-arguments}
-use Rattle.format.specs.Reading.{Source}
+use Rattle.format.specs.Reading.{Source, bitSource}
 use Rattle.format.specs.Reading.Reading.{got}
-use Rattle.format.specs.Format.{forestReader}
+use Rattle.format.specs.Format.{Sides, forestReader, ruleReader}
+use Rattle.format.specs.Packing.{ruleItems}
 use Rattle.format.specs.Packing.Item.{node}
 use Rattle.format.proofs.ReadingLaws.{holds-got}
 use Rattle.format.proofs.SpellingLaws.{AllFit}
-use Rattle.format.proofs.FormatLaws.{Forest, forest-read}
+use Rattle.format.proofs.FormatLaws.{Forest, forest-read, rule-read}
+use Rattle.format.proofs.CodingLaws.{spells-fit}
 use Rattle.format.proofs.FormatLaws.Forest.{noTerm, termNode}
 
 -- The words of some terms.
@@ -100,6 +103,12 @@ module _ (σ : Signature) where
       (words (termOf σ ws) ≡ ws) × WellFormed σ (termOf σ ws)
   side-formed {ws = ws} f fits = one-formed (forestOf σ ws) ws (forest-formed f fits)
 
-pub forest-short : (source : Source) (σ : Signature) (a n at : ℕ) (ws : List ℕ) (end : ℕ) →
-    forestReader source σ a n at ≡ got ws end → length ws ≤ a
-forest-short source σ a n at ws end e = forest-le σ (holds-got _ _ ws end (forest-read source σ a n at) e .0)
+pub forest-short : (source : Source) (unused : ℕ) (σ : Signature) (a n at : ℕ) (ws : List ℕ) (end : ℕ) →
+    forestReader source unused σ a n at ≡ got ws end → length ws ≤ a
+forest-short source unused σ a n at ws end e =
+    forest-le σ (holds-got _ _ ws end (forest-read source unused σ a n at) e .0)
+
+pub rule-fits : (bytes : List ℕ) (unused : ℕ) (σ : Signature) (at : ℕ) (r : Sides) (end : ℕ) →
+    ruleReader (bitSource bytes) unused σ at ≡ got r end → AllFit (ruleItems r)
+rule-fits bytes unused σ at r end e =
+    spells-fit bytes (holds-got _ _ r end (rule-read (bitSource bytes) unused σ at) e .3)

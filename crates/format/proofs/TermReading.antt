@@ -7,25 +7,27 @@
 --     term-refused       unless they are more than are allowed
 use mathlib.Core.Path.{_≡_, refl, ap, _∙_}
 use mathlib.Core.List.{List, [], _∷_, _++_, map, map-append, append-nil, append-assoc}
-use mathlib.Core.Bool.{true}
+use mathlib.Core.Bool.{true, and-eq-true-iff as both}
 use Prim.Native.Nat.{ℕ, suc, zero, _+_, _-_, _≤_, _<_}
 use native.Mathlib.Nat.{zero-add}
 use native.Mathlib.Omega.{arith}
+use lib.Dec.{leb}
 use lib.ListN.{length, take, drop, length-append, take-append-drop, List·getD-append}
 use lib.Seq.{length-take-le}
-use borrow.Author.Tests.{lt-ltb, lt-leb, le-leb}
+use borrow.Author.Tests.{lt-ltb, lt-leb, le-leb, ne-eqb}
 use Rattle.multisets.proofs.Relations.{eqb-self}
 use Rattle.terms.specs.Signature.{Signature}
-use Rattle.terms.specs.Term.{Term, Terms, size, sizes, row, WellFormed, WellFormeds}
+use Rattle.terms.specs.Term.{Term, Terms, size, sizes, row, variableCount, WellFormed, WellFormeds}
 use Rattle.terms.specs.Term.Term.{var, app}
 use Rattle.terms.specs.Term.Terms.{nil, cons}
 use Rattle.terms.specs.Words.{firstVariable, words, wordsOf}
+use Rattle.terms.specs.FirstUse.{unusedAfter, inOrderFrom}
 use Rattle.terms.proofs.WordsLaws.{length-words}
 use Rattle.format.specs.Errors.{tooManyNodes}
 use Rattle.format.specs.Layout.{maxNodes}
 use Rattle.format.specs.Reading.{Source, wordSource}
 use Rattle.format.specs.Reading.Reading.{got, fault}
-use Rattle.format.specs.Format.{forestReader}
+use Rattle.format.specs.Format.{allUsed, forestReader}
 use Rattle.format.specs.Files.{readFirstTerm, readTerm}
 use Rattle.format.specs.Packing.Item.{node}
 use Rattle.format.proofs.ForestLaws.{known, argumentCount}
@@ -40,6 +42,17 @@ fit-take : (a : ℕ) (ws : List ℕ) → AllFit (map node ws) → AllFit (map no
 fit-take zero ws h = tt
 fit-take (suc a) [] h = tt
 fit-take (suc a) (w ∷ ws) h = (h .0, fit-take a ws (h .1))
+
+-- Where all numbers are used, no variable is out of turn.
+pub fit-in-order : (ws : List ℕ) → AllFit (map node ws) → inOrderFrom allUsed ws ≡ true
+unfolding inOrderFrom
+fit-in-order [] h = refl
+fit-in-order (w ∷ ws) (h, hs) =
+    let l : w < firstVariable + variableCount = h in
+    rw (
+      le-leb w (firstVariable + allUsed) (omega arith),
+      ne-eqb w (firstVariable + allUsed) (λ e. omega arith),
+    ) (fit-in-order ws hs)
 
 module _ (σ : Signature) (few : length (σ .symbols) ≤ firstVariable) where
   mutual
@@ -94,11 +107,14 @@ forest-cut noTerm a h = absurd (omega arith)
 forest-cut (termNode k f) zero h = spent
 forest-cut (termNode k f) (suc a) h = cutNode k (forest-cut f a (omega arith))
 
-cut-reads : (source : Source) {σ : Signature} {a n : ℕ} {ws : List ℕ} → Cut σ a n ws → {at end : ℕ} →
-    Spells source (map node ws) at end → forestReader source σ a n at ≡ fault tooManyNodes end
-unfolding forestReader
-cut-reads source spent none = refl
-cut-reads source (cutNode k c) (more e p) = rw (e .1, k, cut-reads source c p)
+cut-reads : (source : Source) (unused : ℕ) {σ : Signature} {a n : ℕ} {ws : List ℕ} → Cut σ a n ws →
+    inOrderFrom unused ws ≡ true → {at end : ℕ} →
+    Spells source (map node ws) at end → forestReader source unused σ a n at ≡ fault tooManyNodes end
+unfolding forestReader inOrderFrom
+cut-reads source unused spent o none = refl
+cut-reads source unused (cutNode {w = w} k c) o (more e p) =
+    let (t, rest) = both (leb w (firstVariable + unused)) _ .0 o in
+    rw (e .1, k, t, cut-reads source (unusedAfter unused w) c rest p)
 
 -- ---- reading
 
@@ -120,12 +136,13 @@ module _ (σ : Signature) (few : length (σ .symbols) ≤ firstVariable) (t : Te
       let all : size t + (maxNodes - size t) ≡ maxNodes = omega arith in
       let p = front-spells (words t) rest (words-fit σ few t h) in
       let f = rw all at (nodes-form (maxNodes - size t)) in
-      rw (forest-reads (wordSource (words t ++ rest)) σ f p, length-words t)
+      let o = fit-in-order (words t) (words-fit σ few t h) in
+      rw (forest-reads (wordSource (words t ++ rest)) allUsed σ f o p, length-words t)
 
   pub term-reads : size t ≤ maxNodes → readTerm σ (words t) ≡ got (words t) (size t)
   unfolding readFirstTerm readTerm
   term-reads l =
-      let p : forestReader (wordSource (words t)) σ maxNodes 1 0 ≡ got (words t) (size t) =
+      let p : forestReader (wordSource (words t)) allUsed σ maxNodes 1 0 ≡ got (words t) (size t) =
       rw (append-nil (words t)) at (first-reads l []) in
       rw (p, length-words t, eqb-self (size t))
 
@@ -136,4 +153,5 @@ module _ (σ : Signature) (few : length (σ .symbols) ≤ firstVariable) (t : Te
       let n = length-take-le maxNodes ws (omega (arith, length-words t)) in
       let fits = fit-take maxNodes ws (words-fit σ few t h) in
       let p = rw (take-append-drop maxNodes ws, n) at (front-spells (take maxNodes ws) (drop maxNodes ws) fits) in
-      rw (cut-reads (wordSource ws) (forest-cut (nodes-form 0) maxNodes (omega (arith, length-words t))) p)
+      let cut = forest-cut (nodes-form 0) maxNodes (omega (arith, length-words t)) in
+      rw (cut-reads (wordSource ws) allUsed cut (fit-in-order (take maxNodes ws) fits) p)

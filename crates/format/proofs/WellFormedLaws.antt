@@ -3,7 +3,7 @@
 --     rules-of                 so do the sides of rules
 --     well-formed-readable     and so the file is one that its bytes and its words read as
 use mathlib.Core.Path.{_≡_, refl, ap}
-use mathlib.Core.List.{List, [], _∷_, map, flatMap, List·Memᴰ, List·Memᴰ·head, List·Memᴰ·tail}
+use mathlib.Core.List.{List, [], _∷_, _++_, map, flatMap, List·Memᴰ, List·Memᴰ·head, List·Memᴰ·tail}
 use mathlib.Core.Bool.{Bool, true, false, cond}
 use Prim.Native.Nat.{ℕ, _+_, _-_, _^_, _≤_, _<_}
 use native.Mathlib.Omega.{arith}
@@ -13,12 +13,13 @@ use borrow.Author.Tests.{lt-ltb}
 use Rattle.terms.specs.Signature.{Signature, symbolOf}
 use Rattle.terms.specs.Term.{size}
 use Rattle.terms.specs.Words.{firstVariable, termOf}
+use Rattle.terms.specs.FirstUse.{inOrderFrom}
 use Rattle.terms.proofs.WordsLaws.{length-words}
-use Rattle.format.specs.Layout.{acWidth, maxNodes}
-use Rattle.format.specs.Format.{Sides, RuleFile}
-use Rattle.format.specs.Packing.{symbolItems, ruleItems, items}
+use Rattle.format.specs.Layout.{formWidth, acWidth, maxNodes}
+use Rattle.format.specs.Format.{Sides, RuleFile, unusedOf}
+use Rattle.format.specs.Packing.{symbolItems, ruleItems, itemsIn}
 use Rattle.format.specs.Packing.Item.{node}
-use Rattle.format.specs.Statements.{IsTerm, WellFormedFile}
+use Rattle.format.specs.Statements.{IsTerm, WellFormedIn}
 use Rattle.format.proofs.SpellingLaws.{AllFit, all-fit-append}
 use Rattle.format.proofs.FormatLaws.{Forest, RulesOk}
 use Rattle.format.proofs.FileLaws.{Readable}
@@ -34,29 +35,32 @@ module _ (σ : Signature) (few : length (σ .symbols) ≤ firstVariable) where
       let f = rw n at (nodes-form σ few u (t .wellFormed) (maxNodes - size u)) in
       (rw (← t .spelled) at f, rw (← t .spelled) at (words-fit σ few u (t .wellFormed)))
 
-  rules-of : (rs : List Sides) →
+  rules-of : (unused : ℕ) (rs : List Sides) →
       ((r : Sides) → List·Memᴰ r rs → IsTerm σ (r .left) × IsTerm σ (r .right)) →
-      RulesOk σ rs × AllFit (flatMap ruleItems rs)
+      ((r : Sides) → List·Memᴰ r rs → inOrderFrom unused (r .left ++ r .right) ≡ true) →
+      RulesOk unused σ rs × AllFit (flatMap ruleItems rs)
   unfolding flatMap
-  rules-of [] h = (tt, tt)
-  rules-of (r ∷ rs) h =
+  rules-of unused [] h o = (tt, tt)
+  rules-of unused (r ∷ rs) h o =
       let (l, k) = h r (List·Memᴰ·head refl) in
       let (f, a) = term-forest (r .left) l in
       let (g, b) = term-forest (r .right) k in
-      let (ok, fits) = rules-of rs (λ s m. h s (List·Memᴰ·tail m)) in
+      let (ok, fits) = rules-of unused rs (λ s m. h s (List·Memᴰ·tail m)) (λ s m. o s (List·Memᴰ·tail m)) in
       let both = all-fit-append (map node (r .left)) (map node (r .right)) a b in
-      ((f, g, ok), all-fit-append (ruleItems r) (flatMap ruleItems rs) both fits)
+      ((f, g, o r (List·Memᴰ·head refl), ok), all-fit-append (ruleItems r) (flatMap ruleItems rs) both fits)
 
 bit-fits : (b : Bool) → cond b 1 0 < 2 ^ acWidth
 bit-fits true = lit< tt
 bit-fits false = lit< tt
 
-pub well-formed-readable : (file : RuleFile) → WellFormedFile file → Readable file
-unfolding items
-well-formed-readable file w =
+pub well-formed-readable : (form : ℕ) → form < 2 ^ formWidth → (file : RuleFile) → WellFormedIn form file →
+    Readable form file
+unfolding itemsIn
+well-formed-readable form formFits file w =
     let σ = file .signature in
     let within = w .within in
-    let (ok, rules) = rules-of σ (omega (arith, within .symbolCount)) (file .rules) (w .sides) in
+    let few : length (σ .symbols) ≤ firstVariable = omega (arith, within .symbolCount) in
+    let (ok, rules) = rules-of σ few (unusedOf form) (file .rules) (w .sides) (w .inTurn) in
     let symbols = fits-of (σ .symbols) (λ f. (
       within .arity f,
       (bit-fits (symbolOf σ f .ac), (within .weight f, (within .precedence f, tt))),
@@ -69,5 +73,5 @@ well-formed-readable file w =
         symbolsOk = symbols-of-admissible σ (w .admissible);
         rulesOk = ok;
       };
-      fits = (lit< tt, (within .symbolCount, (within .w0, (within .ruleCount, rest))));
+      fits = (formFits, (within .symbolCount, (within .w0, (within .ruleCount, rest))));
     }

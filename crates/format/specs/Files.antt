@@ -11,7 +11,7 @@ use Rattle.format.specs.Errors.{fileTooLong}
 use Rattle.format.specs.Layout.{formNumber, maxBytes, maxNodes}
 use Rattle.format.specs.Reading.{Reading, Reader, _>>=_, _>>_, give, Source, bitSource, wordSource}
 use Rattle.format.specs.Reading.Reading.{fault}
-use Rattle.format.specs.Format.{RuleFile, fileReader, forestReader}
+use Rattle.format.specs.Format.{RuleFile, allUsed, fileReader, forestReader}
 
 -- A file of that form, and what may stand after its last rule.
 unfoldable pub wholeReader : ℕ → Source → Reader RuleFile
@@ -20,23 +20,26 @@ wholeReader form source = do
   source .end
   give file
 
+unfoldable pub readBytesIn : ℕ → List ℕ → Reading RuleFile
+readBytesIn form bytes =
+    cond (leb (length bytes) maxBytes) (wholeReader form (bitSource bytes) 0) (fault fileTooLong 0)
+
 -- 01: a readable book is one for which this gives a file.
-unfoldable pub readBytes : List ℕ → Reading RuleFile
-readBytes bytes =
-    cond (leb (length bytes) maxBytes) (wholeReader formNumber (bitSource bytes) 0) (fault fileTooLong 0)
+abbrev pub readBytes : List ℕ → Reading RuleFile
+readBytes = readBytesIn formNumber
 
 unfoldable pub readWords : List ℕ → Reading RuleFile
 readWords words = wholeReader formNumber (wordSource words) 0
 
--- The node words of the term that stands first among the words.
+-- The node words of the term that stands first among the words. Its variables are in any order: it is no rule.
 unfoldable pub readFirstTerm : Signature → List ℕ → Reading (List ℕ)
-readFirstTerm σ words = forestReader (wordSource words) σ maxNodes 1 0
+readFirstTerm σ words = forestReader (wordSource words) allUsed σ maxNodes 1 0
 
 -- The same where nothing may stand after it.
 unfoldable pub readTerm : Signature → List ℕ → Reading (List ℕ)
 readTerm σ words =
     let whole : Reader (List ℕ) = do
-      nodes ← forestReader (wordSource words) σ maxNodes 1
+      nodes ← forestReader (wordSource words) allUsed σ maxNodes 1
       wordSource words .end
       give nodes
     in

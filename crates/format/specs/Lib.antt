@@ -5,5 +5,6 @@ pub mod Reading
 pub mod Format
 pub mod Files
 pub mod Packing
+pub mod Conversion
 pub mod Listing
 pub mod Statements

@@ -1,20 +1,23 @@
 -- The theorems of this crate, as types. Their proofs stand in proofs/Theorems.antt.
 -- Renders: 01, "The order": "it stands above the reader and relies on its promise only"; "Book layout": the widths,
--- "All ranks differ", "Admissible", "A side has at most 128 nodes, a book at most 32,768 bytes".
+-- "All ranks differ", "Admissible", "A side has at most 128 nodes, a book at most 32,768 bytes"; 02, order 4: "within a
+-- rule a variable's first appearance, left side first, must take the lowest unused number".
 -- Reading is total and has one outcome: `readBytes`, `readWords` and `readTerm` are functions into `Reading`.
 use mathlib.Core.List.{List, _++_, List·Memᴰ}
 use mathlib.Core.Path.{_≡_}
+use mathlib.Core.Bool.{true}
 use Prim.Native.Nat.{ℕ, _*_, _^_, _≤_, _<_}
 use lib.ListN.{length, take}
 use Rattle.terms.specs.Signature.{Signature, symbolOf, Admissible}
 use Rattle.terms.specs.Term.{Term, size, WellFormed}
 use Rattle.terms.specs.Words.{firstVariable, words, termOf}
+use Rattle.terms.specs.FirstUse.{inOrderFrom}
 use Rattle.terms.specs.Rewriting.{WellFormedRules}
 use Rattle.format.specs.Errors.{tooManyNodes}
 use Rattle.format.specs.Layout.{symbolCountWidth, weightWidth, ruleCountWidth, arityWidth, rankWidth, maxNodes}
-use Rattle.format.specs.Layout.{maxBytes}
+use Rattle.format.specs.Layout.{formNumber, maxBytes}
 use Rattle.format.specs.Reading.Reading.{got, fault}
-use Rattle.format.specs.Format.{Sides, RuleFile, systemOf}
+use Rattle.format.specs.Format.{Sides, RuleFile, unusedOf, systemOf}
 use Rattle.format.specs.Packing.{packed, unpacked}
 use Rattle.format.specs.Files.{readBytes, readWords, readFirstTerm, readTerm}
 
@@ -40,13 +43,18 @@ pub record IsTerm (σ : Signature) (ws : List ℕ) : Type 0 where
   pub wellFormed : WellFormed σ (termOf σ ws)
   pub short : length ws ≤ maxNodes
 
--- An admissible signature of from 1 to 255 symbols, and rules whose sides are the words of terms.
-pub record WellFormedFile (file : RuleFile) : Type 0 where
+-- An admissible signature of from 1 to 255 symbols, and rules whose sides are the words of terms, with the variables in
+-- the order that the form asks for.
+pub record WellFormedIn (form : ℕ) (file : RuleFile) : Type 0 where
   pub admissible : Admissible (file .signature)
   pub someSymbol : 0 < length (file .signature .symbols)
   pub within : WithinWidths file
   pub sides : (r : Sides) → List·Memᴰ r (file .rules) →
       IsTerm (file .signature) (r .left) × IsTerm (file .signature) (r .right)
+  pub inTurn : (r : Sides) → List·Memᴰ r (file .rules) → inOrderFrom (unusedOf form) (r .left ++ r .right) ≡ true
+
+abbrev pub WellFormedFile : RuleFile → Type 0
+WellFormedFile = WellFormedIn formNumber
 
 -- A file that is read is well formed, and so are the rules that it means.
 abbrev pub ReadableWellFormed : Type 0

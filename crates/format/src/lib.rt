@@ -1,7 +1,10 @@
 // The numbers of the file format, one name each: widths, limits and the errors' codes, as specs/Layout and specs/Errors
 // have them. No function stands here.
 
-pub const FORM: u16 = 1;
+pub const FORM: u16 = 2;
+
+// The form whose variables come in any order.
+pub const FIRST_FORM: u16 = 1;
 
 pub const FORM_WIDTH: usize = 4;
 
@@ -31,6 +34,9 @@ pub const MAX_NODES: usize = 128;
 
 // The word of variable 0; the words below it are symbols' numbers.
 pub const FIRST_VARIABLE: u16 = 256;
+
+// How many variables there are.
+pub const VARIABLES: usize = 16;
 
 // How many words may be a node's.
 pub const NODE_WORDS: usize = 272;
@@ -66,3 +72,7 @@ pub const WORD_TOO_WIDE: u8 = 14;
 pub const WORDS_LEFT_OVER: u8 = 15;
 
 pub const BYTES_TOO_SHORT: u8 = 16;
+
+pub const OLD_FORM: u8 = 17;
+
+pub const VARIABLE_OUT_OF_TURN: u8 = 18;

@@ -3,4 +3,6 @@ pub mod MarkedLaws
 pub mod LikeLaws
 mod PickLaws
 pub mod RoundTrip
+mod ConvertedBits
+pub mod ConversionLaws
 pub mod Theorems

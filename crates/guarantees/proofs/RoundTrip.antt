@@ -12,7 +12,7 @@ use lib.Dec.{leb}
 use borrow.Author.Tests.{leb-true, le-leb}
 use Rattle.multisets.proofs.Relations.{byTest}
 use Rattle.format.specs.Errors.{wordsTooShort, bytesTooShort}
-use Rattle.format.specs.Layout.{maxBytes}
+use Rattle.format.specs.Layout.{formNumber, maxBytes}
 use Rattle.format.specs.Reading.{Reading}
 use Rattle.format.specs.Reading.Reading.{got, fault}
 use Rattle.format.specs.Format.{RuleFile}
@@ -32,7 +32,7 @@ pub record Wrote (o : Outcome ℕ) (front : List ℕ) : Type 0 where
   pub output : take (length front) (o .output) ≡ front
 
 module _ (tooShort : ℕ) (front output : List ℕ) where
-  write-accepts : length front ≤ length output → Wrote (outcome (write tooShort front output) output) front
+  pub write-accepts : length front ≤ length output → Wrote (outcome (write tooShort front output) output) front
   write-accepts h = rw (le-leb (length front) (length output) h)
       (record { reply = refl; output = take-append-seam front (drop (length front) output) })
 
@@ -95,12 +95,12 @@ pub decode-encode : (bytes output : List ℕ) (n : ℕ) → ((i : ℕ) → getD 
     Wrote (encoded (take n (decoded bytes output .output)) buffer) bytes
 decode-encode bytes output n small e buffer room =
     let (file, end, r, count, fits) = decoded-reply bytes output n e in
-    let same = bytes-packed bytes file end r small in
+    let same = bytes-packed formNumber bytes file end r small in
     let wrote = decoded-accepts bytes output file end r fits in
     let decodedWords : take n (decoded bytes output .output) ≡ unpacked file =
     ap (λ (k : ℕ). take k (decoded bytes output .output)) count ∙ wrote .output in
-    let reads = unpacked-reads file (bytes-readable bytes file end r) in
-    let short = bytes-short bytes file end r in
+    let reads = unpacked-reads file (bytes-readable formNumber bytes file end r) in
+    let short = bytes-short formNumber bytes file end r in
     rw decodedWords
     (rw same at
     (encoded-accepts (unpacked file) buffer file (length (unpacked file)) reads (rw same short) (rw same room)))
@@ -114,6 +114,6 @@ encode-decode words output n e buffer room =
     let wrote = encoded-accepts words output file end r short fits in
     let encodedBytes : take n (encoded words output .output) ≡ packed file =
     ap (λ (k : ℕ). take k (encoded words output .output)) count ∙ wrote .output in
-    let reads = packed-reads file (words-readable words file end r) short in
+    let reads = packed-reads formNumber file (words-readable words file end r) short in
     rw encodedBytes
     (rw same at (decoded-accepts (packed file) buffer file (length (fileBits file)) reads (rw same room)))

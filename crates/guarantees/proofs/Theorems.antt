@@ -1,10 +1,10 @@
--- The claims of specs/Guarantees.antt and specs/RoundTrips.antt.
+-- The claims of specs/.
 use mathlib.Core.List.{List, List·Memᴰ}
-use mathlib.Core.Path.{_≡_, refl, sym, _∙_}
+use mathlib.Core.Path.{_≡_, refl, sym, ap, _∙_}
 use mathlib.Core.Bool.{true}
 use Prim.Native.Nat.{ℕ, _≤_}
 use native.Mathlib.Omega.{arith}
-use lib.ListN.{length, getD}
+use lib.ListN.{length, getD, take}
 use Rattle.terms.specs.Signature.{Admissible}
 use Rattle.terms.specs.Term.Term.{var}
 use Rattle.terms.specs.Words.{firstVariable, words}
@@ -18,7 +18,10 @@ use Rattle.format.specs.Reading.{Reading}
 use Rattle.format.specs.Reading.Reading.{got, fault}
 use Rattle.format.specs.Format.{RuleFile, systemOf}
 use Rattle.format.specs.Files.{readBytes, readTerm}
+use Rattle.format.specs.Packing.{packed}
+use Rattle.format.specs.Conversion.{convertedFile}
 use Rattle.operations.specs.Replies.{_>>=_, fromInput}
+use Rattle.operations.specs.Replies.Reply.{accepted}
 use Rattle.format.specs.Statements.{IsRead}
 use Rattle.format.specs.Statements.IsRead.{fromBytes}
 use Rattle.format.proofs.Theorems.{readable-well-formed}
@@ -28,8 +31,10 @@ use Rattle.operations.specs.Comparing.{comparison, compared}
 use Rattle.operations.specs.Picking.{picked}
 use Rattle.operations.specs.Hashing.{fingerprintedTerm, fingerprinted}
 use Rattle.operations.specs.Variables.{oftener}
+use Rattle.operations.specs.Converting.{converted}
 use Rattle.guarantees.specs.Guarantees.{Holds, ReadableOrder, FilesDescend, FilesBounded, CountedAll, CountTells}
-use Rattle.guarantees.specs.Guarantees.{Like, LikeComparisonsAgree, LikeFingerprintsAgree, MarksExact, FallingCounted}
+use Rattle.guarantees.specs.Guarantees.{Like, LikeComparisonsAgree, LikeFingerprintsAgree, MarksExact}
+use Rattle.guarantees.specs.Guarantees.{FallingCounted}
 use Rattle.guarantees.specs.Guarantees.{LikeVariableTestsAgree}
 use Rattle.guarantees.proofs.MarkedLaws.{test-of-marks, marks-of-test, all-decreasing, marks-accepted}
 use Rattle.guarantees.proofs.MarkedLaws.{counted-all, mark-written, falling-counted}
@@ -38,6 +43,9 @@ use Rattle.guarantees.proofs.LikeLaws.{AlikeInputs, refusals, compariso
 use Rattle.guarantees.proofs.LikeLaws.{oftener-like, fingerprints-like}
 use Rattle.guarantees.specs.Picks.{PartIsGreater, PartEmpty, WordsAfterIgnored, PicksAsCompared}
 use Rattle.guarantees.proofs.PickLaws.{called-picked, called-compared, handed-by, empty-of, no-side, called-part}
+use Rattle.guarantees.specs.Conversions.{OldBooksRefused, OldBooksConvert, RenamedBooksAgree, NewBooksKept}
+use Rattle.guarantees.proofs.ConversionLaws.{as-long, conversion, converted-wrote, books-agree, new-kept}
+use Rattle.guarantees.proofs.ConversionLaws.{old-refused}
 use Rattle.guarantees.specs.RoundTrips.{DecodeThenEncode, EncodeThenDecode}
 use Rattle.guarantees.proofs.RoundTrip.{decode-encode, encode-decode}
 
@@ -109,7 +117,8 @@ module _ (bytes left left' right right' : List ℕ)
         go (fault code offset) e = refusals
         go (got file at) e =
             let (p, q) = h file (at, e) in
-            terms-like (file .signature) (admissible bytes file (at, e)) (few bytes file (at, e)) left left' right right'
+            terms-like (file .signature) (admissible bytes file (at, e))
+            (few bytes file (at, e)) left left' right right'
             p q
 
 pub like-comparisons-agree : LikeComparisonsAgree
@@ -185,3 +194,23 @@ decode-then-encode bytes output n small e buffer room =
 pub encode-then-decode : EncodeThenDecode
 encode-then-decode input output n e buffer room =
     let w = encode-decode input output n e buffer room in (w .reply, w .output)
+
+-- ---- the converter
+
+pub old-books-refused : OldBooksRefused
+old-books-refused = old-refused
+
+pub old-books-convert : OldBooksConvert
+old-books-convert bytes output old small h room =
+    let w = converted-wrote bytes old h small output room in
+    let n = as-long bytes old h small in
+    let book : take (length bytes) (converted bytes output .output) ≡ packed (convertedFile old) =
+    ap (λ (k : ℕ). take k (converted bytes output .output)) (sym n) ∙ w .output in
+    (w .reply ∙ ap accepted n, convertedFile old, rw book (conversion bytes old h small))
+
+pub renamed-books-agree : RenamedBooksAgree
+renamed-books-agree = books-agree
+
+pub new-books-kept : NewBooksKept
+new-books-kept bytes output file small h room =
+    let w = new-kept bytes output file small h room in (w .reply, w .output)

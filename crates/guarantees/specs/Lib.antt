@@ -1,4 +1,5 @@
 -- The claims of demands 2 and 3, over what the operations give back.
 pub mod Guarantees
 pub mod Picks
+pub mod Conversions
 pub mod RoundTrips

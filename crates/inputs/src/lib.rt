@@ -60,7 +60,7 @@ pub fn read_book(book: &[u8], table: &mut [u16]) -> Answer
     ensures { λ r. ⌜ BookRead (now (table .exit)) (readBytes (now (book .entry))) r ⌝ }
 {
     let mut none = [0u16; 0];
-    match read_file(book, &[0u16; 0], true, table, &mut none) {
+    match read_file(book, &[0u16; 0], true, format::FORM, table, &mut none) {
         File::Fault { code, offset } => Answer::Fault { code, offset },
         File::Read {
             symbols,

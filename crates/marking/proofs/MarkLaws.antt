@@ -1,26 +1,22 @@
 -- What marking gives back, by what its bytes read as.
 --     is-table                                 the table that reading leaves
---     fault-small                              where a fault may lie
 --     mark-fault, mark-short, mark-written     the ends of marking
 --     found-front                              the marks that were kept elsewhere
 use mathlib.Core.List.{List, []}
 use mathlib.Core.Bool.{true}
 use mathlib.Core.Path.{_≡_, sym, _∙_}
-use Prim.Native.Nat.{ℕ, _+_, _*_, _^_, _≤_, _<_}
+use Prim.Native.Nat.{ℕ, _≤_, _<_}
 use native.Mathlib.Omega.{arith}
 use native.Mathlib.Nat.{zero-add}
 use lib.IntN.{ℤ}
 use lib.ListN.{length, take, length-map}
 use lib.Seq.{sets, sets-eq}
 use borrow.Author.Tests.{le-leb, lt-leb}
-use Rattle.multisets.proofs.Relations.{byOrder}
-use Rattle.format.specs.Errors.{fileTooLong, marksTooShort}
-use Rattle.format.specs.Layout.{maxBytes}
+use Rattle.format.specs.Errors.{marksTooShort}
 use Rattle.format.specs.Reading.Reading.{got, fault}
 use Rattle.format.specs.Format.{RuleFile, systemOf}
 use Rattle.format.specs.Files.{readBytes}
 use Rattle.operations.specs.Replies.Reply.{accepted, refused}
-use Rattle.format.proofs.Theorems.{faults-within}
 use Rattle.symbols.specs.Table.{tableWords, maxTableWords}
 use Rattle.reader.specs.File.{HeadParts}
 use Rattle.reader.proofs.FileLaws.{table-of}
@@ -33,15 +29,6 @@ pub is-table : (bytes table : List ℕ) (symbols rules offset : ℕ) → maxTabl
 is-table bytes table symbols rules offset n head =
     let (short, admissible) = table-of true bytes [] table symbols rules offset n head in
     record { short = short; admissible = admissible }
-
--- A fault lies within 32,768 bytes.
-pub fault-small : (bytes : List ℕ) (code offset : ℕ) → readBytes bytes ≡ fault code offset → offset < 10 ^ 9
-unfolding readBytes
-fault-small bytes code offset e =
-    byOrder maxBytes (length bytes)
-    (λ h. let d : fault fileTooLong 0 ≡ fault code offset = rw (lt-leb (length bytes) maxBytes h) at e in
-    let z : 0 ≡ offset = cc in omega arith)
-    λ h. omega (arith, faults-within bytes code offset .0 e)
 
 module _ (bytes marks : List ℕ) where
   pub mark-fault : (code offset : ℕ) → readBytes bytes ≡ fault code offset →

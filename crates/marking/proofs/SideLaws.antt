@@ -5,33 +5,27 @@ use mathlib.Core.List.{List}
 use mathlib.Core.Path.{_≡_, sym}
 use Prim.Native.Nat.{ℕ}
 use Rattle.terms.specs.Signature.{Signature}
+use Rattle.terms.specs.FirstUse.{unusedAfterAll}
 use Rattle.format.specs.Layout.{maxNodes}
 use Rattle.format.specs.Reading.{Reading, Source, bitSource}
 use Rattle.format.specs.Reading.Reading.{got, fault}
-use Rattle.format.specs.Format.{forestReader}
-use Rattle.format.specs.Packing.{Item}
+use Rattle.format.specs.Format.{forestReader, ruleReader}
 use Rattle.format.specs.Statements.{IsTerm}
 use Rattle.format.proofs.ReadingLaws.{holds-got}
-use Rattle.format.proofs.SpellingLaws.{AllFit, Spells}
-use Rattle.format.proofs.SpellingLaws.Spells.{none, more}
 use Rattle.format.proofs.FormatLaws.{forest-read}
-use Rattle.format.proofs.CodingLaws.{bit-coding}
+use Rattle.format.proofs.CodingLaws.{spells-fit}
 use Rattle.format.proofs.SideLaws.{side-formed, forest-le}
-use Rattle.format.specs.Format.{ruleReader}
 use Rattle.marking.specs.declared.rule.MarkedRule.{MarkedRule}
 use Rattle.marking.specs.declared.rule.RuleReading.{RuleReading}
 use Rattle.marking.specs.declared.rule.RuleReading.the-variants.{Got, Fault}
 use Rattle.marking.specs.Rule.{Marks, MarksRead}
 use Rattle.marking.proofs.WalkLaws.{sidesThemselves}
 
-spells-fit : (bytes : List ℕ) {is : List Item} {at end : ℕ} → Spells (bitSource bytes) is at end → AllFit is
-spells-fit bytes none = tt
-spells-fit bytes (more {i} {is} {at} {next} r p) = (bit-coding bytes .read→code i at next r .0, spells-fit bytes p)
-
-module _ (bytes : List ℕ) (σ : Signature) where
-  pub side-term : (at end : ℕ) (ws : List ℕ) → forestReader (bitSource bytes) σ maxNodes 1 at ≡ got ws end → IsTerm σ ws
+module _ (bytes : List ℕ) (unused : ℕ) (σ : Signature) where
+  pub side-term : (at end : ℕ) (ws : List ℕ) → forestReader (bitSource bytes) unused σ maxNodes 1 at ≡ got ws end →
+      IsTerm σ ws
   side-term at end ws e =
-      let (f, p) = holds-got _ _ ws end (forest-read (bitSource bytes) σ maxNodes 1 at) e in
+      let (f, o, p) = holds-got _ _ ws end (forest-read (bitSource bytes) unused σ maxNodes 1 at) e in
       let (s, w) = side-formed σ f (spells-fit bytes p) in
       record { spelled = sym s; wellFormed = w; short = forest-le σ f }
 
@@ -40,22 +34,22 @@ module _ (bytes : List ℕ) (σ : Signature) where
 module _ (σ : Signature) where
   -- A right side that was read, after its left side.
   pub right-marked : (reading : Reading (List ℕ)) (left right : List ℕ) (n : ℕ) (m : MarkedRule) →
-      got right n ≡ reading → m .next ≡ n → Marks σ (record { left = left; right = right }) m →
+      reading ≡ got right n → m .next ≡ n → Marks σ (record { left = left; right = right }) m →
       MarksRead σ (λ (l : List ℕ). record { left = left; right = l }) reading (Got m)
-  right-marked reading left right n m e same x = (right, sym (rw same e), x)
+  right-marked reading left right n m e same x = (right, rw same e, x)
 
-  module _ (source : Source) (at : ℕ) where
-    pub left-unread : (code offset : ℕ) → fault code offset ≡ forestReader source σ maxNodes 1 at →
-        ruleReader source σ at ≡ fault code offset
+  module _ (source : Source) (unused at : ℕ) where
+    pub left-unread : (code offset : ℕ) → forestReader source unused σ maxNodes 1 at ≡ fault code offset →
+        ruleReader source unused σ at ≡ fault code offset
     unfolding ruleReader
-    left-unread code offset e = rw (sym e)
+    left-unread code offset e = rw e
 
     -- A rule whose left side was read is what its right side makes it.
-    pub rule-marked : (left : List ℕ) (middle : ℕ) → got left middle ≡ forestReader source σ maxNodes 1 at →
-        (r : RuleReading) →
+    pub rule-marked : (left : List ℕ) (middle used : ℕ) → forestReader source unused σ maxNodes 1 at ≡ got left middle →
+        used ≡ unusedAfterAll unused left → (r : RuleReading) →
         MarksRead σ (λ (right : List ℕ). record { left = left; right = right })
-        (forestReader source σ maxNodes 1 middle) r →
-        MarksRead σ sidesThemselves (ruleReader source σ at) r
+        (forestReader source used σ maxNodes 1 middle) r →
+        MarksRead σ sidesThemselves (ruleReader source unused σ at) r
     unfolding ruleReader
-    rule-marked left middle e (Got m) (right, f, x) = (record { left = left; right = right }, rw (sym e, f), x)
-    rule-marked left middle e (Fault code offset) f = rw (sym e, f)
+    rule-marked left middle used e u (Got m) (right, f, x) = (record { left = left; right = right }, rw (e, ← u, f), x)
+    rule-marked left middle used e u (Fault code offset) f = rw (e, ← u, f)

@@ -15,7 +15,7 @@ use Rattle.multisets.proofs.MultisetMaps.{choose-append}
 use Rattle.multisets.proofs.ListLaws.{sets-append}
 use Rattle.terms.specs.Signature.{Signature}
 use Rattle.format.specs.Reading.{Source}
-use Rattle.format.specs.Reading.Reading.{got, fault}
+use Rattle.format.specs.Reading.Reading.{fault}
 use Rattle.format.specs.Format.{Sides, RuleFile, ruleReader, rulesReader, systemOf}
 use Rattle.reader.proofs.RuleLaws.{Done, done-none, done-fault, done-more, done-all}
 use Rattle.operations.specs.Marking.{marksOf, marginsOf, isDecreasing, decreasingCount}
@@ -51,26 +51,27 @@ stored-more f l₀ l i a done r n e d =
     let k : 0 + length (map f done) ≡ i = omega (arith, length-map done f) in
     rw (map-append f done (r ∷ []), ← d, sets-append l₀ 0 (map f done) (a ∷ []), k, ← e)
 
-module _ (source : Source) (σ : Signature) (count start : ℕ) (marks₀ : List ℕ) (margins₀ : List ℤ) where
+module _ (source : Source) (unused : ℕ) (σ : Signature) (count start : ℕ) (marks₀ : List ℕ) (margins₀ : List ℤ) where
   -- Some rules are done, and listed.
   abbrev pub ListedSoFar : ℕ → ℕ → ℕ → List ℕ → List ℤ → Type 0
   ListedSoFar i at decreasing marks margins =
-      (done : List Sides) × Done source σ count start i at done × (length done ≡ i)
+      (done : List Sides) × Done source unused σ count start i at done × (length done ≡ i)
       × Listed σ done decreasing marks₀ marks margins₀ margins
 
   pub listed-none : ListedSoFar 0 start 0 marks₀ margins₀
-  listed-none = ([], done-none source σ count start, refl, record { falling = refl; marks = refl; margins = refl })
+  listed-none =
+      ([], done-none source unused σ count start, refl, record { falling = refl; marks = refl; margins = refl })
 
   module _ (i at decreasing : ℕ) (marks : List ℕ) (margins : List ℤ)
       (so : ListedSoFar i at decreasing marks margins) where
     pub listed-fault : i < count → (code offset : ℕ) (marks' : List ℕ) (margins' : List ℤ) →
-        ruleReader source σ at ≡ fault code offset →
-        AllMarked σ (rulesReader source σ count start) (rules.Fault code offset) marks₀ marks' margins₀ margins'
+        ruleReader source unused σ at ≡ fault code offset →
+        AllMarked σ (rulesReader source unused σ count start) (rules.Fault code offset) marks₀ marks' margins₀ margins'
     listed-fault h code offset marks' margins' e =
-        done-fault source σ count start i at (so .0) (so .1) h code offset e
+        done-fault source unused σ count start i at (so .0) (so .1) h code offset e
 
     pub listed-more : i < count → (n : ℕ) (m : MarkedRule) (marks' : List ℕ) (margins' : List ℤ) →
-        MarksRead σ sidesThemselves (ruleReader source σ at) (rule.Got m) → n ≡ decreasingCount (m .mark ∷ []) →
+        MarksRead σ sidesThemselves (ruleReader source unused σ at) (rule.Got m) → n ≡ decreasingCount (m .mark ∷ []) →
         marks' ≡ set marks i (m .mark) → margins' ≡ set margins i (m .margin) →
         ListedSoFar (i + 1) (m .next) (decreasing + n) marks' margins'
     listed-more h n m marks' margins' (r, e, x) one mark put =
@@ -78,7 +79,7 @@ module _ (source : Source) (σ : Signature) (count start : ℕ) (marks₀ : List
         let added : map (sidesMark σ) (done ++ (r ∷ [])) ≡ map (sidesMark σ) done ++ (m .mark ∷ []) =
         map-append (sidesMark σ) done (r ∷ []) ∙ rw (x .mark) in (
           done ++ (r ∷ []),
-          done-more source σ count start i at done d h r (m .next) e,
+          done-more source unused σ count start i at done d h r (m .next) e,
           omega (arith, length-append done (r ∷ [])),
           record {
             falling = rw (added, decreasing-append (map (sidesMark σ) done) (m .mark ∷ []), ← so' .falling, ← one);
@@ -89,9 +90,10 @@ module _ (source : Source) (σ : Signature) (count start : ℕ) (marks₀ : List
         )
 
     pub listed-all : count ≤ i → (next : ℕ) → next ≡ at →
-        AllMarked σ (rulesReader source σ count start) (rules.Marked decreasing next) marks₀ marks margins₀ margins
+        AllMarked σ (rulesReader source unused σ count start) (rules.Marked decreasing next) marks₀ marks margins₀
+        margins
     listed-all h next same =
-        let (done, d, l, so') = so in (done, rw same (done-all source σ count start i at done d h), so')
+        let (done, d, l, so') = so in (done, rw same (done-all source unused σ count start i at done d h), so')
 
 -- ---- the file
 

@@ -3,18 +3,18 @@ ghost use mathlib.Core.Path.{_≡_};
 ghost use mathlib.Core.List.{List};
 ghost use Prim.Native.Nat.{ℕ, _*_, _≤_};
 ghost use lib.ListN.{length};
-ghost use Rattle.format.specs.Layout.{maxBytes, maxNodes};
+ghost use Rattle.format.specs.Layout.{formNumber, maxBytes, maxNodes};
 ghost use Rattle.format.specs.Reading.{bitSource};
-ghost use Rattle.format.specs.Format.{Sides, forestReader};
+ghost use Rattle.format.specs.Format.{Sides, unusedOf, forestReader, ruleReader};
 ghost use Rattle.format.specs.Statements.{IsTerm};
 ghost use Rattle.symbols.specs.Table.{signatureOf};
 ghost use Rattle.symbols.specs.Arities.{Arities};
-ghost use Rattle.format.specs.Format.{ruleReader};
 ghost use Rattle.measures.specs.Nodes.{NodeSums};
 ghost use Rattle.marking.specs.Rule.{IsTable, Marks, MarksRead, MarkedWithin};
 use answers::Answer;
 use measures::NODE_SUMS;
 use measures::totals::total;
+use sides::UNUSED;
 
 // A rule's mark and margin, and the offset past it.
 pub struct MarkedRule {
@@ -55,13 +55,15 @@ fn mark_sides(
     }
 }
 
-// Reads the right side of a rule with this left side, and marks the rule.
+// Reads the right side of a rule with this left side, after which the variables from a number on are unused, and marks
+// the rule.
 fn mark_right(
     book: &[u8],
     table: &[u16],
     arities: &[u32; format::NODE_WORDS],
     adds: &[u64; NODE_SUMS],
     left: &[u16],
+    unused: u16,
     at: usize,
 ) -> RuleReading
     requires { ⌜ (length (now book) ≤ maxBytes) × (at ≤ 8 * length (now book)) ⌝ }
@@ -69,21 +71,22 @@ fn mark_right(
         IsTable (now table) × Arities (signatureOf (now table)) (now arities)
         × IsTerm (signatureOf (now table)) (now left) × NodeSums (signatureOf (now table)) (now adds)
         ⌝ }
+    requires { ⌜ unused ≤ 16 ⌝ }
     ensures { λ r. ⌜
         MarksRead (signatureOf (now (table .entry)))
         (λ (right : List ℕ). record { left = now (left .entry); right = right })
-        (forestReader (bitSource (now (book .entry))) (signatureOf (now (table .entry))) maxNodes 1 (at)) r
+        (forestReader (bitSource (now (book .entry))) unused (signatureOf (now (table .entry))) maxNodes 1 (at)) r
         ⌝ }
     ensures { λ r. ⌜ MarkedWithin (8 * length (now (book .entry))) r ⌝ }
 {
     let mut right = [0u16; format::MAX_NODES];
-    match sides::read_side(book, arities, &mut right, at) {
+    match sides::read_side(book, arities, &mut right, unused, at) {
         Answer::Fault { code, offset } => RuleReading::Fault { code, offset },
         Answer::Got { value, next } => RuleReading::Got(mark_sides(
             table,
             adds,
             left,
-            &right[..value],
+            &right[..value % UNUSED],
             next,
         )),
     }
@@ -104,15 +107,18 @@ pub fn mark_rule(
         ⌝ }
     ensures { λ r. ⌜
         MarksRead (signatureOf (now (table .entry))) (λ (sides : Sides). sides)
-        (ruleReader (bitSource (now (book .entry))) (signatureOf (now (table .entry))) (at)) r
+        (ruleReader (bitSource (now (book .entry))) (unusedOf formNumber) (signatureOf (now (table .entry))) (at)) r
         ⌝ }
     ensures { λ r. ⌜ MarkedWithin (8 * length (now (book .entry))) r ⌝ }
 {
+    let unused = variables::unused_at_start(format::FORM);
     let mut left = [0u16; format::MAX_NODES];
-    match sides::read_side(book, arities, &mut left, at) {
+    match sides::read_side(book, arities, &mut left, unused, at) {
         Answer::Fault { code, offset } => RuleReading::Fault { code, offset },
         Answer::Got { value, next } => {
-            mark_right(book, table, arities, adds, &left[..value], next)
+            let count = value % UNUSED;
+            let after = (value / UNUSED) as u16;
+            mark_right(book, table, arities, adds, &left[..count], after, next)
         }
     }
 }

@@ -4,9 +4,9 @@ ghost use mathlib.Core.List.{[], _∷_};
 ghost use mathlib.Core.Bool.{true};
 ghost use Prim.Native.Nat.{_*_, _≤_, _<_};
 ghost use lib.ListN.{length, set};
-ghost use Rattle.format.specs.Layout.{maxBytes};
+ghost use Rattle.format.specs.Layout.{formNumber, maxBytes};
 ghost use Rattle.format.specs.Reading.{bitSource};
-ghost use Rattle.format.specs.Format.{rulesReader};
+ghost use Rattle.format.specs.Format.{unusedOf, rulesReader};
 ghost use Rattle.format.specs.Files.{readBytes};
 ghost use Rattle.operations.specs.Marking.{decreasingCount};
 ghost use Rattle.symbols.specs.Table.{signatureOf};
@@ -78,8 +78,8 @@ fn mark_rules(
     requires { ⌜ (count ≤ length (now marks)) × (count < 1024) ⌝ }
     ensures { λ r. ⌜
         AllMarked (signatureOf (now (table .entry)))
-        (rulesReader (bitSource (now (book .entry))) (signatureOf (now (table .entry))) count (at)) r
-        (now (marks .entry)) (now (marks .exit)) (now (margins .entry)) (now (margins .exit))
+        (rulesReader (bitSource (now (book .entry))) (unusedOf formNumber) (signatureOf (now (table .entry))) count (at))
+        r (now (marks .entry)) (now (marks .exit)) (now (margins .entry)) (now (margins .exit))
         ⌝ }
     ensures { λ r. ⌜ AllWithin count (8 * length (now (book .entry))) r ⌝ }
 {
@@ -116,7 +116,7 @@ fn mark_under(
     requires { ⌜ (length (now book) ≤ maxBytes) × (at ≤ 8 * length (now book)) ⌝ }
     requires { ⌜ IsTable (now table) × (count < 1024) × (1023 ≤ length (now marks)) ⌝ }
     ensures { λ r. ⌜
-        WholeMarked (restReader true (now (book .entry)) [] (signatureOf (now (table .entry))) count (at)) r
+        WholeMarked (restReader formNumber true (now (book .entry)) [] (signatureOf (now (table .entry))) count (at)) r
         (now (marks .entry)) (now (marks .exit)) (now (margins .entry)) (now (margins .exit))
         ⌝ }
 {
@@ -149,7 +149,7 @@ pub fn mark_file(book: &[u8], marks: &mut [u8], margins: &mut [i64]) -> FileMark
         ⌝ }
 {
     let mut table = [0u16; symbols::TABLE_WORDS];
-    match reader::read_head(book, &[0u16; 0], true, &mut table) {
+    match reader::read_head(book, &[0u16; 0], true, format::FORM, &mut table) {
         reader::Head::Fault { code, offset } => FileMarked::Fault { code, offset },
         reader::Head::Read {
             symbols,

@@ -6,14 +6,14 @@ use Prim.Native.Nat.{ℕ}
 use lib.ListN.{take, replicate}
 use Rattle.format.specs.Errors.{fileTooLong, fieldMissing, wrongForm, noSymbols, variableWeightless, acNotBinary}
 use Rattle.format.specs.Errors.{weightInadmissible, rankTaken, noSuchSymbol, tooManyNodes, badPadding}
-use Rattle.format.specs.Errors.{wordsTooShort, wordTooWide, wordsLeftOver, bytesTooShort}
+use Rattle.format.specs.Errors.{wordsTooShort, wordTooWide, wordsLeftOver, bytesTooShort, oldForm, variableOutOfTurn}
 use Rattle.format.specs.Layout.{formWidth, symbolCountWidth, weightWidth, ruleCountWidth, arityWidth, acWidth}
-use Rattle.format.specs.Layout.{rankWidth}
+use Rattle.format.specs.Layout.{rankWidth, formNumber}
 use Rattle.format.specs.Reading.{bitField, wordBelow}
 use Rattle.format.specs.Format.{symbolReader, symbolsReader, forestReader, ruleReader, rulesReader, bodyReader}
 use Rattle.format.specs.Format.{fileReader}
-use Rattle.format.specs.Files.{wholeReader, readBytes, readWords}
-use Rattle.format.specs.Packing.{Item, itemBits, itemWord, bytesOf, items, packed, unpacked}
+use Rattle.format.specs.Files.{wholeReader, readBytesIn, readWords}
+use Rattle.format.specs.Packing.{Item, itemBits, itemWord, bytesOf, itemsIn, packedIn, unpacked}
 use Rattle.format.specs.Packing.Item.{field, node}
 use Rattle.operations.specs.Replies.{Outcome}
 use Rattle.operations.specs.Replies.Reply.{accepted, refused}
@@ -55,7 +55,7 @@ refusal c = record {
 -- The counts of symbols and rules, with the weight of a variable between them.
 abbrev header : ℕ → ℕ → ℕ → List Item
 header k w0 n =
-    field formWidth 1 ∷ field symbolCountWidth k ∷ field weightWidth w0 ∷ field ruleCountWidth n ∷ []
+    field formWidth formNumber ∷ field symbolCountWidth k ∷ field weightWidth w0 ∷ field ruleCountWidth n ∷ []
 
 abbrev symbol : ℕ → ℕ → ℕ → ℕ → List Item
 symbol arity ac weight rank =
@@ -74,14 +74,19 @@ constant = header 1 1 1 ++ symbol 0 0 1 0
 abbrev unary : List Item
 unary = header 1 1 1 ++ symbol 1 0 1 0
 
+-- The same with two rules.
+abbrev twoRules : List Item
+twoRules = header 1 1 2 ++ symbol 0 0 1 0
+
 -- The two before the last are the listing with a set bit after its last rule, and with a byte too many.
 abbrev decodeCases : List ErrorCase
 decodeCases =
     gives (replicate 32769 0) fileTooLong 0 ∷
     gives [] fieldMissing 0 ∷
-    gives (0x10 ∷ []) fieldMissing 4 ∷
+    gives (0x20 ∷ []) fieldMissing 4 ∷
     gives (take 16 listing) fieldMissing 122 ∷
-    gives (0x20 ∷ []) wrongForm 0 ∷
+    gives (0x10 ∷ []) oldForm 0 ∷
+    gives (0x30 ∷ []) wrongForm 0 ∷
     gives (bits (header 0 1 0)) noSymbols 4 ∷
     gives (bits (header 1 0 0)) variableWeightless 12 ∷
     gives (bits (header 1 1 0 ++ symbol 3 1 1 0)) acNotBinary 38 ∷
@@ -89,6 +94,9 @@ decodeCases =
     gives (bits (header 1 1 0 ++ symbol 1 0 0 0)) weightInadmissible 42 ∷
     gives (bits (header 2 1 0 ++ symbol 0 0 1 5 ++ symbol 0 0 1 5)) rankTaken 86 ∷
     gives (bits (constant ++ (node 1 ∷ []))) noSuchSymbol 67 ∷
+    gives (bits (constant ++ (node 257 ∷ []))) variableOutOfTurn 67 ∷
+    gives (bits (constant ++ (node 256 ∷ node 258 ∷ []))) variableOutOfTurn 72 ∷
+    gives (bits (twoRules ++ (node 256 ∷ node 257 ∷ node 257 ∷ []))) variableOutOfTurn 77 ∷
     gives (bits (unary ++ replicate 128 (node 0))) tooManyNodes 1218 ∷
     gives (take 16 listing ++ (1 ∷ [])) badPadding 130 ∷
     gives (listing ++ (0 ∷ [])) badPadding 130 ∷
@@ -96,8 +104,8 @@ decodeCases =
     []
 
 decode-errors : map (λ (c : ErrorCase). decoded (c .read) (c .lent)) decodeCases ≡ map refusal decodeCases
-unfolding decoded readBytes wholeReader fileReader bodyReader symbolsReader symbolReader rulesReader ruleReader
-    forestReader bitField unpacked items flatMap
+unfolding decoded readBytesIn wholeReader fileReader bodyReader symbolsReader symbolReader rulesReader ruleReader
+    forestReader bitField unpacked itemsIn flatMap
 decode-errors = refl
 
 abbrev encodeCases : List ErrorCase
@@ -105,7 +113,8 @@ encodeCases =
     gives [] fieldMissing 0 ∷
     gives (sheet (constant ++ (node 0 ∷ []))) fieldMissing 9 ∷
     gives (sheet (unary ++ replicate 127 (node 0))) fieldMissing 135 ∷
-    gives (2 ∷ []) wrongForm 0 ∷
+    gives (1 ∷ []) oldForm 0 ∷
+    gives (3 ∷ []) wrongForm 0 ∷
     gives (sheet (header 0 1 0)) noSymbols 1 ∷
     gives (sheet (header 1 0 0)) variableWeightless 2 ∷
     gives (sheet (header 1 1 0 ++ symbol 3 1 1 0)) acNotBinary 4 ∷
@@ -113,9 +122,12 @@ encodeCases =
     gives (sheet (header 1 1 0 ++ symbol 1 0 0 0)) weightInadmissible 6 ∷
     gives (sheet (header 2 1 0 ++ symbol 0 0 1 5 ++ symbol 0 0 1 5)) rankTaken 11 ∷
     gives (sheet (constant ++ (node 1 ∷ []))) noSuchSymbol 8 ∷
+    gives (sheet (constant ++ (node 257 ∷ []))) variableOutOfTurn 8 ∷
+    gives (sheet (constant ++ (node 256 ∷ node 258 ∷ []))) variableOutOfTurn 9 ∷
+    gives (sheet (twoRules ++ (node 256 ∷ node 257 ∷ node 257 ∷ []))) variableOutOfTurn 10 ∷
     gives (sheet (unary ++ replicate 128 (node 0))) tooManyNodes 136 ∷
     gives (16 ∷ []) wordTooWide 0 ∷
-    gives (1 ∷ 256 ∷ []) wordTooWide 1 ∷
+    gives (2 ∷ 256 ∷ []) wordTooWide 1 ∷
     gives (sheet (header 1 1 0 ++ symbol 3 2 1 0)) wordTooWide 5 ∷
     gives (sheet (constant ++ (node 272 ∷ []))) wordTooWide 8 ∷
     gives (sheet (constant ++ (node 0 ∷ node 0 ∷ node 0 ∷ []))) wordsLeftOver 10 ∷
@@ -124,5 +136,5 @@ encodeCases =
 
 encode-errors : map (λ (c : ErrorCase). encoded (c .read) (c .lent)) encodeCases ≡ map refusal encodeCases
 unfolding encoded readWords wholeReader fileReader bodyReader symbolsReader symbolReader rulesReader ruleReader
-    forestReader wordBelow packed items flatMap
+    forestReader wordBelow packedIn itemsIn flatMap
 encode-errors = refl

@@ -13,7 +13,7 @@ use Rattle.format.specs.Errors.{fieldMissing, noSuchSymbol, tooManyNodes, wordT
 use Rattle.format.specs.Reading.{bitField, wordBelow}
 use Rattle.format.specs.Format.{symbolReader, symbolsReader, forestReader, ruleReader, rulesReader, bodyReader}
 use Rattle.format.specs.Format.{fileReader}
-use Rattle.format.specs.Files.{wholeReader, readBytes, readTerm}
+use Rattle.format.specs.Files.{wholeReader, readBytesIn, readTerm}
 use Rattle.operations.specs.Replies.{Reply}
 use Rattle.operations.specs.Replies.Reply.{accepted, refused}
 use Rattle.operations.specs.declared.Relation.{Relation}
@@ -24,7 +24,7 @@ use Rattle.operations.specs.Comparing.{relation, compared}
 
 -- Form 1, two symbols, w0 1, no rules; the symbols weigh 1 and have the ranks 1 and 0.
 abbrev pub book : List ℕ
-book = 0x10 ∷ 0x20 ∷ 0x00 ∷ 0x10 ∷ 0x00 ∷ 0x80 ∷ 0x00 ∷ 0x40 ∷ 0x40 ∷ 0x00 ∷ 0x04 ∷ 0x00 ∷ []
+book = 0x20 ∷ 0x20 ∷ 0x00 ∷ 0x10 ∷ 0x00 ∷ 0x80 ∷ 0x00 ∷ 0x40 ∷ 0x40 ∷ 0x00 ∷ 0x04 ∷ 0x00 ∷ []
 
 record Case : Type 0 where
   left : List ℕ
@@ -59,12 +59,12 @@ cases =
     []
 
 cases-hold : map (λ (c : Case). compared book (c .left) (c .right)) cases ≡ map (λ (c : Case). c .reply) cases
-unfolding compared readInputs readTerms relation readBytes readTerm wholeReader fileReader bodyReader
+unfolding compared readInputs readTerms relation readBytesIn readTerm wholeReader fileReader bodyReader
     symbolsReader symbolReader rulesReader ruleReader forestReader bitField wordBelow forestOf isGreater isGreaterTo
     decreasingMark rootMark flattenedMark noneOftener isEquivalent isEquivalentTo rowEqual rowGreater multisetEqual
     multisetGreater
 cases-hold = refl
 
-faulty-book : compared (0x20 ∷ []) [] [] ≡ refused (record { code = 3; input = 0; offset = 0 })
-unfolding compared readInputs readBytes wholeReader fileReader bitField
+faulty-book : compared (0x10 ∷ []) [] [] ≡ refused (record { code = 17; input = 0; offset = 0 })
+unfolding compared readInputs readBytesIn wholeReader fileReader bitField
 faulty-book = refl

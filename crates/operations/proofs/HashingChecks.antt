@@ -9,7 +9,7 @@ use Rattle.format.specs.Errors.{fieldMissing, noSuchSymbol, tooManyNodes, wordT
 use Rattle.format.specs.Reading.{bitField, wordBelow}
 use Rattle.format.specs.Format.{symbolReader, symbolsReader, forestReader, ruleReader, rulesReader, bodyReader}
 use Rattle.format.specs.Format.{fileReader}
-use Rattle.format.specs.Files.{wholeReader, readBytes, readTerm}
+use Rattle.format.specs.Files.{wholeReader, readBytesIn, readTerm}
 use Rattle.operations.specs.Replies.{Reply}
 use Rattle.operations.specs.Replies.Reply.{accepted, refused}
 use Rattle.operations.specs.Hashing.{fingerprintedTerm, fingerprinted}
@@ -38,10 +38,10 @@ cases =
     []
 
 cases-hold : map (λ (c : Case). fingerprinted book (c .term)) cases ≡ map (λ (c : Case). c .reply) cases
-unfolding fingerprinted fingerprintedTerm readBytes readTerm wholeReader fileReader bodyReader symbolsReader
+unfolding fingerprinted fingerprintedTerm readBytesIn readTerm wholeReader fileReader bodyReader symbolsReader
     symbolReader rulesReader ruleReader forestReader bitField wordBelow forestOf fingerprint fingerprintTo
 cases-hold = refl
 
-faulty-book : fingerprinted (0x20 ∷ []) [] ≡ refused (record { code = 3; input = 0; offset = 0 })
-unfolding fingerprinted readBytes wholeReader fileReader bitField
+faulty-book : fingerprinted (0x10 ∷ []) [] ≡ refused (record { code = 17; input = 0; offset = 0 })
+unfolding fingerprinted readBytesIn wholeReader fileReader bitField
 faulty-book = refl

@@ -3,6 +3,7 @@ pub mod InputLaws
 pub mod PickingLaws
 mod CodingChecks
 mod LongFileChecks
+mod ConvertingChecks
 mod ComparingChecks
 mod PickingChecks
 mod VariablesChecks

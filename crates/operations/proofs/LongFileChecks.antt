@@ -13,7 +13,7 @@ use Rattle.format.specs.Reading.Reading.{got}
 use Rattle.format.specs.Format.{RuleFile, symbolReader, symbolsReader, forestReader, ruleReader, rulesReader}
 use Rattle.format.specs.Format.{bodyReader, fileReader}
 use Rattle.format.specs.Files.{wholeReader, readWords}
-use Rattle.format.specs.Packing.{items, packed, unpacked}
+use Rattle.format.specs.Packing.{itemsIn, packedIn, packed, unpacked}
 use Rattle.format.specs.Statements.{WellFormedFile}
 use Rattle.format.specs.Statements.IsRead.{fromWords}
 use Rattle.format.proofs.Theorems.{readable-well-formed, well-formed-files-read}
@@ -36,7 +36,7 @@ file n = record {
 
 one-reads : readWords (unpacked (file 1)) ≡ got (file 1) 268
 unfolding readWords wholeReader fileReader bodyReader symbolsReader symbolReader rulesReader ruleReader forestReader
-    wordBelow unpacked items flatMap
+    wordBelow unpacked itemsIn flatMap
 one-reads = refl
 
 one-formed : WellFormedFile (file 1)
@@ -62,10 +62,11 @@ long-formed =
         precedence = within .precedence;
       };
       sides = λ r m. one-formed .sides r (List·Memᴰ·head (all-same 114 m));
+      inTurn = λ r m. one-formed .inTurn r (List·Memᴰ·head (all-same 114 m));
     }
 
 too-long : leb (length (packed (file 114))) maxBytes ≡ false
-unfolding packed items flatMap
+unfolding packedIn itemsIn flatMap
 too-long = refl
 
 long-refused : (output : List ℕ) → encoded (unpacked (file 114)) output ≡

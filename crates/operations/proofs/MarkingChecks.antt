@@ -11,7 +11,7 @@ use Rattle.format.specs.Errors.{fieldMissing, marksTooShort}
 use Rattle.format.specs.Reading.{bitField}
 use Rattle.format.specs.Format.{symbolReader, symbolsReader, forestReader, ruleReader, rulesReader, bodyReader}
 use Rattle.format.specs.Format.{fileReader}
-use Rattle.format.specs.Files.{wholeReader, readBytes}
+use Rattle.format.specs.Files.{wholeReader, readBytesIn}
 use Rattle.operations.specs.Replies.{Outcome}
 use Rattle.operations.specs.Replies.Reply.{accepted, refused}
 use Rattle.format.specs.Listing.{listing}
@@ -21,7 +21,7 @@ use Rattle.operations.specs.Report.{report}
 
 listing-marked : marked listing (7 ∷ 7 ∷ 7 ∷ []) ≡
     record { reply = accepted (record { rules = 2; decreasing = 1; score = 50 }); output = 2 ∷ 10 ∷ 7 ∷ [] }
-unfolding marked readBytes wholeReader fileReader bodyReader symbolsReader symbolReader rulesReader ruleReader
+unfolding marked readBytesIn wholeReader fileReader bodyReader symbolsReader symbolReader rulesReader ruleReader
     forestReader bitField forestOf mark isGreater isGreaterTo decreasingMark rootMark flattenedMark noneOftener
     isEquivalent isEquivalentTo rowEqual rowGreater multisetEqual multisetGreater
 listing-marked = refl
@@ -31,21 +31,21 @@ refusal code input offset marks =
     record { reply = refused (record { code = code; input = input; offset = offset }); output = marks }
 
 too-short-refused : marked listing (7 ∷ []) ≡ refusal marksTooShort 1 0 (7 ∷ [])
-unfolding marked readBytes wholeReader fileReader bodyReader symbolsReader symbolReader rulesReader ruleReader
+unfolding marked readBytesIn wholeReader fileReader bodyReader symbolsReader symbolReader rulesReader ruleReader
     forestReader bitField
 too-short-refused = refl
 
 empty-refused : marked [] (7 ∷ []) ≡ refusal fieldMissing 0 0 (7 ∷ [])
-unfolding marked readBytes wholeReader fileReader bitField
+unfolding marked readBytesIn wholeReader fileReader bitField
 empty-refused = refl
 
 -- 01's own text.
 listing-prints : report listing ≡ ascii "rules 2\n0 2 0\n1 10 0\nscore 50\nreturned\n"
-unfolding report digits readBytes wholeReader fileReader bodyReader symbolsReader symbolReader rulesReader ruleReader
+unfolding report digits readBytesIn wholeReader fileReader bodyReader symbolsReader symbolReader rulesReader ruleReader
     forestReader bitField forestOf mark isGreater isGreaterTo decreasingMark rootMark flattenedMark noneOftener
     isEquivalent isEquivalentTo rowEqual rowGreater multisetEqual multisetGreater
 listing-prints = refl
 
 empty-prints : report [] ≡ ascii "refusal 2 0\n"
-unfolding report digits readBytes wholeReader fileReader bitField
+unfolding report digits readBytesIn wholeReader fileReader bitField
 empty-prints = refl

@@ -12,7 +12,7 @@ use Rattle.format.specs.Errors.{fieldMissing, noSuchSymbol, tooManyNodes, wordT
 use Rattle.format.specs.Reading.{bitField, wordBelow}
 use Rattle.format.specs.Format.{symbolReader, symbolsReader, forestReader, ruleReader, rulesReader, bodyReader}
 use Rattle.format.specs.Format.{fileReader}
-use Rattle.format.specs.Files.{wholeReader, readBytes, readFirstTerm}
+use Rattle.format.specs.Files.{wholeReader, readBytesIn, readFirstTerm}
 use Rattle.operations.specs.Replies.{Reply}
 use Rattle.operations.specs.Replies.Reply.{accepted, refused}
 use Rattle.operations.specs.declared.GreaterSide.{GreaterSide}
@@ -56,19 +56,19 @@ cases =
     []
 
 replies-hold : map (λ (c : Case). picked book (c .left) (c .right)) cases ≡ map (λ (c : Case). c .reply) cases
-unfolding picked readInputs readTerms relation readBytes readFirstTerm wholeReader fileReader bodyReader
+unfolding picked readInputs readTerms relation readBytesIn readFirstTerm wholeReader fileReader bodyReader
     symbolsReader symbolReader rulesReader ruleReader forestReader bitField wordBelow forestOf isGreater isGreaterTo
     decreasingMark rootMark flattenedMark noneOftener isEquivalent isEquivalentTo rowEqual rowGreater multisetEqual
     multisetGreater
 replies-hold = refl
 
 parts-hold : map (λ (c : Case). greaterPart book (c .left) (c .right)) cases ≡ map (λ (c : Case). c .part) cases
-unfolding greaterPart picked readInputs readTerms relation readBytes readFirstTerm wholeReader fileReader bodyReader
+unfolding greaterPart picked readInputs readTerms relation readBytesIn readFirstTerm wholeReader fileReader bodyReader
     symbolsReader symbolReader rulesReader ruleReader forestReader bitField wordBelow forestOf isGreater isGreaterTo
     decreasingMark rootMark flattenedMark noneOftener isEquivalent isEquivalentTo rowEqual rowGreater multisetEqual
     multisetGreater
 parts-hold = refl
 
-faulty-book : picked (0x20 ∷ []) [] [] ≡ refused (record { code = 3; input = 0; offset = 0 })
-unfolding picked readInputs readBytes wholeReader fileReader bitField
+faulty-book : picked (0x10 ∷ []) [] [] ≡ refused (record { code = 17; input = 0; offset = 0 })
+unfolding picked readInputs readBytesIn wholeReader fileReader bitField
 faulty-book = refl

@@ -9,7 +9,7 @@ use Rattle.format.specs.Errors.{fieldMissing, noSuchSymbol, tooManyNodes, wordT
 use Rattle.format.specs.Reading.{bitField, wordBelow}
 use Rattle.format.specs.Format.{symbolReader, symbolsReader, forestReader, ruleReader, rulesReader, bodyReader}
 use Rattle.format.specs.Format.{fileReader}
-use Rattle.format.specs.Files.{wholeReader, readBytes, readTerm}
+use Rattle.format.specs.Files.{wholeReader, readBytesIn, readTerm}
 use Rattle.operations.specs.Replies.{Reply}
 use Rattle.operations.specs.Replies.Reply.{accepted, refused}
 use Rattle.operations.specs.Inputs.{readTerms, readInputs}
@@ -43,6 +43,6 @@ cases =
     []
 
 cases-hold : map (λ (c : Case). oftener book (c .left) (c .right)) cases ≡ map (λ (c : Case). c .reply) cases
-unfolding oftener readInputs readTerms readBytes readTerm wholeReader fileReader bodyReader symbolsReader
+unfolding oftener readInputs readTerms readBytesIn readTerm wholeReader fileReader bodyReader symbolsReader
     symbolReader rulesReader ruleReader forestReader bitField wordBelow forestOf firstOftener oftenerFrom
 cases-hold = refl

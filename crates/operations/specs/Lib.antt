@@ -1,6 +1,7 @@
 -- What the operations give back, the reply and the memory lent to them afterwards, for every input.
 pub mod Replies
 pub mod Coding
+pub mod Converting
 pub mod Inputs
 pub mod Comparing
 pub mod Picking

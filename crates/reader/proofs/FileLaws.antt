@@ -4,7 +4,7 @@
 --     rest-unread, rest-unended, rest-ended, rest-read     what follows the symbols
 --     rest-fault, file-read                         the whole
 use mathlib.Core.Path.{_≡_, refl, sym, ap, _∙_}
-use mathlib.Core.List.{List, [], _∷_}
+use mathlib.Core.List.{List, []}
 use mathlib.Core.Bool.{Bool}
 use Prim.Native.Nat.{ℕ, _≤_, _<_}
 use native.Mathlib.Omega.{arith}
@@ -12,11 +12,12 @@ use lib.Dec.{eqb, leb}
 use lib.ListN.{length, take}
 use lib.Seq.{length-take-le}
 use Rattle.terms.specs.Signature.{Symbol, Signature, Admissible}
-use Rattle.format.specs.Errors.{wrongForm, noSymbols, variableWeightless}
-use Rattle.format.specs.Layout.{formWidth, formNumber, symbolCountWidth, weightWidth, ruleCountWidth, maxBytes}
+use Rattle.format.specs.Errors.{noSymbols, variableWeightless}
+use Rattle.format.specs.Layout.{formWidth, symbolCountWidth, weightWidth, ruleCountWidth, maxBytes}
 use Rattle.format.specs.Reading.{Reading, Reader, andThen, give, require, Source}
 use Rattle.format.specs.Reading.Reading.{got, fault}
-use Rattle.format.specs.Format.{Sides, RuleFile, symbolsReader, rulesReader, bodyReader, fileReader}
+use Rattle.format.specs.Format.{Sides, RuleFile, unusedOf, formError, symbolsReader, rulesReader, bodyReader}
+use Rattle.format.specs.Format.{fileReader}
 use Rattle.format.specs.Files.{wholeReader}
 use Rattle.format.proofs.ReadingLaws.{andThen-assoc, andThen-same, holds-got}
 use Rattle.format.proofs.FormatLaws.{symbols-read, rules-length}
@@ -35,7 +36,7 @@ use Rattle.reader.proofs.SourceLaws.{tested-then, field-fits, reached-s
 
 -- ---- the whole file by its form and what follows
 
-module _ (packed : Bool) (bytes words : List ℕ) where
+module _ (form : ℕ) (packed : Bool) (bytes words : List ℕ) where
   abbrev S : Source
   S = sourceOf packed bytes words
 
@@ -43,25 +44,25 @@ module _ (packed : Bool) (bytes words : List ℕ) where
   abbrev ends : RuleFile → Reader RuleFile
   ends f at = andThen (S .end at) (λ u. give f)
 
-  body-parts : (w0 symbols rules at : ℕ) → andThen (bodyReader S w0 symbols rules at) ends ≡
-      tableReader packed bytes words w0 symbols rules at
+  body-parts : (w0 symbols rules at : ℕ) → andThen (bodyReader S (unusedOf form) w0 symbols rules at) ends ≡
+      tableReader form packed bytes words w0 symbols rules at
   unfolding bodyReader tableReader restReader
   body-parts w0 symbols rules at =
       andThen-assoc (symbolsReader S w0 symbols [] at) _ ends
       ∙ andThen-same (symbolsReader S w0 symbols [] at) _ _
-      (λ ss next. andThen-assoc (rulesReader S (record { w0 = w0; symbols = ss }) rules next) _ ends)
+      (λ ss next. andThen-assoc (rulesReader S (unusedOf form) (record { w0 = w0; symbols = ss }) rules next) _ ends)
 
   abbrev afterW0 : ℕ → ℕ → Reader RuleFile
-  afterW0 symbols w0 at = andThen (S .field ruleCountWidth at) (bodyReader S w0 symbols)
+  afterW0 symbols w0 at = andThen (S .field ruleCountWidth at) (bodyReader S (unusedOf form) w0 symbols)
 
   w0-parts : (symbols at : ℕ) →
       andThen (andThen (tested S weightWidth (leb 1) variableWeightless at) (afterW0 symbols)) ends
       ≡ andThen (tested S weightWidth (leb 1) variableWeightless at)
-      (λ w0 next. andThen (S .field ruleCountWidth next) (tableReader packed bytes words w0 symbols))
+      (λ w0 next. andThen (S .field ruleCountWidth next) (tableReader form packed bytes words w0 symbols))
   w0-parts symbols at =
       andThen-assoc (tested S weightWidth (leb 1) variableWeightless at) (afterW0 symbols) ends
       ∙ andThen-same (tested S weightWidth (leb 1) variableWeightless at) _ _ λ w0 next.
-      andThen-assoc (S .field ruleCountWidth next) (bodyReader S w0 symbols) ends
+      andThen-assoc (S .field ruleCountWidth next) (bodyReader S (unusedOf form) w0 symbols) ends
       ∙ andThen-same (S .field ruleCountWidth next) _ _ (body-parts w0 symbols)
 
   abbrev afterCount : ℕ → Reader RuleFile
@@ -72,7 +73,7 @@ module _ (packed : Bool) (bytes words : List ℕ) where
   counts-parts : (at : ℕ) →
       andThen (andThen (S .field symbolCountWidth at)
       (λ k next. andThen (require (leb 1 k) noSymbols at next) (λ _. afterCount k))) ends
-      ≡ countsReader packed bytes words at
+      ≡ countsReader form packed bytes words at
   unfolding countsReader
   counts-parts at =
       ap (λ (r : Reading RuleFile). andThen r ends) (tested-then S symbolCountWidth (leb 1) noSymbols at afterCount)
@@ -81,15 +82,15 @@ module _ (packed : Bool) (bytes words : List ℕ) where
       ap (λ (r : Reading RuleFile). andThen r ends)
       (tested-then S weightWidth (leb 1) variableWeightless next (afterW0 k)) ∙ w0-parts k next
 
-  pub read-parts : wholeReader formNumber S 0 ≡ andThen (S .field formWidth 0)
-      (λ form next. andThen (require (eqb form formNumber) wrongForm 0 next)
-      (λ _. countsReader packed bytes words))
+  pub read-parts : wholeReader form S 0 ≡ andThen (S .field formWidth 0)
+      (λ read next. andThen (require (eqb read form) (formError read) 0 next)
+      (λ _. countsReader form packed bytes words))
   unfolding wholeReader fileReader
   read-parts =
       andThen-assoc (S .field formWidth 0) _ ends
-      ∙ andThen-same (S .field formWidth 0) _ _ λ form next.
-      andThen-assoc (require (eqb form formNumber) wrongForm 0 next) _ ends
-      ∙ andThen-same (require (eqb form formNumber) wrongForm 0 next) _ _ (λ u. counts-parts)
+      ∙ andThen-same (S .field formWidth 0) _ _ λ read next.
+      andThen-assoc (require (eqb read form) (formError read) 0 next) _ ends
+      ∙ andThen-same (require (eqb read form) (formError read) 0 next) _ _ (λ u. counts-parts)
 
 -- ---- after the header
 
@@ -102,10 +103,10 @@ symbols-admissible packed bytes words w0 n at ss end e positive =
     holds-got _ _ ss end (symbols-read (sourceOf packed bytes words) (field-fits packed bytes words) w0 n [] at) e in
     admissible-of-symbols (record { w0 = w0; symbols = ss }) (rw (sym same) at oks) positive
 
-module _ (packed : Bool) (bytes words : List ℕ) (w0 symbols rules at : ℕ) where
+module _ (form : ℕ) (packed : Bool) (bytes words : List ℕ) (w0 symbols rules at : ℕ) where
   pub symbols-fault : (code offset : ℕ) →
       symbolsReader (sourceOf packed bytes words) w0 symbols [] at ≡ fault code offset →
-      tableReader packed bytes words w0 symbols rules at ≡ fault code offset
+      tableReader form packed bytes words w0 symbols rules at ≡ fault code offset
   unfolding tableReader
   symbols-fault code offset e = rw e
 
@@ -113,7 +114,8 @@ module _ (packed : Bool) (bytes words : List ℕ) (w0 symbols rules at : ℕ) wh
       symbolsReader (sourceOf packed bytes words) w0 symbols [] at ≡ got (symbolsAt table 0 symbols) next →
       weightOf table ≡ w0 → tableWords symbols ≤ length table → Reached packed bytes words 4 at →
       length bytes ≤ maxBytes → symbols < 256 → rules < 1024 → 0 < w0 →
-      HeadRead packed bytes words (tableReader packed bytes words w0 symbols rules at) (head.Read symbols rules next)
+      HeadRead form packed bytes words (tableReader form packed bytes words w0 symbols rules at)
+      (head.Read symbols rules next)
       table
   unfolding tableReader
   head-read table next read weight room start short few some positive =
@@ -142,44 +144,47 @@ table-of packed bytes words table symbols rules offset n head =
 
 -- ---- after the symbols
 
-module _ (packed : Bool) (bytes words : List ℕ) (σ : Signature) (count at : ℕ) where
-  pub rest-unread : (code offset : ℕ) → rulesReader (sourceOf packed bytes words) σ count at ≡ fault code offset →
-      restReader packed bytes words σ count at ≡ fault code offset
+module _ (form : ℕ) (packed : Bool) (bytes words : List ℕ) (σ : Signature) (count at : ℕ) where
+  pub rest-unread : (code offset : ℕ) → rulesReader (sourceOf packed bytes words)
+      (unusedOf form) σ count at ≡ fault code offset →
+      restReader form packed bytes words σ count at ≡ fault code offset
   unfolding restReader
   rest-unread code offset e = rw e
 
   module _ (rules : List Sides) (next : ℕ)
-      (e : rulesReader (sourceOf packed bytes words) σ count at ≡ got rules next) where
+      (e : rulesReader (sourceOf packed bytes words) (unusedOf form) σ count at ≡ got rules next) where
     pub rest-unended : (code offset : ℕ) → sourceOf packed bytes words .end next ≡ fault code offset →
-        restReader packed bytes words σ count at ≡ fault code offset
+        restReader form packed bytes words σ count at ≡ fault code offset
     unfolding restReader
     rest-unended code offset f = rw (e, f)
 
     pub rest-ended : (last : ℕ) → sourceOf packed bytes words .end next ≡ got tt last →
-        restReader packed bytes words σ count at ≡ got (record { signature = σ; rules = rules }) last
+        restReader form packed bytes words σ count at ≡ got (record { signature = σ; rules = rules }) last
     unfolding restReader
     rest-ended last f = rw (e, f)
 
   pub rest-read : (nodes next last : ℕ) (before after : List ℕ) →
-      WordsRead (storedWords packed) (rulesReader (sourceOf packed bytes words) σ count at) 0 before (Got nodes next)
+      WordsRead (storedWords form packed) (rulesReader (sourceOf packed bytes words)
+      (unusedOf form) σ count at) 0 before (Got nodes next)
       after → sourceOf packed bytes words .end next ≡ got tt last →
-      RestRead packed bytes words σ count at (Got nodes next) before after
+      RestRead form packed bytes words σ count at (Got nodes next) before after
   rest-read nodes next last before after (rules, e, long, stored) f =
       (rules, last, e, rest-ended rules next e last f, omega (arith, long), stored)
 
 -- ---- the whole
 
-module _ (packed : Bool) (bytes words table before after : List ℕ) (reading : Reading RuleFile)
-    (symbols rules start : ℕ) (read : HeadRead packed bytes words reading (head.Read symbols rules start) table) where
+module _ (form : ℕ) (packed : Bool) (bytes words table before after : List ℕ) (reading : Reading RuleFile)
+    (symbols rules start : ℕ) (read : HeadRead form packed bytes words reading
+    (head.Read symbols rules start) table) where
   abbrev σ : Signature
   σ = signatureOf (take (tableWords symbols) table)
 
-  pub rest-fault : (code offset : ℕ) → RestRead packed bytes words σ rules start (Fault offset code) before after →
-      FileRead packed bytes words reading (file.Fault code offset) table before after
+  pub rest-fault : (code offset : ℕ) → RestRead form packed bytes words σ rules start (Fault offset code) before after →
+      FileRead form packed bytes words reading (file.Fault code offset) table before after
   rest-fault code offset e = read .0 ∙ e
 
-  pub file-read : (nodes next : ℕ) → RestRead packed bytes words σ rules start (Got nodes next) before after →
-      FileRead packed bytes words reading (file.Read symbols rules nodes start) table before after
+  pub file-read : (nodes next : ℕ) → RestRead form packed bytes words σ rules start (Got nodes next) before after →
+      FileRead form packed bytes words reading (file.Read symbols rules nodes start) table before after
   file-read nodes next (rs, last, rulesRead, all, count, stored) = (
     record { signature = σ; rules = rs },
     last,
@@ -187,7 +192,7 @@ module _ (packed : Bool) (bytes words table before after : List ℕ) (reading : 
     record {
       head = read .1;
       signature = refl;
-      ruleCount = sym (rules-length (sourceOf packed bytes words) σ rules start rs next rulesRead);
+      ruleCount = sym (rules-length (sourceOf packed bytes words) (unusedOf form) σ rules start rs next rulesRead);
       nodeCount = count;
       end = next;
       rulesRead = rulesRead;

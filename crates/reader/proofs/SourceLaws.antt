@@ -3,17 +3,18 @@
 --     tested-fault, tested-less, tested-got, tested-field, tested-then     a field that is tested
 --     field-fits                 a field that is read is within its width
 --     reached-start, reached-field, reached-symbols     where fields, and symbols, end
-use mathlib.Core.Path.{_≡_, refl, sym, ap}
+use mathlib.Core.Path.{_≡_, refl, ap}
 use mathlib.Core.List.{List, [], _∷_, flatMap}
 use mathlib.Core.Bool.{Bool, true, false}
-use Prim.Native.Nat.{ℕ, _+_, _*_, _%_, _^_, _≤_, _<_}
+use Prim.Native.Nat.{ℕ, _+_, _^_, _<_}
 use native.Mathlib.Omega.{arith}
-use lib.ListN.{length, length-append}
+use lib.ListN.{length}
 use Rattle.terms.specs.Signature.{Symbol}
+use Rattle.format.specs.Layout.{formNumber}
 use Rattle.format.specs.Reading.{Reading, Reader, Source, andThen, require, bitSource, wordSource}
 use Rattle.format.specs.Reading.Reading.{got, fault}
 use Rattle.format.specs.Format.{symbolsReader}
-use Rattle.format.specs.Files.{wholeReader, readBytes, readWords}
+use Rattle.format.specs.Files.{readBytesIn, readWords}
 use Rattle.format.specs.Packing.{itemWord, symbolItems}
 use Rattle.format.specs.Packing.Item.{field}
 use Rattle.format.proofs.ReadingLaws.{holds-got}
@@ -23,11 +24,11 @@ use Rattle.format.proofs.FormatLaws.{symbols-read}
 use Rattle.symbols.specs.Table.{entryWords}
 use Rattle.reader.specs.Source.{sourceOf, Reached, tested, readSource}
 
-pub read-packed : (bytes words : List ℕ) → readSource true bytes words ≡ readBytes bytes
-unfolding readSource readBytes sourceOf
-read-packed bytes words = refl
+pub read-packed : (form : ℕ) (bytes words : List ℕ) → readSource form true bytes words ≡ readBytesIn form bytes
+unfolding readSource readBytesIn sourceOf
+read-packed form bytes words = refl
 
-pub read-words : (words : List ℕ) → readSource false [] words ≡ readWords words
+pub read-words : (words : List ℕ) → readSource formNumber false [] words ≡ readWords words
 unfolding readSource readWords sourceOf
 read-words words = refl
 

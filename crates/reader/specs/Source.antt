@@ -6,7 +6,7 @@ use Prim.Native.Nat.{ℕ, _*_, _≤_}
 use lib.ListN.{length}
 use lib.Dec.{leb}
 use Rattle.format.specs.Errors.{fileTooLong}
-use Rattle.format.specs.Layout.{formNumber, maxBytes}
+use Rattle.format.specs.Layout.{maxBytes}
 use Rattle.format.specs.Reading.{Reading, Reader, _>>=_, _>>_, give, here, require, Source, bitSource, wordSource}
 use Rattle.format.specs.Reading.Reading.{fault}
 use Rattle.format.specs.Format.{RuleFile}
@@ -29,7 +29,7 @@ tested source width ok error = do
   require (ok value) error offset
   give value
 
--- The file that is read from the bytes, or from the words where there are no bytes.
-unfoldable pub readSource : Bool → List ℕ → List ℕ → Reading RuleFile
-readSource packed bytes words =
-    cond (leb (length bytes) maxBytes) (wholeReader formNumber (sourceOf packed bytes words) 0) (fault fileTooLong 0)
+-- The file of that form that is read from the bytes, or from the words where there are no bytes.
+unfoldable pub readSource : ℕ → Bool → List ℕ → List ℕ → Reading RuleFile
+readSource form packed bytes words =
+    cond (leb (length bytes) maxBytes) (wholeReader form (sourceOf packed bytes words) 0) (fault fileTooLong 0)

@@ -1,8 +1,10 @@
 // Reading a whole file: its symbol table, its counts and its rules, or its first fault.
+ghost use mathlib.Core.Path.{_≡_};
 ghost use Prim.Native.Nat.{ℕ, _^_, _≤_, _<_};
 ghost use lib.ListN.{length};
 ghost use Rattle.format.specs.Layout.{maxBytes};
-ghost use Rattle.symbols.specs.Table.{signatureOf, tableWords, maxTableWords};
+ghost use Rattle.format.specs.Format.{formError};
+ghost use Rattle.symbols.specs.Table.{signatureOf, maxTableWords};
 ghost use Rattle.reader.specs.Source.{Reached, readSource};
 ghost use Rattle.reader.specs.File.{tableReader, countsReader, HeadRead, RestRead, FileRead};
 use crate::field::field;
@@ -53,8 +55,8 @@ fn read_table(
     requires { ⌜ (length (now book) ≤ maxBytes) × Reached packed (now book) (now sheet) 4 at ⌝ }
     requires { ⌜ (maxTableWords ≤ length (now table)) × (symbols < 256) × (rules < 1024) × (0 < w0) ⌝ }
     ensures { λ r. ⌜
-        HeadRead packed (now (book .entry)) (now (sheet .entry))
-        (tableReader packed (now (book .entry)) (now (sheet .entry)) w0 symbols rules at) r (now (table .exit))
+        ((form : ℕ) → HeadRead form packed (now (book .entry)) (now (sheet .entry))
+        (tableReader form packed (now (book .entry)) (now (sheet .entry)) w0 symbols rules at) r (now (table .exit)))
         ⌝ }
 {
     match crate::symbol::read_symbols(book, sheet, packed, table, w0, symbols, at) {
@@ -72,8 +74,8 @@ fn read_counts(book: &[u8], sheet: &[u16], packed: bool, table: &mut [u16], at: 
     requires { ⌜ (length (now book) ≤ maxBytes) × Reached packed (now book) (now sheet) 1 at ⌝ }
     requires { ⌜ maxTableWords ≤ length (now table) ⌝ }
     ensures { λ r. ⌜
-        HeadRead packed (now (book .entry)) (now (sheet .entry))
-        (countsReader packed (now (book .entry)) (now (sheet .entry)) at) r (now (table .exit))
+        ((form : ℕ) → HeadRead form packed (now (book .entry)) (now (sheet .entry))
+        (countsReader form packed (now (book .entry)) (now (sheet .entry)) at) r (now (table .exit)))
         ⌝ }
 {
     match field_at_least(book, sheet, packed, at, SYMBOL_COUNT_WIDTH, 1, NO_SYMBOLS) {
@@ -108,12 +110,22 @@ fn read_counts(book: &[u8], sheet: &[u16], packed: bool, table: &mut [u16], at: 
     }
 }
 
-// Reads the header and the symbols of a file, the symbols into the table.
-pub fn read_head(book: &[u8], sheet: &[u16], packed: bool, table: &mut [u16]) -> Head
+// The error of a form that is not the one that is read.
+fn form_error(form: usize) -> u8
+    ensures { λ r. ⌜ r ≡ formError form ⌝ }
+{
+    if form == format::FIRST_FORM as usize {
+        return format::OLD_FORM;
+    }
+    format::WRONG_FORM
+}
+
+// Reads the header and the symbols of a file of that form, the symbols into the table.
+pub fn read_head(book: &[u8], sheet: &[u16], packed: bool, form: u16, table: &mut [u16]) -> Head
     requires { ⌜ maxTableWords ≤ length (now table) ⌝ }
     ensures { λ r. ⌜
-        HeadRead packed (now (book .entry)) (now (sheet .entry))
-        (readSource packed (now (book .entry)) (now (sheet .entry))) r (now (table .exit))
+        HeadRead form packed (now (book .entry)) (now (sheet .entry))
+        (readSource form packed (now (book .entry)) (now (sheet .entry))) r (now (table .exit))
         ⌝ }
 {
     if format::MAX_BYTES < book.len() {
@@ -125,9 +137,9 @@ pub fn read_head(book: &[u8], sheet: &[u16], packed: bool, table: &mut [u16]) ->
     match field(book, sheet, packed, 0, format::FORM_WIDTH) {
         Answer::Fault { code, offset } => Head::Fault { code, offset },
         Answer::Got { value, next } => {
-            if value != format::FORM as usize {
+            if value != form as usize {
                 return Head::Fault {
-                    code: format::WRONG_FORM,
+                    code: form_error(value),
                     offset: 0,
                 };
             }
@@ -141,6 +153,7 @@ fn read_rest(
     book: &[u8],
     sheet: &[u16],
     packed: bool,
+    form: u16,
     table: &[u16],
     words: &mut [u16],
     count: usize,
@@ -149,11 +162,11 @@ fn read_rest(
     requires { ⌜ (length (now book) ≤ maxBytes) × (length (now table) ≤ maxTableWords) × (count < 1024) ⌝ }
     requires { ⌜ ((fields : ℕ) × (fields ≤ 2 ^ 16) × Reached packed (now book) (now sheet) fields at) ⌝ }
     ensures { λ r. ⌜
-        RestRead packed (now (book .entry)) (now (sheet .entry)) (signatureOf (now (table .entry))) count at r
+        RestRead form packed (now (book .entry)) (now (sheet .entry)) (signatureOf (now (table .entry))) count at r
         (now (words .entry)) (now (words .exit))
         ⌝ }
 {
-    match crate::rule::read_rules(book, sheet, packed, table, words, count, at) {
+    match crate::rule::read_rules(book, sheet, packed, form, table, words, count, at) {
         Answer::Fault { code, offset } => Answer::Fault { code, offset },
         Answer::Got { value, next } => match crate::field::end(book, sheet, packed, next) {
             Answer::Fault { code, offset } => Answer::Fault { code, offset },
@@ -165,22 +178,23 @@ fn read_rest(
     }
 }
 
-// Reads a file, its symbols into the table and the rules of a packed one into the front of the words.
+// Reads a file of that form, its symbols into the table and the rules of a packed one into the front of the words.
 pub fn read_file(
     book: &[u8],
     sheet: &[u16],
     packed: bool,
+    form: u16,
     table: &mut [u16],
     words: &mut [u16],
 ) -> File
     requires { ⌜ maxTableWords ≤ length (now table) ⌝ }
     ensures { λ r. ⌜
-        FileRead packed (now (book .entry)) (now (sheet .entry))
-        (readSource packed (now (book .entry)) (now (sheet .entry))) r (now (table .exit))
+        FileRead form packed (now (book .entry)) (now (sheet .entry))
+        (readSource form packed (now (book .entry)) (now (sheet .entry))) r (now (table .exit))
         (now (words .entry)) (now (words .exit))
         ⌝ }
 {
-    match read_head(book, sheet, packed, table) {
+    match read_head(book, sheet, packed, form, table) {
         Head::Fault { code, offset } => File::Fault { code, offset },
         Head::Read {
             symbols,
@@ -188,7 +202,16 @@ pub fn read_file(
             next,
         } => {
             let front = symbols::front(symbols);
-            match read_rest(book, sheet, packed, &table[..front], words, rules, next) {
+            match read_rest(
+                book,
+                sheet,
+                packed,
+                form,
+                &table[..front],
+                words,
+                rules,
+                next,
+            ) {
                 Answer::Fault { code, offset } => File::Fault { code, offset },
                 Answer::Got { value, next: last } => File::Read {
                     symbols,

@@ -1,32 +1,66 @@
 // Reading the rules of a file: those of a packed one are stored one after the other, those among words stay there.
 ghost use mathlib.Core.Path.{_≡_};
-ghost use Prim.Native.Nat.{ℕ, _*_, _^_, _≤_, _<_};
+ghost use mathlib.Core.List.{List};
+ghost use Prim.Native.Nat.{ℕ, _+_, _*_, _^_, _≤_, _<_};
 ghost use lib.ListN.{length};
 ghost use Rattle.terms.specs.Signature.{Signature};
-ghost use Rattle.format.specs.Layout.{maxBytes};
+ghost use Rattle.format.specs.Layout.{maxBytes, maxNodes};
 ghost use Rattle.format.specs.Reading.{bitSource, wordSource};
-ghost use Rattle.format.specs.Format.{ruleReader, rulesReader};
+ghost use Rattle.format.specs.Format.{Sides, unusedOf, ruleReader, rulesReader};
 ghost use Rattle.symbols.specs.Table.{signatureOf, maxTableWords};
 ghost use Rattle.symbols.specs.Arities.{Arities};
-ghost use Rattle.answers.specs.Answer.{endOf};
-ghost use Rattle.sides.specs.Side.{WordsRead, rulesWords};
+ghost use Rattle.answers.specs.Answer.{endOf, Within};
+ghost use Rattle.sides.specs.Side.{WordsRead, sideWords, rulesWords};
 ghost use Rattle.reader.specs.Source.{sourceOf, Reached};
-ghost use Rattle.reader.specs.File.{storedWords};
+ghost use Rattle.reader.specs.File.{sidesIn, rulesIn, storedWords};
 use answers::Answer;
 use format::NODE_WORDS;
+
+// Reads a rule of that form from bits, its words stored from an index on with the variables in order of first use; the
+// value is the index past them.
+fn read_packed_rule(
+    book: &[u8],
+    arities: &[u32; NODE_WORDS],
+    words: &mut [u16],
+    form: u16,
+    index: usize,
+    at: usize,
+) -> Answer
+    requires { ⌜ (length (now book) ≤ maxBytes) × (at ≤ 8 * length (now book)) × (index + maxNodes < 2 ^ 32) ⌝ }
+    ensures { λ r. ⌜
+        ((σ : Signature) → Arities σ (now (arities .entry)) →
+        WordsRead (λ (s : Sides). sideWords (sidesIn form s))
+        (ruleReader (bitSource (now (book .entry))) (unusedOf form) σ at)
+        index (now (words .entry)) r (now (words .exit)))
+        ⌝ }
+    ensures { λ r. ⌜ Within (index + 2 * maxNodes) (8 * length (now (book .entry))) r ⌝ }
+{
+    let unused = variables::unused_at_start(form);
+    let read = sides::read_rule_into(book, arities, words, unused, index, at);
+    if form != format::FIRST_FORM {
+        return read;
+    }
+    let Answer::Got { value, next: _ } = read else {
+        return read;
+    };
+    variables::renumber(words, index, value);
+    read
+}
 
 // Reads that many rules from bits, their words stored at the front; the value is how many words there are.
 fn read_packed_rules(
     book: &[u8],
     arities: &[u32; NODE_WORDS],
     words: &mut [u16],
+    form: u16,
     count: usize,
     at: usize,
 ) -> Answer
     requires { ⌜ (length (now book) ≤ maxBytes) × (at ≤ 8 * length (now book)) × (count < 1024) ⌝ }
     ensures { λ r. ⌜
         ((σ : Signature) → Arities σ (now (arities .entry)) →
-        WordsRead rulesWords (rulesReader (bitSource (now (book .entry))) σ count at)
+        WordsRead (λ (rules : List Sides). rulesWords (rulesIn form rules))
+        (rulesReader (bitSource (now (book .entry))) (unusedOf form) σ count at)
         0 (now (words .entry)) r (now (words .exit)))
         ⌝ }
 {
@@ -34,7 +68,7 @@ fn read_packed_rules(
     let mut here = at;
     let mut number = 0;
     while number < count {
-        match sides::read_rule_into(book, arities, words, end, here) {
+        match read_packed_rule(book, arities, words, form, end, here) {
             Answer::Fault { code, offset } => return Answer::Fault { code, offset },
             Answer::Got { value, next } => {
                 end = value;
@@ -49,34 +83,49 @@ fn read_packed_rules(
     }
 }
 
-// Reads a rule's two sides from words.
-fn read_word_rule(arities: &[u32; NODE_WORDS], sheet: &[u16], at: usize) -> Answer
-    requires { ⌜ at ≤ 2 ^ 19 ⌝ }
+// Reads a rule's two sides from words, where the variables from a number on are unused.
+fn read_word_rule(arities: &[u32; NODE_WORDS], sheet: &[u16], unused: u16, at: usize) -> Answer
+    requires { ⌜ (at ≤ 2 ^ 19) × (unused ≤ 16) ⌝ }
     requires { ⌜ ((σ : Signature) × Arities σ (now arities)) ⌝ }
     ensures { λ r. ⌜
         ((σ : Signature) → Arities σ (now (arities .entry)) →
-        r ≡ endOf (ruleReader (wordSource (now (sheet .entry))) σ at))
+        r ≡ endOf (ruleReader (wordSource (now (sheet .entry))) unused σ at))
         ⌝ }
 {
-    match words::term(arities, sheet, at) {
+    match words::term(arities, sheet, unused, at) {
         Answer::Fault { code, offset } => Answer::Fault { code, offset },
-        Answer::Got { value, next } => words::term(arities, sheet, next),
+        Answer::Got { value, next } => match words::term(arities, sheet, value as u16, next) {
+            Answer::Fault { code, offset } => Answer::Fault { code, offset },
+            Answer::Got {
+                value: after,
+                next: end,
+            } => Answer::Got {
+                value: 0,
+                next: end,
+            },
+        },
     }
 }
 
 // Reads that many rules from words.
-fn read_word_rules(arities: &[u32; NODE_WORDS], sheet: &[u16], count: usize, at: usize) -> Answer
-    requires { ⌜ (at ≤ 2 ^ 16) × (count < 1024) ⌝ }
+fn read_word_rules(
+    arities: &[u32; NODE_WORDS],
+    sheet: &[u16],
+    unused: u16,
+    count: usize,
+    at: usize,
+) -> Answer
+    requires { ⌜ (at ≤ 2 ^ 16) × (count < 1024) × (unused ≤ 16) ⌝ }
     requires { ⌜ ((σ : Signature) × Arities σ (now arities)) ⌝ }
     ensures { λ r. ⌜
         ((σ : Signature) → Arities σ (now (arities .entry)) →
-        r ≡ endOf (rulesReader (wordSource (now (sheet .entry))) σ count at))
+        r ≡ endOf (rulesReader (wordSource (now (sheet .entry))) unused σ count at))
         ⌝ }
 {
     let mut here = at;
     let mut number = 0;
     while number < count {
-        match read_word_rule(arities, sheet, here) {
+        match read_word_rule(arities, sheet, unused, here) {
             Answer::Fault { code, offset } => return Answer::Fault { code, offset },
             Answer::Got { value, next } => here = next,
         }
@@ -88,11 +137,12 @@ fn read_word_rules(arities: &[u32; NODE_WORDS], sheet: &[u16], count: usize, at:
     }
 }
 
-// Reads that many rules under a symbol table; the value is how many words are stored.
+// Reads that many rules of that form under a symbol table; the value is how many words are stored.
 pub fn read_rules(
     book: &[u8],
     sheet: &[u16],
     packed: bool,
+    form: u16,
     table: &[u16],
     words: &mut [u16],
     count: usize,
@@ -101,14 +151,15 @@ pub fn read_rules(
     requires { ⌜ (length (now book) ≤ maxBytes) × (length (now table) ≤ maxTableWords) × (count < 1024) ⌝ }
     requires { ⌜ ((fields : ℕ) × (fields ≤ 2 ^ 16) × Reached packed (now book) (now sheet) fields at) ⌝ }
     ensures { λ r. ⌜
-        WordsRead (storedWords packed)
-        (rulesReader (sourceOf packed (now (book .entry)) (now (sheet .entry))) (signatureOf (now (table .entry)))
-        count at)
+        WordsRead (storedWords form packed)
+        (rulesReader (sourceOf packed (now (book .entry)) (now (sheet .entry))) (unusedOf form)
+        (signatureOf (now (table .entry))) count at)
         0 (now (words .entry)) r (now (words .exit))
         ⌝ }
 {
     if packed {
-        return read_packed_rules(book, &symbols::arities(table), words, count, at);
+        return read_packed_rules(book, &symbols::arities(table), words, form, count, at);
     }
-    read_word_rules(&symbols::arities(table), sheet, count, at)
+    let unused = variables::unused_at_start(form);
+    read_word_rules(&symbols::arities(table), sheet, unused, count, at)
 }

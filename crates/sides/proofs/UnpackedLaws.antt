@@ -1,7 +1,7 @@
 -- The words of a file.
 --     node-words, rules-items             the nodes of rules as items, and back
 --     unpacked-parts, unpacked-length     the header, the symbols and the rules, and how many words they are
-use mathlib.Core.Path.{_≡_, refl, sym, ap, _∙_}
+use mathlib.Core.Path.{_≡_, refl, ap, _∙_}
 use mathlib.Core.List.{List, [], _∷_, _++_, map, flatMap, map-append}
 use Prim.Native.Nat.{ℕ, _+_}
 use native.Mathlib.Omega.{arith}
@@ -9,7 +9,7 @@ use lib.ListN.{length, length-append}
 use Rattle.terms.specs.Signature.{Symbol}
 use Rattle.format.specs.Layout.{formNumber}
 use Rattle.format.specs.Format.{Sides, RuleFile}
-use Rattle.format.specs.Packing.{Item, itemWord, symbolItems, ruleItems, items, unpacked}
+use Rattle.format.specs.Packing.{itemWord, symbolItems, ruleItems, itemsIn, items, unpacked}
 use Rattle.format.specs.Packing.Item.{node}
 use Rattle.symbols.specs.Table.{entryWords, symbolsWords}
 use Rattle.symbols.proofs.EntryLaws.{length-symbolsWords}
@@ -32,7 +32,7 @@ symbols-words (s ∷ ss) = map-append itemWord (symbolItems s) (flatMap symbolIt
 
 pub unpacked-parts : (file : RuleFile) → unpacked file ≡ formNumber ∷ length (file .signature .symbols)
     ∷ file .signature .w0 ∷ length (file .rules) ∷ (symbolsWords (file .signature .symbols) ++ rulesWords (file .rules))
-unfolding unpacked items
+unfolding unpacked itemsIn
 unpacked-parts file =
     rw (
       map-append itemWord (flatMap symbolItems (file .signature .symbols)) (flatMap ruleItems (file .rules)),

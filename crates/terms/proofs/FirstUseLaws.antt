@@ -1,23 +1,26 @@
 -- Renumbering node words by first use.
---     place-lt, place-injective                  the place of an element of a list
+--     has-append, has-last, some-append          what a list has, joined
+--     place-lt, place-append, -new, -injective   the place of an element of a list
 --     byWord, renameWord-symbol, -variable       one word, by cases
 --     bySight, see-symbol, see-known, see-new    what is seen after one word
 --     seen-word                                  each variable of the words is seen
 --     renumberFrom, renumber-at-once             the renumbering in one pass
 --     renumbered-inOrder, inOrder-renumbered     it gives words in order, and changes none that are
+--     inOrder-append                             words one after the other
 -- That it does not see a renaming is in FirstUseRenamed; of rules, in RuleRenumbering.
 use mathlib.Core.List.{List, [], _∷_, _++_, map, List·Memᴰ, List·Memᴰ·head, List·Memᴰ·tail}
 use mathlib.Core.List.{List·Memᴰ·not-nil, append-nil}
 use mathlib.Core.Path.{_≡_, refl, sym, ap, ap₂, _∙_}
-use mathlib.Core.Bool.{Bool, true, false, cond, _||_, and-eq-true-iff as both, false≢true, true≢false}
+use mathlib.Core.Bool.{Bool, true, false, cond, _&&_, _||_, and-eq-true-iff as both, false≢true, true≢false}
 use Prim.Native.Nat.{ℕ, suc, zero, _+_, _-_, _≤_, _<_}
 use native.Mathlib.Omega.{arith}
-use lib.Dec.{eqb}
+use lib.Dec.{eqb, leb}
 use lib.ListN.{length, length-append}
 use borrow.Author.Tests.{eqb-true, ne-eqb, lt-ltb, le-ltb, le-leb, leb-true}
 use Rattle.multisets.specs.Multiset.{some}
 use Rattle.terms.specs.Words.{firstVariable}
-use Rattle.terms.specs.FirstUse.{inOrderFrom, inOrder, see, seeAll, placeIn, renameWord, renumbered}
+use Rattle.terms.specs.FirstUse.{unusedAfter, unusedAfterAll, inOrderFrom, inOrder, see, seeAll, placeIn}
+use Rattle.terms.specs.FirstUse.{renameWord, renumbered}
 use Rattle.multisets.proofs.Relations.{byTest, byOrder, eqb-self}
 
 -- ---- places
@@ -35,7 +38,7 @@ pub has-last : (l : List ℕ) (x : ℕ) → Has (l ++ (x ∷ [])) x
 has-last [] x = rw eqb-self
 has-last (y ∷ l) x = byTest (eqb x y) (λ e. rw e) λ e. rw e (has-last l x)
 
-some-append : (p : ℕ → Bool) (l m : List ℕ) → some p (l ++ m) ≡ (some p l || some p m)
+pub some-append : (p : ℕ → Bool) (l m : List ℕ) → some p (l ++ m) ≡ (some p l || some p m)
 some-append p [] m = refl
 some-append p (y ∷ l) m = byTest (p y) (λ e. rw e) λ e. rw e (some-append p l m)
 
@@ -160,6 +163,13 @@ renumber-at-once [] seen = refl
 renumber-at-once (w ∷ ws) seen = ap₂ _∷_ (renumber-word ws seen w) (renumber-at-once ws (see seen w))
 
 -- ---- words in order
+
+pub inOrder-append : (n : ℕ) (l m : List ℕ) →
+    inOrderFrom n (l ++ m) ≡ (inOrderFrom n l && inOrderFrom (unusedAfterAll n l) m)
+unfolding inOrderFrom
+inOrder-append n [] m = refl
+inOrder-append n (w ∷ l) m =
+    byTest (leb w (firstVariable + n)) (λ e. rw e (inOrder-append (unusedAfter n w) l m)) λ e. rw e
 
 inOrder-symbol : (n w : ℕ) (ws : List ℕ) → w < firstVariable → inOrderFrom n (w ∷ ws) ≡ inOrderFrom n ws
 unfolding inOrderFrom

@@ -15,6 +15,11 @@ use Rattle.terms.specs.Renaming.{rename}
 abbrev pub unusedAfter : ℕ → ℕ → ℕ
 unusedAfter n w = cond (eqb w (firstVariable + n)) (suc n) n
 
+-- The same after several.
+abbrev pub unusedAfterAll : ℕ → List ℕ → ℕ
+unusedAfterAll n [] = n
+unusedAfterAll n (w ∷ ws) = unusedAfterAll (unusedAfter n w) ws
+
 -- No variable is out of turn, where n is the lowest unused number.
 unfoldable pub inOrderFrom : ℕ → List ℕ → Bool
 inOrderFrom n [] = true

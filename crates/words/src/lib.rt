@@ -1,15 +1,22 @@
 // Reading from words: a field, and the term at an offset or at the front.
 ghost use mathlib.Core.Path.{_≡_};
-ghost use Prim.Native.Nat.{ℕ, _+_, _*_, _^_, _≤_};
+ghost use mathlib.Core.Bool.{cond};
+ghost use Prim.Native.Nat.{ℕ, min, _+_, _-_, _*_, _^_, _≤_, _<_};
+ghost use lib.Dec.{eqb};
+ghost use lib.ListN.{length};
 ghost use Rattle.terms.specs.Signature.{Signature};
+ghost use Rattle.terms.specs.Words.{firstVariable};
+ghost use Rattle.terms.specs.FirstUse.{unusedAfterAll};
+ghost use Rattle.format.specs.Errors.{fieldMissing, tooManyNodes};
 ghost use Rattle.format.specs.Layout.{maxNodes};
 ghost use Rattle.format.specs.Reading.{wordBelow, wordSource};
 ghost use Rattle.format.specs.Format.{forestReader};
 ghost use Rattle.symbols.specs.Arities.{Arities};
-ghost use Rattle.answers.specs.Answer.{readingOf, Fits, answerOf, endOf};
-ghost use Rattle.words.specs.Terms.{readerOf};
+ghost use Rattle.answers.specs.Answer.{readingOf, Fits, answered, answerOf, endOf};
+ghost use Rattle.words.specs.Terms.{nodeError, readerOf};
 use answers::Answer;
 use answers::pack_fault;
+use format::FIRST_VARIABLE;
 use format::NODE_WORDS;
 
 // The word at an offset, which is to be below a bound.
@@ -36,50 +43,94 @@ pub fn word_below(words: &[u16], at: usize, bound: usize) -> Answer
     }
 }
 
-// Reads as many terms as are owed, and gives their end. It reads a node and calls itself for what is then owed, with
-// one node fewer allowed. The answer is a number, so that this call in last place is a jump.
+// The error where reading stops: a node too many, or a word that is missing.
+fn end_error(at: usize, limit: usize) -> u8
+    ensures { λ r. ⌜ r ≡ cond (eqb at limit) tooManyNodes fieldMissing ⌝ }
+    ensures { λ r. ⌜ (0 < r) × (r < 64) ⌝ }
+{
+    if at == limit {
+        return format::TOO_MANY_NODES;
+    }
+    format::FIELD_MISSING
+}
+
+// The error of a node word, 0 where it is none: too wide, a symbol that is not there, or a variable out of turn.
+fn node_error(arities: &[u32; NODE_WORDS], lowest: usize, word: u16) -> u8
+    ensures { λ r. ⌜ r ≡ nodeError (now (arities .entry)) lowest word ⌝ }
+    ensures { λ r. ⌜ r < 64 ⌝ }
+{
+    if NODE_WORDS <= symbols::wide(word) {
+        return format::WORD_TOO_WIDE;
+    }
+    if symbols::cell_at(arities, word) == 0 {
+        return format::NO_SUCH_SYMBOL;
+    }
+    if lowest < symbols::wide(word) {
+        return format::VARIABLE_OUT_OF_TURN;
+    }
+    0
+}
+
+// Reads as many terms as are owed, where the word of the lowest unused variable is given, and gives the lowest unused
+// variable after them and their end. It reads a node and calls itself for what is then owed. Nodes are allowed up to the
+// limit; it stops there or where the words end, so that one test serves both. The answer is a number, so that this call
+// in last place is a jump.
 fn terms(
     words: &&[u16],
     arities: &[u32; NODE_WORDS],
+    lowest: usize,
     at: usize,
-    allowed: usize,
+    limit: usize,
+    stop: usize,
     owed: usize,
 ) -> usize
-    requires { ⌜ (at + allowed ≤ 2 ^ 32) × (owed + 2 ^ 32 * allowed ≤ 2 ^ 60) ⌝ }
+    requires { ⌜ (at ≤ limit) × (limit ≤ 2 ^ 32) × (stop ≡ min limit (length (now (now words)))) ⌝ }
+    requires { ⌜ (owed + 2 ^ 32 * (limit - at) ≤ 2 ^ 60) × (256 ≤ lowest) × (lowest ≤ 272) ⌝ }
     ensures { λ r. ⌜
-        ((σ : Signature) → Arities σ (now (arities .entry)) →
-        answerOf r ≡ endOf (forestReader (wordSource (now (now (words .entry)))) σ allowed owed at))
+        ((σ : Signature) → Arities σ (now (arities .entry)) → (unused : ℕ) → lowest ≡ firstVariable + unused →
+        answerOf r
+        ≡ answered (unusedAfterAll unused)
+        (forestReader (wordSource (now (now (words .entry)))) unused σ (limit - at) owed at))
         ⌝ }
+    ensures { λ r. ⌜ Fits 17 (answerOf r) ⌝ }
 {
     if owed == 0 {
-        return answers::pack_value(0, at);
+        return answers::pack_value(lowest - FIRST_VARIABLE as usize, at);
     }
-    if allowed == 0 {
-        return pack_fault(format::TOO_MANY_NODES, at);
-    }
-    if words.len() <= at {
-        return pack_fault(format::FIELD_MISSING, at);
+    if stop <= at {
+        return pack_fault(end_error(at, limit), at);
     }
     let word = words[at];
-    if NODE_WORDS <= symbols::wide(word) {
-        return pack_fault(format::WORD_TOO_WIDE, at);
+    let error = node_error(arities, lowest, word);
+    if error != 0 {
+        return pack_fault(error, at);
     }
     let cell = symbols::cell_at(arities, word);
-    if cell == 0 {
-        return pack_fault(format::NO_SUCH_SYMBOL, at);
-    }
-    terms(words, arities, at + 1, allowed - 1, (cell - 1) + (owed - 1))
+    let after = variables::unused_after(lowest, symbols::wide(word));
+    let next = (cell - 1) + (owed - 1);
+    terms(words, arities, after, at + 1, limit, stop, next)
 }
 
-// Reads one term, and gives its end.
-pub fn term(arities: &[u32; NODE_WORDS], words: &[u16], at: usize) -> Answer
-    requires { ⌜ at ≤ 2 ^ 20 ⌝ }
+// The lesser of two numbers.
+fn lesser(a: usize, b: usize) -> usize
+    ensures { λ r. ⌜ r ≡ min a b ⌝ }
+{
+    if a < b { a } else { b }
+}
+
+// Reads one term, and gives the lowest unused variable after it and its end.
+pub fn term(arities: &[u32; NODE_WORDS], words: &[u16], unused: u16, at: usize) -> Answer
+    requires { ⌜ (at ≤ 2 ^ 20) × (unused ≤ 16) ⌝ }
     ensures { λ r. ⌜
         ((σ : Signature) → Arities σ (now (arities .entry)) →
-        r ≡ endOf (forestReader (wordSource (now (words .entry))) σ maxNodes 1 at))
+        r ≡ answered (unusedAfterAll unused) (forestReader (wordSource (now (words .entry))) unused σ maxNodes 1 at))
         ⌝ }
+    ensures { λ r. ⌜ Fits 17 r ⌝ }
 {
-    answers::unpack(terms(&words, arities, at, format::MAX_NODES, 1))
+    let lowest = (FIRST_VARIABLE + unused) as usize;
+    let limit = at + format::MAX_NODES;
+    let stop = lesser(limit, words.len());
+    answers::unpack(terms(&words, arities, lowest, at, limit, stop, 1))
 }
 
 // Reads the term at the front of the words, which is to be all of them where that is asked, and gives its end.
@@ -88,7 +139,7 @@ pub fn front_term(arities: &[u32; NODE_WORDS], words: &[u16], whole: bool) -> An
         ((σ : Signature) → Arities σ (now (arities .entry)) → r ≡ endOf (readerOf whole σ (now (words .entry))))
         ⌝ }
 {
-    match term(arities, words, 0) {
+    match term(arities, words, format::VARIABLES as u16, 0) {
         Answer::Fault { code, offset } => Answer::Fault { code, offset },
         Answer::Got { value, next } => {
             if whole {
@@ -99,7 +150,7 @@ pub fn front_term(arities: &[u32; NODE_WORDS], words: &[u16], whole: bool) -> An
                     };
                 }
             }
-            Answer::Got { value, next }
+            Answer::Got { value: 0, next }
         }
     }
 }

@@ -66,7 +66,7 @@ impl Report {
         name.contains(&self.filter)
     }
 
-    /// Opening, closing and marking of books.
+    /// Opening, closing, marking and converting of books.
     fn books(&mut self) {
         println!("| books | library | twin | ratio |\n|---|---|---|---|");
         let mut random = Random::new(SEED);
@@ -80,6 +80,7 @@ impl Report {
             self.decode(&format!("decode {name}"), books);
             self.encode(&format!("encode {name}"), books);
             self.mark(&format!("mark {name}"), books);
+            self.convert(&format!("convert {name}"), books);
         }
         self.mark("mark no rules", &empty);
         self.mark("mark 255 symbols", &all_symbols);
@@ -115,6 +116,19 @@ impl Report {
             &packed,
             |book| ackbo::mark(book, &mut ours).expect("the book is read").falling,
             |book| twin::mark(book, &mut twins).expect("the book is read").falling,
+        );
+    }
+
+    /// Converting the books in form 1, their variables renamed.
+    fn convert(&mut self, name: &str, books: &[Book]) {
+        let mut random = Random::new(SEED);
+        let packed: Vec<Vec<u8>> = books.iter().map(|book| book.aged(&mut random).packed()).collect();
+        let (mut ours, mut twins) = (vec![0; MAX_BYTES], vec![0; MAX_BYTES]);
+        self.row(
+            name,
+            &packed,
+            |book| ackbo::convert(book, &mut ours).expect("the book is of form 1"),
+            |book| twin::convert(book, &mut twins).expect("the book is of form 1"),
         );
     }
 

@@ -1,6 +1,6 @@
-//! Errors: 01's refusals, with their numbers.
+//! Errors: the refusals of 01 and 02, with their numbers.
 
-/// A refusal of 01: its number, the input at fault (0 the first) and the offset there, in bits of a rule file or in
+/// A refusal: its number, the input at fault (0 the first) and the offset there, in bits of a rule file or in
 /// words.
 #[derive(Clone, Copy, Debug, PartialEq, Eq)]
 pub struct Error {
@@ -13,7 +13,7 @@ pub struct Error {
 pub const FILE_TOO_LONG: u8 = 1;
 /// A field does not fit, or its word is missing.
 pub const MISSING: u8 = 2;
-/// The form is not 1.
+/// The form is none that there is, or in converting not 1.
 pub const FORM: u8 = 3;
 /// There is no symbol.
 pub const NO_SYMBOL: u8 = 4;
@@ -39,8 +39,12 @@ pub const WORDS_TOO_SHORT: u8 = 13;
 pub const TOO_WIDE: u8 = 14;
 /// Words are left over.
 pub const TRAILING_WORDS: u8 = 15;
-/// The bytes of an encoded file do not fit.
+/// The bytes of an encoded or a converted file do not fit.
 pub const BYTES_TOO_SHORT: u8 = 16;
+/// The form is 1, which converting alone reads.
+pub const OLD_FORM: u8 = 17;
+/// A variable's number is above the count of different variables before it in its rule.
+pub const OUT_OF_TURN: u8 = 18;
 
 impl Error {
     /// The error of an output, the second input of its operation, that is too short.

@@ -3,7 +3,8 @@
 use std::slice::Iter;
 
 use crate::error::Error;
-use crate::format::{check_term, System};
+use crate::format::System;
+use crate::reading::check_term;
 use crate::table::Table;
 
 /// What a value is multiplied by before an argument of a symbol that is not AC is added.

@@ -1,41 +1,56 @@
-//! The rule file format: one description, read from packed bits or from words, and written as words or as packed bits.
+//! The rule file format: what a file holds, and how it is written as words or as packed bits.
 
-use crate::bits::{BitCursor, BitWriter};
-use crate::error::*;
-use crate::source::{packed_node, width, Source, WordCursor};
-use crate::table::{Symbol, Table, MAX_NODES};
+use crate::bits::BitWriter;
+use crate::error::Error;
+use crate::reading::{read_packed, read_words};
+use crate::source::{packed_node, width};
+use crate::table::{is_variable, Table, FIRST_VARIABLE, VARIABLES};
 
 /// The most bytes of a rule file.
 pub const MAX_BYTES: usize = 32_768;
-/// The only form of a rule file.
-const FORM_VALUE: u16 = 1;
-/// The arity of every AC symbol.
-const AC_SYMBOL_ARITY: u8 = 2;
 
-/// The words of the header, and of a symbol.
-const HEADER_WORDS: usize = 4;
-const SYMBOL_WORDS: usize = 4;
+/// The forms of a rule file, by their numbers; their layout is the same.
+#[derive(Clone, Copy, Debug, PartialEq, Eq)]
+pub enum Form {
+    /// 01's form: variables have any numbers.
+    One = 1,
+    /// 02, order 4: a variable's first appearance in a rule takes the lowest unused number.
+    Two = 2,
+}
 
 /// A rewrite system: a symbol table, and the node words of all sides in a row.
 pub struct System {
     pub table: Table,
-    nodes: Vec<u16>,
+    pub nodes: Vec<u16>,
     /// The end of each side in `nodes`, left and right sides in turn.
     ends: Vec<usize>,
 }
 
 impl System {
+    /// A system before its first rule, of so many.
+    pub fn new(table: Table, rules: usize) -> Self {
+        System { table, nodes: Vec::new(), ends: Vec::with_capacity(2 * rules) }
+    }
+
+    /// Adds a side, left and right ones in turn.
+    pub fn push_side(&mut self, side: &[u16]) {
+        self.nodes.extend_from_slice(side);
+        self.ends.push(self.nodes.len());
+    }
+
     /// The system of a packed rule file, the first input of its operation.
     pub fn from_packed(packed: &[u8]) -> Result<Self, Error> {
-        if packed.len() > MAX_BYTES {
-            return Err(Error { code: FILE_TOO_LONG, input: 0, offset: 0 });
-        }
-        read_system(&mut BitCursor::new(packed))
+        read_packed(packed, Form::Two)
+    }
+
+    /// The system of a packed rule file of form 1, as 01 reads it.
+    pub fn from_old(packed: &[u8]) -> Result<Self, Error> {
+        read_packed(packed, Form::One)
     }
 
     /// The system of a rule file in words, the first input of its operation.
     pub fn from_words(words: &[u16]) -> Result<Self, Error> {
-        read_system(&mut WordCursor::new(words, 0))
+        read_words(words, Form::Two)
     }
 
     /// The count of rules.
@@ -53,10 +68,19 @@ impl System {
         })
     }
 
+    /// Gives each variable of each rule the number of its first appearance there.
+    pub fn renumber(&mut self) {
+        let mut start = 0;
+        for ends in self.ends.chunks_exact(2) {
+            renumber(self.nodes[start..ends[1]].iter_mut());
+            start = ends[1];
+        }
+    }
+
     /// Every field before the rules, with its width.
-    fn fields(&self) -> impl Iterator<Item = (u16, u32)> + '_ {
+    pub fn fields(&self) -> impl Iterator<Item = (u16, u32)> + '_ {
         let header = [
-            (FORM_VALUE, width::FORM),
+            (Form::Two as u16, width::FORM),
             (self.table.symbols().len() as u16, width::SYMBOL_COUNT),
             (self.table.w0, width::W0),
             (self.rule_count() as u16, width::RULE_COUNT),
@@ -72,135 +96,27 @@ impl System {
     }
 
     /// The count of bytes of the packed rule file.
-    fn packed_len(&self) -> usize {
+    pub fn packed_len(&self) -> usize {
         let fields = width::HEADER as usize + self.table.symbols().len() * width::SYMBOL_ENTRY as usize;
         let nodes: usize = self.nodes.iter().map(|&node| packed_node(node).1 as usize).sum();
         (fields + nodes).div_ceil(8)
     }
-}
 
-fn read_system<S: Source>(source: &mut S) -> Result<System, Error> {
-    let form = source.offset();
-    if source.field(width::FORM)? != FORM_VALUE {
-        return Err(source.error(FORM, form));
-    }
-    let symbols = nonzero(source, width::SYMBOL_COUNT, NO_SYMBOL)?;
-    let w0 = nonzero(source, width::W0, NO_WEIGHT)?;
-    let sides = 2 * usize::from(source.field(width::RULE_COUNT)?);
-    let mut table = Table::new(w0);
-    let mut taken = [false; 1 << width::RANK];
-    for _ in 0..symbols {
-        table.push(read_symbol(source, w0, &mut taken)?);
-    }
-    let mut system = System { table, nodes: Vec::new(), ends: Vec::with_capacity(sides) };
-    let mut side = [0; MAX_NODES];
-    for _ in 0..sides {
-        let len = read_side(source, &system.table, &mut side)?;
-        system.nodes.extend_from_slice(&side[..len]);
-        system.ends.push(system.nodes.len());
-    }
-    source.finish()?;
-    Ok(system)
-}
-
-/// A field that must not be 0.
-fn nonzero<S: Source>(source: &mut S, width: u32, code: u8) -> Result<u16, Error> {
-    let offset = source.offset();
-    match source.field(width)? {
-        0 => Err(source.error(code, offset)),
-        value => Ok(value),
+    /// Writes the packed rule file into its bytes; hands back their count.
+    pub fn pack(&self, bytes: &mut [u8]) -> usize {
+        let mut writer = BitWriter::new(bytes);
+        let nodes = self.nodes.iter().map(|&node| packed_node(node));
+        self.fields().chain(nodes).for_each(|(value, width)| writer.put(value, width));
+        writer.finish()
     }
 }
 
-/// The next symbol; `taken` holds the ranks of the earlier ones.
-fn read_symbol<S: Source>(source: &mut S, w0: u16, taken: &mut [bool]) -> Result<Symbol, Error> {
-    let arity_offset = source.offset();
-    let arity = source.field(width::ARITY)? as u8;
-    let ac = source.field(width::AC)? == 1;
-    if ac && arity != AC_SYMBOL_ARITY {
-        return Err(source.error(AC_ARITY, arity_offset));
+/// Gives each variable among the nodes of a rule, left side first, the number of its first appearance.
+pub fn renumber<'a>(nodes: impl Iterator<Item = &'a mut u16>) {
+    let mut numbers = [None; VARIABLES];
+    let mut unused = FIRST_VARIABLE..;
+    for node in nodes.filter(|node| is_variable(**node)) {
+        let number = &mut numbers[usize::from(*node - FIRST_VARIABLE)];
+        *node = *number.get_or_insert_with(|| unused.next().expect("there are more words than variables"));
     }
-    let weight_offset = source.offset();
-    let weight = source.field(width::WEIGHT)?;
-    let least = match arity {
-        0 => w0,
-        1 => 1,
-        _ => 0,
-    };
-    if weight < least {
-        return Err(source.error(INADMISSIBLE, weight_offset));
-    }
-    let rank_offset = source.offset();
-    let rank = source.field(width::RANK)? as u8;
-    if std::mem::replace(&mut taken[usize::from(rank)], true) {
-        return Err(source.error(RANK_TAKEN, rank_offset));
-    }
-    Ok(Symbol { arity, ac, weight, rank })
-}
-
-/// Reads a term in prefix order; hands back the count of its nodes.
-fn read_side<S: Source>(source: &mut S, table: &Table, side: &mut [u16; MAX_NODES]) -> Result<usize, Error> {
-    let mut len = 0;
-    let mut called_for = 1;
-    while called_for > 0 {
-        if len == MAX_NODES {
-            return Err(source.error(TOO_MANY_NODES, source.offset()));
-        }
-        let (node, offset) = source.node()?;
-        let arity = table.known_arity(node).ok_or_else(|| source.error(UNKNOWN_SYMBOL, offset))?;
-        side[len] = node;
-        len += 1;
-        called_for = called_for - 1 + arity;
-    }
-    Ok(len)
-}
-
-/// Reads a term over a table at the front of the words of an input; hands back the position after it.
-fn read_term<'a>(table: &Table, words: &'a [u16], input: u8) -> Result<WordCursor<'a>, Error> {
-    let mut source = WordCursor::new(words, input);
-    read_side(&mut source, table, &mut [0; MAX_NODES])?;
-    Ok(source)
-}
-
-/// Checks that the words of an input are one term over a table.
-pub fn check_term(table: &Table, words: &[u16], input: u8) -> Result<(), Error> {
-    read_term(table, words, input)?.finish()
-}
-
-/// The term over a table at the front of the words of an input; the words after it are not looked at.
-pub fn first_term<'a>(table: &Table, words: &'a [u16], input: u8) -> Result<&'a [u16], Error> {
-    let end = read_term(table, words, input)?.offset();
-    Ok(&words[..end])
-}
-
-/// 01: opening. Writes the words of a packed rule file; hands back their count.
-pub fn decode(book: &[u8], words: &mut [u16]) -> Result<usize, Error> {
-    let system = System::from_packed(book)?;
-    let nodes_at = HEADER_WORDS + SYMBOL_WORDS * system.table.symbols().len();
-    let len = nodes_at + system.nodes.len();
-    let words = words.get_mut(..len).ok_or(Error::output(WORDS_TOO_SHORT))?;
-    for (word, (value, _)) in words.iter_mut().zip(system.fields()) {
-        *word = value;
-    }
-    words[nodes_at..].copy_from_slice(&system.nodes);
-    Ok(len)
-}
-
-/// 01: closing. Writes the packed rule file of its words; hands back the count of bytes.
-pub fn encode(words: &[u16], book: &mut [u8]) -> Result<usize, Error> {
-    let system = System::from_words(words)?;
-    let len = system.packed_len();
-    if len > MAX_BYTES {
-        return Err(Error { code: FILE_TOO_LONG, input: 0, offset: 0 });
-    }
-    let bytes = book.get_mut(..len).ok_or(Error::output(BYTES_TOO_SHORT))?;
-    let mut writer = BitWriter::new(bytes);
-    for (value, width) in system.fields() {
-        writer.put(value, width);
-    }
-    for &node in &system.nodes {
-        let (value, width) = packed_node(node);
-        writer.put(value, width);
-    }
-    Ok(writer.finish())
 }

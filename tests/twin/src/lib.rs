@@ -1,12 +1,13 @@
 //! A second implementation of the rule file format and of AC-KBO, written from the papers alone, to be compared with
-//! the first one. `format` reads and writes rule files, `order` compares terms, `picking` picks the greater one,
-//! `fingerprint` gives a number that AC-equivalent terms share, `variables` names a variable that occurs oftener on the
-//! right, `marking` orients the rules of a file, and `generate` makes inputs of every kind: valid, damaged, largest and
-//! empty ones. Below, 01 is the scope paper, 02 the requests after it, and 000, 001 and 004 are the articles that 01
-//! cites.
+//! the first one. `reading` and `format` read and write rule files, `coding` opens, closes and converts them, `order`
+//! compares terms, `picking` picks the greater one, `fingerprint` gives a number that AC-equivalent terms share,
+//! `variables` names a variable that occurs oftener on the right, `marking` orients the rules of a file, and `generate`
+//! makes inputs of every kind: valid, damaged, largest and empty ones. Below, 01 is the scope paper, 02 the requests
+//! after it, and 000, 001 and 004 are the articles that 01 cites.
 
 mod ackbo;
 mod bits;
+pub mod coding;
 pub mod error;
 pub mod fingerprint;
 pub mod format;
@@ -15,14 +16,15 @@ pub mod marking;
 mod multiset;
 pub mod order;
 pub mod picking;
+mod reading;
 mod source;
 pub mod table;
 mod term;
 pub mod variables;
 
+pub use coding::{convert, decode, encode};
 pub use error::Error;
 pub use fingerprint::fingerprint;
-pub use format::{decode, encode};
 pub use marking::{mark, report, Marked};
 pub use order::{compare, Comparison, Relation};
 pub use picking::{pick, Pick};

@@ -54,7 +54,7 @@ fn report_system(system: &System, text: &mut Vec<u8>) -> std::io::Result<()> {
 }
 
 /// The orientation and the margin of each rule.
-fn orientations(system: &System) -> impl Iterator<Item = (Orientation, i64)> + '_ {
+pub fn orientations(system: &System) -> impl Iterator<Item = (Orientation, i64)> + '_ {
     let mut comparer = Comparer::new(&system.table);
     system.rules().map(move |(left, right)| comparer.orient(left, right))
 }

@@ -5,7 +5,8 @@ use std::cmp::Ordering;
 
 use crate::ackbo::Order;
 use crate::error::Error;
-use crate::format::{check_term, System};
+use crate::format::System;
+use crate::reading::check_term;
 use crate::table::Table;
 use crate::term::{weight_and_occurrences, Prepared};
 

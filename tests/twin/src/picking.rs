@@ -1,8 +1,9 @@
 //! Picking the greater of two terms, each at the front of its words.
 
 use crate::error::Error;
-use crate::format::{first_term, System};
+use crate::format::System;
 use crate::order::{Comparer, Relation};
+use crate::reading::first_term;
 
 /// The reply of `pick`: the side that is greater, with the count of words of its term, or why neither is.
 #[derive(Clone, Copy, Debug, PartialEq, Eq)]

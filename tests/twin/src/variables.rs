@@ -1,7 +1,8 @@
 //! The variable test: which variable occurs oftener on the right.
 
 use crate::error::Error;
-use crate::format::{check_term, System};
+use crate::format::System;
+use crate::reading::check_term;
 use crate::term::occurrences;
 
 /// 02, order 3: the lowest variable that occurs oftener in the right term than in the left one, or 16.

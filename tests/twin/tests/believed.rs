@@ -7,7 +7,7 @@ use std::path::{Path, PathBuf};
 
 /// The operations, each by the file of its contract. The functions for C are all of `crates/ackbo/src/lib.rt` that it
 /// exports.
-const OPERATIONS: [(&str, &str); 9] = [
+const OPERATIONS: [(&str, &str); 10] = [
     ("crates/decoder/src/lib.rt", "decode"),
     ("crates/encoder/src/lib.rt", "encode"),
     ("crates/comparing/src/lib.rt", "compare"),
@@ -17,6 +17,7 @@ const OPERATIONS: [(&str, &str); 9] = [
     ("crates/hashing/src/lib.rt", "fingerprint"),
     ("crates/marking/src/mark.rt", "mark"),
     ("crates/marking/src/report.rt", "report"),
+    ("crates/converter/src/lib.rt", "convert"),
 ];
 const FOR_C: &str = "crates/ackbo/src/lib.rt";
 

@@ -4,14 +4,19 @@
 mod common;
 mod examples;
 
-use common::{Example, Theory};
-use examples::sample::{sample, CASES, COMPARISONS, FINGERPRINTS, OFTENER, PICKS};
-use examples::{articles, sample};
-use twin::{compare, encode, fingerprint, mark, oftener, pick, report, Comparison, Error, Marked, Pick, Relation};
+use std::fs;
+use std::path::Path;
 
-/// 01's listing.
+use common::{Example, Theory};
+use examples::sample::{sample, CASES, COMPARISONS, CONVERSIONS, FINGERPRINTS, OFTENER, PICKS};
+use examples::{articles, sample};
+use twin::format::Form;
+use twin::{compare, convert, encode, fingerprint, mark, oftener, pick, report};
+use twin::{Comparison, Error, Marked, Pick, Relation};
+
+/// 01's listing, in form 2.
 const LISTING: [u8; 17] =
-    [0x10, 0x20, 0x00, 0x10, 0x08, 0x00, 0x00, 0x40, 0x40, 0x00, 0x04, 0x00, 0x00, 0x01, 0x00, 0x80, 0x00];
+    [0x20, 0x20, 0x00, 0x10, 0x08, 0x00, 0x00, 0x40, 0x40, 0x00, 0x04, 0x00, 0x00, 0x01, 0x00, 0x80, 0x00];
 
 #[test]
 fn examples_have_their_marks_and_margins() {
@@ -86,11 +91,43 @@ fn sample_terms_have_their_oftener_variable() {
 }
 
 #[test]
+fn sample_rules_are_converted() {
+    let theory = sample();
+    let (old, new): (Vec<&str>, Vec<&str>) = CONVERSIONS.into_iter().unzip();
+    let book = theory.as_named(Form::One, &old).packed();
+    let mut converted = vec![0; book.len()];
+    assert_eq!(convert(&book, &mut converted), Ok(book.len()));
+    assert_eq!(converted, theory.as_named(Form::Two, &new).packed());
+    let mut listing = LISTING;
+    listing[0] = 0x10;
+    let mut converted = [0; LISTING.len()];
+    assert_eq!(convert(&listing, &mut converted), Ok(LISTING.len()));
+    assert_eq!(converted, LISTING);
+    assert_eq!(report(&listing), b"refusal 17 0\n");
+}
+
+#[test]
+fn stored_samples_are_marked_and_converted() {
+    let folder = Path::new(env!("CARGO_MANIFEST_DIR")).join("../../samples");
+    let read = |file: &str| fs::read(folder.join(file)).unwrap_or_else(|error| panic!("{file}: {error}"));
+    for name in ["listing", "sample", "accepted", "refused", "old"] {
+        assert_eq!(report(&read(&format!("{name}.book"))), read(&format!("{name}.out")), "{name}");
+    }
+    assert_eq!(read("listing.book"), LISTING);
+    let old = read("old.book");
+    let mut converted = vec![0; old.len()];
+    assert_eq!(convert(&old, &mut converted), Ok(old.len()));
+    assert_eq!(converted, read("old.converted"));
+    assert_eq!(report(&converted), b"rules 5\n0 1 2\n1 1 2\n2 1 1\n3 7 2\n4 2 0\nscore 80\nreturned\n");
+}
+
+#[test]
 fn listing_prints_its_text() {
     assert_eq!(report(&LISTING), b"rules 2\n0 2 0\n1 10 0\nscore 50\nreturned\n");
     assert_eq!(mark(&LISTING, &mut [0; 2]), Ok(Marked { rules: 2, falling: 1, score: 50 }));
     assert_eq!(report(&[]), b"refusal 2 0\n");
-    assert_eq!(report(&[0x20]), b"refusal 3 0\n");
+    assert_eq!(report(&[0x30]), b"refusal 3 0\n");
+    assert_eq!(report(&[0x10]), b"refusal 17 0\n");
     assert_eq!(report(&sample().book(&[])), b"rules 0\nscore 100\naccepted\n");
     assert_eq!(report(&sample().book(&["z -> o"])), b"rules 1\n0 2 0\nscore 100\naccepted\n");
 }
@@ -108,7 +145,7 @@ fn score_is_rounded_down() {
 #[test]
 fn program_prints_what_the_twin_gives() {
     let terms = [comparisons(), picks(), fingerprints(), variable_tests()].concat();
-    let parts = [reports(&sample::examples()), terms, listing(), reports(&articles::examples()), limits()];
+    let parts = [reports(&sample::examples()), terms, listing(), forms(), reports(&articles::examples()), limits()];
     assert_eq!(parts.concat(), include_str!("../../../crates/cases/stdout"));
 }
 
@@ -179,6 +216,27 @@ fn variable_tests() -> String {
 
 fn listing() -> String {
     format!("listing\n{}", text(&LISTING))
+}
+
+/// A book of form 1 and what it is converted to, and a variable out of turn.
+fn forms() -> String {
+    let theory = sample();
+    let rules = ["sub(v,u)+z -> sub(v,u)", "sub(s,w)+z -> sub(s,w)", "neg(w) -> w", "u+y -> s", "z -> o"];
+    let old = theory.as_named(Form::One, &rules).packed();
+    let mut book = vec![0; old.len()];
+    let line = |book: &[u8], output: &mut [u8]| {
+        convert(book, output).map_or_else(error_line, |count| format!("{count} 0 0\n"))
+    };
+    let converted = line(&old, &mut book);
+    let again = line(&book, &mut vec![0; book.len()]);
+    let short = line(&old, &mut vec![0; old.len() - 1]);
+    let out_of_turn = theory.as_named(Form::Two, &["v+u -> u"]);
+    let parts = [
+        format!("a book of form 1\n{}", text(&old)),
+        format!("the book converted\n{converted}{}{again}{short}", text(&book)),
+        format!("a variable out of turn\n{}{}", refused(&out_of_turn.words()), text(&out_of_turn.packed())),
+    ];
+    parts.concat()
 }
 
 /// The report on a book.

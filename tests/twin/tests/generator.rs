@@ -1,5 +1,7 @@
 //! Generated books are valid, round trips give them back, damage never panics, and no mark or error is missing.
 
+use std::collections::BTreeSet;
+
 use twin::generate::{call, damaged_packed, damaged_words, Book, Call, Random, Reply, Signature, MAX_RULES, UNTOUCHED};
 use twin::{compare, decode, encode, mark, report, Pick, Relation};
 
@@ -38,6 +40,22 @@ fn generated_books_are_read_and_written() {
 }
 
 #[test]
+fn books_of_all_variables_are_read_and_written() {
+    let mut random = Random::new(SEED);
+    let mut counts = [0; 17];
+    for _ in 0..BOOKS / 2 {
+        let book = Book::of_all_variables(&mut random, 8, 64);
+        check_round_trip(&book);
+        for (left, right) in &book.rules {
+            let variables: BTreeSet<&u16> = left.iter().chain(right).filter(|node| **node >= 256).collect();
+            counts[variables.len()] += 1;
+        }
+    }
+    println!("rules of 0 to 16 variables: {counts:?}");
+    assert!(counts.iter().all(|&count| count > BOOKS / 50), "{counts:?}");
+}
+
+#[test]
 fn empty_and_largest_books_are_read_and_written() {
     let mut random = Random::new(SEED);
     let mut full_sides = 0;
@@ -57,7 +75,7 @@ fn empty_and_largest_books_are_read_and_written() {
 #[test]
 fn damaged_books_are_refused_alike() {
     let mut random = Random::new(SEED);
-    let mut counts = [0; 17];
+    let mut counts = [0; 19];
     for _ in 0..BOOKS * 5 {
         let book = Book::random(&mut random, 3);
         let packed = damaged_packed(&mut random, &book);
@@ -80,7 +98,7 @@ fn damaged_books_are_refused_alike() {
             }
         }
     }
-    assert!(counts[1..=11].iter().all(|&count| count > BOOKS / 100), "{counts:?}");
+    assert!((1..=11).chain([17, 18]).all(|code| counts[code] > BOOKS / 100), "{counts:?}");
 }
 
 #[test]
@@ -107,9 +125,9 @@ fn accepted_words_are_given_back() {
 #[test]
 fn generated_calls_reach_every_mark_and_error() {
     let mut random = Random::new(SEED);
-    let (mut marks, mut errors, mut relations) = ([0; 11], [[0; 3]; 17], [0; 4]);
+    let (mut marks, mut errors, mut relations) = ([0; 11], [[0; 3]; 19], [0; 4]);
     let mut picks = [0; 4];
-    let mut operations = [0; 7];
+    let mut operations = [0; 8];
     let mut oftener = [0; 17];
     for _ in 0..CALLS {
         let reply = call(&mut random).run();
@@ -147,16 +165,17 @@ fn generated_calls_reach_every_mark_and_error() {
                     oftener[variable] += 1;
                 }
             }
+            Reply::Convert(..) => operations[7] += 1,
         }
     }
-    println!("decoding, encoding, comparing, marking, picking, fingerprints, oftener: {operations:?}");
+    println!("decoding, encoding, comparing, marking, picking, fingerprints, oftener, converting: {operations:?}");
     println!("marks 1 to 10: {:?}", &marks[1..]);
     println!("greater, less, equivalent, unrelated: {relations:?}");
     println!("left, right, equivalent, unrelated: {picks:?}");
     println!("oftener, variables 0 to 15 and none: {oftener:?}");
     let totals = errors.map(|inputs: [usize; 3]| inputs.iter().sum::<usize>());
-    println!("errors 1 to 16: {:?}", &totals[1..]);
-    println!("errors 1 to 16 by input: {:?}", &errors[1..]);
+    println!("errors 1 to 18: {:?}", &totals[1..]);
+    println!("errors 1 to 18 by input: {:?}", &errors[1..]);
     assert!(operations.iter().all(|&count| count > CALLS / 10), "{operations:?}");
     assert!(relations.iter().chain(&picks).all(|&count| count > CALLS / 200), "{relations:?} {picks:?}");
     assert!(oftener.iter().all(|&count| count > 0), "{oftener:?}");
@@ -183,11 +202,13 @@ fn refused_calls_leave_their_output() {
         let call: Call = call(&mut random);
         match call.run() {
             Reply::Decode(Err(_), words) => assert!(words.iter().all(|&word| word == UNTOUCHED.into())),
-            Reply::Encode(Err(_), bytes) | Reply::Mark(Err(_), bytes) => {
+            Reply::Encode(Err(_), bytes) | Reply::Convert(Err(_), bytes) | Reply::Mark(Err(_), bytes) => {
                 assert!(bytes.iter().all(|&byte| byte == UNTOUCHED));
             }
             Reply::Decode(Ok(len), words) => assert!(words[len..].iter().all(|&word| word == UNTOUCHED.into())),
-            Reply::Encode(Ok(len), bytes) => assert!(bytes[len..].iter().all(|&byte| byte == UNTOUCHED)),
+            Reply::Encode(Ok(len), bytes) | Reply::Convert(Ok(len), bytes) => {
+                assert!(bytes[len..].iter().all(|&byte| byte == UNTOUCHED));
+            }
             Reply::Mark(Ok(marked), bytes) => assert!(bytes[marked.rules..].iter().all(|&byte| byte == UNTOUCHED)),
             Reply::Compare(Ok(comparison)) => assert!(comparison.margin <= 0 || comparison.relation != Relation::Less),
             Reply::Compare(Err(_)) | Reply::Pick(_) | Reply::Fingerprint(_) | Reply::Oftener(_) => {}

@@ -4,7 +4,8 @@ mod packing;
 
 use packing::{book, header, node, pack, symbol, variable, FILLER, SHEET};
 use twin::generate::{Book, Random, Signature};
-use twin::{compare, decode, encode, fingerprint, mark, oftener, pick, Comparison, Error, Marked, Pick, Relation};
+use twin::{compare, convert, decode, encode, fingerprint, mark, oftener, pick};
+use twin::{Comparison, Error, Marked, Pick, Relation};
 
 #[test]
 fn an_encoded_book_has_at_most_32_768_bytes() {
@@ -35,8 +36,8 @@ fn an_encoded_book_has_at_most_32_768_bytes() {
 
 #[test]
 fn outputs_may_be_long_and_must_not_be_short() {
-    let packed = book(2, &[node(1), variable(0), node(0), node(0), variable(1)].concat());
-    let words = [SHEET[..3].to_vec(), vec![2], SHEET[4..].to_vec(), vec![1, 256, 0, 0, 257]].concat();
+    let packed = book(2, &[node(1), variable(0), node(0), node(0), variable(0)].concat());
+    let words = [SHEET[..3].to_vec(), vec![2], SHEET[4..].to_vec(), vec![1, 256, 0, 0, 256]].concat();
     let mut output = [u16::from(FILLER); 20];
     assert_eq!(decode(&packed, &mut output[..16]), Err(Error { code: 13, input: 1, offset: 0 }));
     assert_eq!(output, [u16::from(FILLER); 20]);
@@ -58,6 +59,37 @@ fn outputs_may_be_long_and_must_not_be_short() {
     assert_eq!(marks, [FILLER; 3]);
     assert_eq!(mark(&packed, &mut marks), Ok(Marked { rules: 2, falling: 1, score: 50 }));
     assert_eq!(marks, [1, 7, FILLER]);
+}
+
+#[test]
+fn a_converted_book_is_as_long_as_the_old_one() {
+    let mut random = Random::new(2);
+    let too_short = Err(Error { code: 16, input: 1, offset: 0 });
+    for many_rules in [false, true] {
+        let book = Book::largest(&mut random, many_rules);
+        let mut old = book.aged(&mut random).packed();
+        let mut bytes = vec![FILLER; 32_770];
+        for room in [0, 1, 32_767] {
+            assert_eq!(convert(&old, &mut bytes[..room]), too_short);
+            assert!(bytes.iter().all(|&byte| byte == FILLER));
+        }
+        assert_eq!(convert(&old, &mut bytes), Ok(32_768));
+        assert_eq!(bytes[..32_768], book.packed());
+        assert_eq!(bytes[32_768..], [FILLER; 2]);
+        old.push(0);
+        assert_eq!(convert(&old, &mut bytes), Err(Error { code: 1, input: 0, offset: 0 }));
+        assert_eq!(convert(&old, &mut []), Err(Error { code: 1, input: 0, offset: 0 }));
+    }
+    // No rules, and a last byte without padding.
+    for new in [book(0, &[]), book(1, &[node(0), node(0)].concat())] {
+        let mut old = new.clone();
+        old[0] -= 0x10;
+        let mut bytes = [FILLER; 20];
+        assert_eq!(convert(&old, &mut bytes[..new.len() - 1]), too_short);
+        assert_eq!(convert(&old, &mut bytes), Ok(new.len()));
+        assert_eq!(bytes[..new.len()], new);
+        assert!(bytes[new.len()..].iter().all(|&byte| byte == FILLER));
+    }
 }
 
 #[test]

@@ -12,8 +12,8 @@ returns c =
     let code = c .args .code in
     let offset = c .args .offset in
     let fits = c .pre in
-    let m : (offset * 16384 + code) % 64 ≡ code = omega arith in
-    let d : (offset * 16384 + code) / 16384 ≡ offset = omega arith in
+    let m : (offset * 524288 + code) % 64 ≡ code = omega arith in
+    let d : (offset * 524288 + code) / 524288 ≡ offset = omega arith in
     rw (m, d, ne-eqb code 0 (λ e. omega arith))
 
 pub pack-fault-spec : {M : Type 1} → statement M

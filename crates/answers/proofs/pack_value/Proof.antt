@@ -1,4 +1,4 @@
--- The value fits its eight bits, so that the number's parts are those that it was made of.
+-- The value fits its 13 bits, so that the number's parts are those that it was made of.
 use mathlib.Core.Path.{_≡_}
 use Prim.Native.Nat.{_+_, _*_, _/_, _%_}
 use native.Mathlib.Omega.{arith}
@@ -11,10 +11,10 @@ returns c =
     let value = c .args .value in
     let next = c .args .next in
     let fits = c .pre .0 in
-    let z : (next * 256 + value) * 64 % 64 ≡ 0 = omega arith in
-    let v : (next * 256 + value) * 64 / 64 ≡ next * 256 + value = omega arith in
-    let w : (next * 256 + value) % 256 ≡ value = omega arith in
-    let n : (next * 256 + value) * 64 / 16384 ≡ next = omega arith in
+    let z : (next * 8192 + value) * 64 % 64 ≡ 0 = omega arith in
+    let v : (next * 8192 + value) * 64 / 64 ≡ next * 8192 + value = omega arith in
+    let w : (next * 8192 + value) % 8192 ≡ value = omega arith in
+    let n : (next * 8192 + value) * 64 / 524288 ≡ next = omega arith in
     rw (z, v, w, n)
 
 pub pack-value-spec : {M : Type 1} → statement M

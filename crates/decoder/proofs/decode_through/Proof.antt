@@ -4,6 +4,7 @@ use mathlib.Core.List.{[]}
 use native.Mathlib.Omega.{arith}
 use lib.Seq.{length-take-le}
 use Rattle.symbols.specs.Table.{entryWords}
+use Rattle.format.specs.Layout.{formNumber}
 use Rattle.reader.proofs.SourceLaws.{read-packed}
 use Rattle.decoder.proofs.DecodeLaws.{decode-fault, decode-short, decode-written, word-count, nodes-few}
 use Rattle.decoder.proofs.DecodeLaws.{nodes-front}
@@ -23,7 +24,8 @@ add-total-2 c =
     let c14 = c7 .before .before .before .before .before .before .before in
     let a = c14 .args in
     let (file, end, read, parts) = rw (c .before .before .symbols .given .1) at (c7 .read-file .ensures) in
-    let few = nodes-few (a .book .now) (c7 .read-file .last .1 .1 .1 .0) (a .nodes .now) (c7 .read-file .last .1 .1 .1
+    let few = nodes-few formNumber (a .book .now) (c7 .read-file .last .1 .1 .1 .1 .0) (a .nodes .now)
+    (c7 .read-file .last .1 .1 .1 .1
     .1 .0) file
     _ _ _ _ parts (c14 .pre) in
     omega (arith, c .entry-words .ensures .1, few)
@@ -35,11 +37,13 @@ returns c =
     let c16 = c9 .before .before .before .before .before .before .before in
     let a = c16 .args in
     let (file, end, read, parts) = rw (c4 .symbols .given .1) at (c9 .read-file .ensures) in
-    let count = word-count (a .book .now) (c9 .read-file .last .1 .1 .1 .0) (a .nodes .now) (c9 .read-file .last .1 .1
+    let count = word-count formNumber (a .book .now) (c9 .read-file .last .1 .1 .1 .1 .0) (a .nodes .now)
+    (c9 .read-file .last .1 .1 .1
     .1 .1 .0) file
     _ _ _ _ parts in
     rw (c .refusal2 .ensures) (decode-short (a .book .now) (a .words .now) file end
-    (sym (read-packed (a .book .now) []) ∙ read) (omega (arith, count, c .before .before .entry-words .ensures .0)))
+    (sym (read-packed formNumber (a .book .now) []) ∙ read) (omega
+    (arith, count, c .before .before .entry-words .ensures .0)))
 
 front-requires : tie.Need-front-requires
 front-requires c κs =
@@ -51,16 +55,16 @@ front-requires c κs =
 array-share-prefix-table : tie.Need-array-share-prefix-table
 array-share-prefix-table c =
     let c9 = c .before .before .before .before .before .before .before .before .before in
-    omega (arith, c .front .ensures .1, c9 .read-file .kept .1 .1 .1 .0)
+    omega (arith, c .front .ensures .1, c9 .read-file .kept .1 .1 .1 .1 .0)
 
 slice-aggregate-put-file : tie.Need-slice-aggregate-put-file
 slice-aggregate-put-file c =
     let c10 = c .before .before .before .before .before .before .before .before .before .before in
-    sym (length-take-le _ (c10 .read-file .last .1 .1 .1 .0) (omega (
+    sym (length-take-le _ (c10 .read-file .last .1 .1 .1 .1 .0) (omega (
       arith,
       c .before .front .ensures .1,
       c10
-          .read-file .kept .1 .1 .1 .0,
+          .read-file .kept .1 .1 .1 .1 .0,
     )))
 
 slice-reshare-prefix-put-file : tie.Need-slice-reshare-prefix-put-file
@@ -70,10 +74,11 @@ slice-reshare-prefix-put-file c =
     let c18 = c11 .before .before .before .before .before .before .before in
     let a = c18 .args in
     let (file, end, read, parts) = rw (c6 .symbols .given .1) at (c11 .read-file .ensures) in
-    let few = nodes-few (a .book .now) (c11 .read-file .last .1 .1 .1 .0) (a .nodes .now) (c11 .read-file .last .1 .1
+    let few = nodes-few formNumber (a .book .now) (c11 .read-file .last .1 .1 .1 .1 .0) (a .nodes .now)
+    (c11 .read-file .last .1 .1 .1
     .1 .1 .0) file
     _ _ _ _ parts (c18 .pre) in
-    omega (arith, few, c11 .read-file .kept .1 .1 .1 .1 .0)
+    omega (arith, few, c11 .read-file .kept .1 .1 .1 .1 .1 .0)
 
 slice-aggregate-put-file-2 : tie.Need-slice-aggregate-put-file-2
 slice-aggregate-put-file-2 c =
@@ -82,13 +87,14 @@ slice-aggregate-put-file-2 c =
     let c19 = c12 .before .before .before .before .before .before .before in
     let a = c19 .args in
     let (file, end, read, parts) = rw (c7 .symbols .given .1) at (c12 .read-file .ensures) in
-    let few = nodes-few (a .book .now) (c12 .read-file .last .1 .1 .1 .0) (a .nodes .now) (c12 .read-file .last .1 .1
+    let few = nodes-few formNumber (a .book .now) (c12 .read-file .last .1 .1 .1 .1 .0) (a .nodes .now)
+    (c12 .read-file .last .1 .1 .1
     .1 .1 .0) file
     _ _ _ _ parts (c19 .pre) in
-    sym (length-take-le _ (c12 .read-file .last .1 .1 .1 .1 .0) (omega (
+    sym (length-take-le _ (c12 .read-file .last .1 .1 .1 .1 .1 .0) (omega (
       arith,
       few,
-      c12 .read-file .kept .1 .1 .1 .1
+      c12 .read-file .kept .1 .1 .1 .1 .1
           .0,
     )))
 
@@ -101,13 +107,14 @@ put-file-requires c κs =
     let c19 = c12 .before .before .before .before .before .before .before in
     let a = c19 .args in
     let (file, end, read, parts) = rw (c7 .symbols .given .1) at (c12 .read-file .ensures) in
-    let few = nodes-few (a .book .now) (c12 .read-file .last .1 .1 .1 .0) (a .nodes .now) (c12 .read-file .last .1 .1
+    let few = nodes-few formNumber (a .book .now) (c12 .read-file .last .1 .1 .1 .1 .0) (a .nodes .now)
+    (c12 .read-file .last .1 .1 .1
     .1 .1 .0) file
     _ _ _ _ parts (c19 .pre) in
-    let long = length-take-le (c7 .symbols .given .0 .1 .1 .0) (c12 .read-file .last .1 .1 .1 .1 .0)
-    (omega (arith, few, c12 .read-file .kept .1 .1 .1 .1 .0)) in
-    let short = length-take-le (c3 .front .result) (c12 .read-file .last .1 .1 .1 .0)
-    (omega (arith, c3 .front .ensures .1, c12 .read-file .kept .1 .1 .1 .0)) in
+    let long = length-take-le (c7 .symbols .given .0 .1 .1 .0) (c12 .read-file .last .1 .1 .1 .1 .1 .0)
+    (omega (arith, few, c12 .read-file .kept .1 .1 .1 .1 .1 .0)) in
+    let short = length-take-le (c3 .front .result) (c12 .read-file .last .1 .1 .1 .1 .0)
+    (omega (arith, c3 .front .ensures .1, c12 .read-file .kept .1 .1 .1 .1 .0)) in
     let entries = c5 .entry-words .ensures .0 ∙ ap entryWords (parts .head .symbolCount) in (
       (omega (arith, short, c3 .front .ensures .1), parts .head .fewRules),
       rw (c3 .front .ensures .0) (omega (
@@ -123,7 +130,8 @@ returns-2 c =
     let c14 = c7 .before .before .before .before .before .before .before in
     let a = c14 .args in
     rw (c .refusal .ensures) (decode-fault (a .book .now) (a .words .now) _ _
-    (sym (read-packed (a .book .now) []) ∙ rw (c .before .before .code .given .1) at (c7 .read-file .ensures)))
+    (sym (read-packed formNumber (a .book .now) []) ∙ rw (c .before .before .code .given .1) at
+    (c7 .read-file .ensures)))
 
 returns-3 : tie.Need-returns-3
 returns-3 c =
@@ -134,16 +142,18 @@ returns-3 c =
     let c22 = c15 .before .before .before .before .before .before .before in
     let a = c22 .args in
     let (file, end, read, parts) = rw (c10 .symbols .given .1) at (c15 .read-file .ensures) in
-    let count = word-count (a .book .now) (c15 .read-file .last .1 .1 .1 .0) (a .nodes .now) (c15 .read-file .last .1
+    let count = word-count formNumber (a .book .now) (c15 .read-file .last .1 .1 .1 .1 .0) (a .nodes .now)
+    (c15 .read-file .last .1 .1
     .1 .1 .1 .0) file
     _ _ _ _ parts in
-    let front = nodes-front (a .book .now) (c15 .read-file .last .1 .1 .1 .0) (a .nodes .now) (c15 .read-file .last .1
+    let front = nodes-front formNumber (a .book .now) (c15 .read-file .last .1 .1 .1 .1 .0) (a .nodes .now)
+    (c15 .read-file .last .1 .1
     .1 .1 .1 .0) file
     _ _ _ _ parts (c22 .pre) in
     let written = rw (c6 .front .ensures .0, parts .signature) at (c .before .before .put-file .ensures (file .rules)
     front (parts .ruleCount)) in
     let (reply, output) = decode-written (a .book .now) (a .words .now) file end
-    (sym (read-packed (a .book .now) []) ∙ read) (omega (arith, count, c8 .entry-words .ensures .0)) in
+    (sym (read-packed formNumber (a .book .now) []) ∙ read) (omega (arith, count, c8 .entry-words .ensures .0)) in
     (rw (c8 .entry-words .ensures .0, count) reply, written ∙ output)
 
 pub decode-through-spec : {M : Type 1} → statement M

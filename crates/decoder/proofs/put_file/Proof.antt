@@ -2,6 +2,7 @@
 use mathlib.Core.Path.{_≡_, ap, _∙_}
 use native.Mathlib.Omega.{arith}
 use lib.ListN.{length}
+use Rattle.format.specs.Layout.{formNumber}
 use Rattle.symbols.specs.Table.{signatureOf, entryWords}
 use Rattle.symbols.proofs.EntryLaws.{stored-four}
 use Rattle.decoder.proofs.DecodeLaws.{stored-file}
@@ -24,7 +25,7 @@ returns c =
     let a = c30 .args in
     let header = stored-four (a .words .now) (c24 .put-word .last .0) (c20 .put-word2 .last .0) (c15 .put-word3 .last
     .0)
-    (c11 .put-word4 .last .0) 0 1 (c26 .count .result) (c16 .variable-weight .result) (a .rules) (c24 .put-word
+    (c11 .put-word4 .last .0) 0 formNumber (c26 .count .result) (c16 .variable-weight .result) (a .rules) (c24 .put-word
     .ensures)
     (c20 .put-word2 .ensures) (c15 .put-word3 .ensures) (c11 .put-word4 .ensures) in
     let long : length (c7 .write-symbols .last .1 .0) ≡ length (a .words .now) = c7 .write-symbols .kept .1 .0

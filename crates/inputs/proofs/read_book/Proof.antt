@@ -2,6 +2,7 @@
 use mathlib.Core.Path.{sym, _∙_}
 use mathlib.Core.List.{[]}
 use native.Mathlib.Omega.{arith}
+use Rattle.format.specs.Layout.{formNumber}
 use Rattle.reader.proofs.SourceLaws.{read-packed}
 use borrow.Author.Needs.{needs}
 use Rattle.inputs.proofs.read_book.Statement.{statement}
@@ -17,7 +18,7 @@ returns : tie.Need-returns
 returns c =
     let c6 = c .before .before .before .before .before .before in
     let c12 = c6 .before .before .before .before .before .before in
-    sym (read-packed (c12 .args .book .now) []) ∙ rw (c .before .code .given .1) at (c6 .read-file .ensures)
+    sym (read-packed formNumber (c12 .args .book .now) []) ∙ rw (c .before .code .given .1) at (c6 .read-file .ensures)
 
 returns-2 : tie.Need-returns-2
 returns-2 c =
@@ -28,10 +29,10 @@ returns-2 c =
     record {
       file = file;
       end = end;
-      read = sym (read-packed (c13 .args .book .now) []) ∙ read;
+      read = sym (read-packed formNumber (c13 .args .book .now) []) ∙ read;
       signature = rw size (parts .signature);
       admissible = rw size (parts .head .admissible);
-      room = omega (arith, few, c7 .read-file .kept .1 .1 .1 .0, c13 .pre);
+      room = omega (arith, few, c7 .read-file .kept .1 .1 .1 .1 .0, c13 .pre);
       few = few;
     }
 

@@ -1,7 +1,8 @@
 //! Valid rule files, as lists of fields that pack to bits or to words.
 
 use super::{Random, Signature};
-use crate::table::{is_variable, FIRST_VARIABLE, MAX_NODES};
+use crate::format::{renumber, Form};
+use crate::table::{is_variable, FIRST_VARIABLE, MAX_NODES, VARIABLES};
 
 /// The most rules of a rule file.
 pub const MAX_RULES: usize = 1_023;
@@ -15,9 +16,14 @@ const HEADER_BITS: usize = 38;
 const ENTRY_BITS: usize = 28;
 /// The bits of the longest rule.
 const MAX_RULE_BITS: usize = 2 * MAX_NODES * SYMBOL_BITS;
+/// The most bits of a filling rule; the last one also has the up to seven bits that the one before it left.
+const MAX_FILLING_BITS: usize = MAX_RULE_BITS - 7;
 /// The rules that bring a rule file to its full length, after long rules and after many rules.
 const FILLING_RULES_OF_LONG: usize = 2;
 const FILLING_RULES_OF_MANY: usize = 120;
+
+/// The most rules of all variables where a file has some.
+const FEW_LONG_RULES: usize = 4;
 
 /// What a field says.
 #[derive(Clone, Copy, Debug, PartialEq, Eq)]
@@ -43,9 +49,14 @@ pub struct Field {
 }
 
 impl Field {
+    /// Whether the field is a node that is a variable.
+    pub fn is_variable(&self) -> bool {
+        matches!(self.role, Role::Root | Role::Node) && is_variable(self.word)
+    }
+
     /// A tag and the field in a packed file, each a value and a width; the tag of a field other than a node has no
     /// width.
-    fn packed(self) -> [(u16, usize); 2] {
+    pub fn packed(self) -> [(u16, usize); 2] {
         let width = match self.role {
             Role::Form => 4,
             Role::SymbolCount | Role::Rank => 8,
@@ -76,17 +87,39 @@ pub fn pack(fields: &[Field]) -> Vec<u8> {
     bytes
 }
 
-/// A rule file: its signature, and the node words of its rules.
+/// The node words of the sides of a rule.
+pub type Rule = (Vec<u16>, Vec<u16>);
+
+/// A rule file: its form, its signature, and its rules.
 #[derive(Clone, Debug)]
 pub struct Book {
+    pub form: Form,
     pub signature: Signature,
-    pub rules: Vec<(Vec<u16>, Vec<u16>)>,
+    pub rules: Vec<Rule>,
 }
 
 impl Book {
     /// A rule file without rules.
     pub fn empty(signature: Signature) -> Self {
-        Book { signature, rules: Vec::new() }
+        Book { form: Form::Two, signature, rules: Vec::new() }
+    }
+
+    /// A rule file of rules with any variables, which are put in turn.
+    pub fn of_rules(signature: Signature, rules: impl IntoIterator<Item = Rule>) -> Self {
+        let mut book = Book::empty(signature);
+        for rule in rules {
+            book.push(rule);
+        }
+        book
+    }
+
+    /// A rule file of form 1 with these rules, the variables of each renamed at random.
+    pub fn aged(&self, random: &mut Random) -> Self {
+        let rules = self.rules.iter().map(|(left, right)| {
+            let names = shuffled_variables(random);
+            (renamed(left, &names), renamed(right, &names))
+        });
+        Book { form: Form::One, signature: self.signature.clone(), rules: rules.collect() }
     }
 
     /// A rule file of a random signature, with up to `rules` rules aimed at all marks.
@@ -97,6 +130,26 @@ impl Book {
             book.push_pair(random, mark, 6);
         }
         book
+    }
+
+    /// A rule file of a random signature, with up to `rules` rules of up to `size` nodes a side and of all variables.
+    pub fn of_all_variables(random: &mut Random, rules: usize, size: usize) -> Self {
+        let mut book = Book::empty(Signature::random(random));
+        for _ in 0..random.below(rules + 1) {
+            let size = random.between(1, size);
+            let side = |random: &mut Random| book.signature.sized_words(random, size);
+            let rule = (side(random), side(random));
+            book.push(rule);
+        }
+        book
+    }
+
+    /// A rule file of either kind: with up to `rules` rules aimed at all marks, or with few ones of all variables.
+    pub fn any(random: &mut Random, rules: usize) -> Self {
+        match random.below(4) {
+            0 => Book::of_all_variables(random, FEW_LONG_RULES, MAX_NODES / 2),
+            _ => Book::random(random, rules),
+        }
     }
 
     /// A rule file of 32,768 bytes, with sides of up to 128 nodes, or with 1,023 rules.
@@ -110,7 +163,7 @@ impl Book {
                 room -= book.push_sized(random, room / rules_left);
             }
         } else {
-            while room > filling * MAX_RULE_BITS {
+            while room > filling * MAX_FILLING_BITS {
                 room -= book.push_sized(random, MAX_RULE_BITS);
             }
         }
@@ -147,8 +200,9 @@ impl Book {
         self.push((side(unary / 2, leaves[0]), side(unary - unary / 2, leaves[1])))
     }
 
-    /// Adds a rule; hands back its bits.
-    fn push(&mut self, rule: (Vec<u16>, Vec<u16>)) -> usize {
+    /// Adds a rule with its variables in turn; hands back its bits.
+    fn push(&mut self, mut rule: Rule) -> usize {
+        renumber(rule.0.iter_mut().chain(&mut rule.1));
         let bits = rule_bits(&rule);
         self.rules.push(rule);
         bits
@@ -160,7 +214,7 @@ impl Book {
         if left.size().max(right.size()) > MAX_NODES {
             return self.push_pair(random, mark, 1 + size / 2);
         }
-        self.rules.push((left.words(), right.words()));
+        self.push((left.words(), right.words()));
     }
 
     /// The count of bits before the padding.
@@ -172,7 +226,7 @@ impl Book {
     pub fn fields(&self) -> Vec<Field> {
         let mut fields = Vec::new();
         let mut add = |role, word| fields.push(Field { role, word });
-        add(Role::Form, 1);
+        add(Role::Form, self.form as u16);
         add(Role::SymbolCount, self.signature.symbols.len() as u16);
         add(Role::W0, self.signature.w0);
         add(Role::RuleCount, self.rules.len() as u16);
@@ -201,8 +255,20 @@ impl Book {
     }
 }
 
+/// The node words of all variables in a random order.
+fn shuffled_variables(random: &mut Random) -> Vec<u16> {
+    let mut variables: Vec<u16> = (FIRST_VARIABLE..).take(VARIABLES).collect();
+    random.shuffle(&mut variables);
+    variables
+}
+
+/// The nodes of a side with other names of its variables.
+fn renamed(side: &[u16], names: &[u16]) -> Vec<u16> {
+    side.iter().map(|&node| if is_variable(node) { names[usize::from(node - FIRST_VARIABLE)] } else { node }).collect()
+}
+
 /// The count of bits of a rule.
-fn rule_bits((left, right): &(Vec<u16>, Vec<u16>)) -> usize {
+fn rule_bits((left, right): &Rule) -> usize {
     left.iter().chain(right).map(|&node| node_bits(node)).sum()
 }
 

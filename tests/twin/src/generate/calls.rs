@@ -2,7 +2,7 @@
 
 use super::{damaged_packed, damaged_term, damaged_words, followed, Book, Random};
 use crate::table::{MAX_NODES, VARIABLES};
-use crate::{compare, decode, encode, fingerprint, mark, oftener, pick, Comparison, Error, Marked, Pick};
+use crate::{compare, convert, decode, encode, fingerprint, mark, oftener, pick, Comparison, Error, Marked, Pick};
 
 /// The rules of most generated rule files.
 const FEW_RULES: usize = 24;
@@ -19,6 +19,7 @@ pub enum Call {
     Pick { book: Vec<u8>, left: Vec<u16>, right: Vec<u16> },
     Fingerprint { book: Vec<u8>, term: Vec<u16> },
     Oftener { book: Vec<u8>, left: Vec<u16>, right: Vec<u16> },
+    Convert { book: Vec<u8>, room: usize },
 }
 
 /// The reply to a call, and the output after it; the output held `UNTOUCHED` in each place before.
@@ -31,6 +32,7 @@ pub enum Reply {
     Pick(Result<Pick, Error>),
     Fingerprint(Result<u32, Error>),
     Oftener(Result<usize, Error>),
+    Convert(Result<usize, Error>, Vec<u8>),
 }
 
 impl Call {
@@ -53,6 +55,10 @@ impl Call {
             Call::Pick { book, left, right } => Reply::Pick(pick(book, left, right)),
             Call::Fingerprint { book, term } => Reply::Fingerprint(fingerprint(book, term)),
             Call::Oftener { book, left, right } => Reply::Oftener(oftener(book, left, right)),
+            Call::Convert { book, room } => {
+                let mut converted = vec![UNTOUCHED; *room];
+                Reply::Convert(convert(book, &mut converted), converted)
+            }
         }
     }
 }
@@ -61,7 +67,8 @@ impl Reply {
     /// The error, if the call was refused.
     pub fn error(&self) -> Option<Error> {
         match self {
-            Reply::Decode(result, _) | Reply::Encode(result, _) | Reply::Oftener(result) => result.err(),
+            Reply::Decode(result, _) | Reply::Oftener(result) => result.err(),
+            Reply::Encode(result, _) | Reply::Convert(result, _) => result.err(),
             Reply::Compare(result) => result.err(),
             Reply::Mark(result, _) => result.err(),
             Reply::Pick(result) => result.err(),
@@ -75,7 +82,7 @@ pub fn call(random: &mut Random) -> Call {
     let many_rules = random.one_in(2);
     let book = if random.one_in(256) { Book::largest(random, many_rules) } else { Book::random(random, FEW_RULES) };
     let intact = random.one_in(2);
-    match random.below(7) {
+    match random.below(8) {
         0 => {
             let packed = if intact { book.packed() } else { damaged_packed(random, &book) };
             Call::Decode { book: packed, room: room(random, book.words().len()) }
@@ -94,9 +101,15 @@ pub fn call(random: &mut Random) -> Call {
             let (book, term, _) = terms(random, &book, intact);
             Call::Fingerprint { book, term }
         }
-        _ => {
+        6 => {
             let (book, left, right) = terms(random, &book, intact);
             Call::Oftener { book, left, right }
+        }
+        _ => {
+            let old = book.aged(random);
+            let packed = if intact { old.packed() } else { damaged_packed(random, &old) };
+            let room = room(random, packed.len());
+            Call::Convert { book: packed, room }
         }
     }
 }

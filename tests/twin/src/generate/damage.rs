@@ -74,29 +74,46 @@ fn grown(random: &mut Random, book: &Book) -> Vec<u16> {
     }
 }
 
-/// Breaks one field, aimed at an error from 3 to 10.
+/// Breaks one field, aimed at an error from 3 to 10, at 17 or at 18.
 pub fn break_field(random: &mut Random, fields: &mut Vec<Field>) {
-    match random.between(FORM.into(), TOO_MANY_NODES.into()) as u8 {
-        FORM => fields[0].word = [0, 2, 3, 9, 15][random.below(5)],
+    let aims: Vec<u8> = (FORM..=TOO_MANY_NODES).chain([OLD_FORM, OUT_OF_TURN]).collect();
+    match aims[random.below(aims.len())] {
+        FORM => fields[0].word = [0, 3, 4, 9, 15][random.below(5)],
+        // The other one of the two forms.
+        OLD_FORM => fields[0].word = 3 - fields[0].word.clamp(1, 2),
+        OUT_OF_TURN => set(random, fields, Field::is_variable, |random, _| any_variable(random)),
         NO_SYMBOL => fields[1].word = 0,
         NO_WEIGHT => fields[2].word = 0,
-        AC_ARITY => set(random, fields, Role::Ac, |_, _| 1),
-        INADMISSIBLE => set(random, fields, Role::Weight, |_, word| word.saturating_sub(1)),
+        AC_ARITY => set(random, fields, of(Role::Ac), |_, _| 1),
+        INADMISSIBLE => set(random, fields, of(Role::Weight), |_, word| word.saturating_sub(1)),
         RANK_TAKEN => {
             let first = fields.iter().find(|field| field.role == Role::Rank).map_or(0, |field| field.word);
-            set(random, fields, Role::Rank, |_, _| first);
+            set(random, fields, of(Role::Rank), |_, _| first);
         }
         UNKNOWN_SYMBOL => {
             let count = usize::from(fields[1].word).min(LAST_SYMBOL.into());
-            set(random, fields, Role::Node, |random, _| random.between(count, LAST_SYMBOL.into()) as u16);
+            set(random, fields, of(Role::Node), |random, _| random.between(count, LAST_SYMBOL.into()) as u16);
         }
         _ => grow_side(random, fields),
     }
 }
 
-/// Replaces the word of one field of a role, if there is one.
-fn set(random: &mut Random, fields: &mut [Field], role: Role, word: impl Fn(&mut Random, u16) -> u16) {
-    let places: Vec<usize> = (0..fields.len()).filter(|&index| fields[index].role == role).collect();
+fn of(role: Role) -> impl Fn(&Field) -> bool {
+    move |field| field.role == role
+}
+
+fn any_variable(random: &mut Random) -> u16 {
+    random.between(FIRST_VARIABLE.into(), LAST_VARIABLE.into()) as u16
+}
+
+/// Replaces the word of one of the fields that satisfy a test, if there is one.
+fn set(
+    random: &mut Random,
+    fields: &mut [Field],
+    test: impl Fn(&Field) -> bool,
+    word: impl Fn(&mut Random, u16) -> u16,
+) {
+    let places: Vec<usize> = (0..fields.len()).filter(|&index| test(&fields[index])).collect();
     if let Some(&place) = random.choose(&places) {
         fields[place].word = word(random, fields[place].word);
     }

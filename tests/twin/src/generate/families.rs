@@ -35,7 +35,7 @@ impl Family {
 
     /// The packed rule file of one rule, the pair of at most `nodes` nodes.
     pub fn rule_book(&self, nodes: usize) -> Vec<u8> {
-        Book { signature: self.signature(), rules: vec![self.pair(nodes)] }.packed()
+        Book::of_rules(self.signature(), [self.pair(nodes)]).packed()
     }
 
     fn signature(&self) -> Signature {

@@ -124,6 +124,21 @@ pub fn oftener(book: &[u8], left: &[u16], right: &[u16]) -> Result<usize, Error>
     result
 }
 
+/// Converts a book of form 1 into `room` bytes; hands back the bytes written.
+pub fn convert(book: &[u8], room: usize) -> Result<Vec<u8>, Error> {
+    let mut expected = pattern(room);
+    let result = twin::convert(book, &mut expected);
+    with_output(book, &expected, Around::Zeros, |book, converted| {
+        let (len, room) = (book.len(), converted.len());
+        let ours = raw(|reply| unsafe { sys::ackbo_convert(book.as_ptr(), len, converted.as_mut_ptr(), room, reply) });
+        agree(ours, numbers(result, |count| [count as i64, 0, 0]), &book);
+    });
+    with_output(book, &expected, Around::Ones, |book, converted| {
+        agree(ackbo::convert(book, converted).map_err(error), result, &book);
+    });
+    result.map(|count| expected[..count].to_vec())
+}
+
 /// Lends an input and an output filled with the pattern; afterwards the input and all guards are as before, and the
 /// output is as expected.
 fn with_output<A: Element, B: Element>(input: &[A], expected: &[B], around: Around, call: impl FnOnce(&[A], &mut [B])) {

@@ -3,7 +3,9 @@
 use twin::Error;
 
 /// The errors of reading a book.
-pub const BOOK_ERRORS: [u8; 11] = [1, 2, 3, 4, 5, 6, 7, 8, 9, 10, 11];
+pub const BOOK_ERRORS: [u8; 13] = [1, 2, 3, 4, 5, 6, 7, 8, 9, 10, 11, 17, 18];
+/// The errors of reading a book of form 1, as the converter does.
+pub const OLD_BOOK_ERRORS: [u8; 11] = [1, 2, 3, 4, 5, 6, 7, 8, 9, 10, 11];
 /// The errors of a term.
 pub const TERM_ERRORS: [u8; 5] = [2, 9, 10, 14, 15];
 
@@ -12,7 +14,7 @@ pub const TERM_ERRORS: [u8; 5] = [2, 9, 10, 14, 15];
 pub struct Counts {
     calls: usize,
     accepted: usize,
-    errors: [[usize; 17]; 3],
+    errors: [[usize; 19]; 3],
 }
 
 impl Counts {

@@ -27,7 +27,8 @@ fn decoding_agrees_with_the_twin() {
         decode_everywhere(&mut counts, &Book::empty(book.signature));
     }
     for _ in 0..BOOKS {
-        decode_some(&mut random, &mut counts);
+        let book = Book::any(&mut random, 24);
+        decode_some(&mut random, &mut counts, &book);
     }
     for round in 0..LARGEST_BOOKS {
         decode_largest(&mut random, &mut counts, round % 2 == 0);
@@ -41,7 +42,7 @@ fn decoding_agrees_with_the_twin() {
 
 /// Books of one repeated byte, from none to more than any book has.
 fn decode_lengths(counts: &mut Counts) {
-    for byte in [0x00, 0x10, 0x20, 0xff] {
+    for byte in [0x00, 0x10, 0x20, 0x30, 0xff] {
         for len in [0, 1, 2, 3, 4, 5, 8, 9, MAX_BYTES - 1, MAX_BYTES, MAX_BYTES + 1, 2 * MAX_BYTES] {
             counts.add(&decode(&vec![byte; len], 0));
             counts.add(&decode(&vec![byte; len], 8));
@@ -65,15 +66,15 @@ fn decode_everywhere(counts: &mut Counts, book: &Book) {
     }
 }
 
-fn decode_some(random: &mut Random, counts: &mut Counts) {
-    let book = Book::random(random, 24);
+fn decode_some(random: &mut Random, counts: &mut Counts, book: &Book) {
     let (packed, words) = (book.packed(), book.words().len());
     for room in [0, words.saturating_sub(1), words, words + 1, random.below(2 * words)] {
         counts.add(&decode(&packed, room));
     }
     for _ in 0..DAMAGED {
-        counts.add(&decode(&damaged_packed(random, &book), words + random.below(200)));
+        counts.add(&decode(&damaged_packed(random, book), words + random.below(200)));
     }
+    counts.add(&decode(&book.aged(random).packed(), words));
 }
 
 fn decode_largest(random: &mut Random, counts: &mut Counts, many_rules: bool) {

@@ -14,9 +14,9 @@ const BOOKS: usize = 3_500;
 const DAMAGED: usize = 18;
 const LARGEST_BOOKS: usize = 32;
 /// The errors of the words of a book.
-const WORD_ERRORS: [u8; 12] = [1, 2, 3, 4, 5, 6, 7, 8, 9, 10, 14, 15];
+const WORD_ERRORS: [u8; 14] = [1, 2, 3, 4, 5, 6, 7, 8, 9, 10, 14, 15, 17, 18];
 /// The greatest values of fields and nodes, and those after them.
-const LIMITS: [u16; 14] = [0, 1, 2, 7, 8, 15, 16, 255, 256, 271, 272, 1_023, 1_024, u16::MAX];
+const LIMITS: [u16; 15] = [0, 1, 2, 3, 7, 8, 15, 16, 255, 256, 271, 272, 1_023, 1_024, u16::MAX];
 
 #[test]
 fn encoding_agrees_with_the_twin() {
@@ -30,7 +30,8 @@ fn encoding_agrees_with_the_twin() {
         encode_everywhere(&mut counts, &Book::empty(book.signature));
     }
     for _ in 0..BOOKS {
-        encode_some(&mut random, &mut counts);
+        let book = Book::any(&mut random, 24);
+        encode_some(&mut random, &mut counts, &book);
     }
     for round in 0..LARGEST_BOOKS {
         encode_largest(&mut random, &mut counts, round % 2 == 0);
@@ -58,15 +59,15 @@ fn encode_everywhere(counts: &mut Counts, book: &Book) {
     }
 }
 
-fn encode_some(random: &mut Random, counts: &mut Counts) {
-    let book = Book::random(random, 24);
+fn encode_some(random: &mut Random, counts: &mut Counts, book: &Book) {
     let (words, bytes) = (book.words(), book.packed().len());
     for room in [0, bytes - 1, bytes, bytes + 1, random.below(2 * bytes)] {
         counts.add(&encode(&words, room));
     }
     for _ in 0..DAMAGED {
-        counts.add(&encode(&damaged_words(random, &book), bytes + random.below(200)));
+        counts.add(&encode(&damaged_words(random, book), bytes + random.below(200)));
     }
+    counts.add(&encode(&book.aged(random).words(), bytes));
 }
 
 fn encode_largest(random: &mut Random, counts: &mut Counts, many_rules: bool) {

@@ -3,6 +3,7 @@
 
 mod check;
 mod comparing;
+mod converting;
 mod counts;
 mod decoding;
 mod encoding;
@@ -12,6 +13,7 @@ mod marking;
 mod oftener;
 mod picking;
 mod slices;
+mod turns;
 
 /// The seed of all inputs.
 const SEED: u64 = 1_023;

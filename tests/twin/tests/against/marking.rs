@@ -69,12 +69,15 @@ fn mark_families(tally: &mut Tally) {
 /// A book with room for all marks, with too little, without rules, and damaged.
 fn mark_some(random: &mut Random, tally: &mut Tally) {
     let most = if random.one_in(4) { 2 } else { 24 };
-    let book = Book::random(random, most);
+    let book = Book::any(random, most);
     let (packed, rules) = (book.packed(), book.rules.len());
     tally.mark(&packed, rules + random.below(4));
     tally.mark(&packed, random.below(rules + 1));
     for _ in 0..2 {
         tally.mark(&damaged_packed(random, &book), rules + random.below(4));
+    }
+    if random.one_in(16) {
+        tally.mark(&book.aged(random).packed(), rules);
     }
     if random.one_in(16) {
         let empty = Book::empty(Signature::random(random)).packed();

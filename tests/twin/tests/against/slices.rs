@@ -25,6 +25,7 @@ fn empty_inputs_agree_with_the_twin() {
     assert_eq!(ackbo::pick(&[], &[], &[]).map_err(error).err(), twin::pick(&[], &[], &[]).err());
     assert_eq!(ackbo::fingerprint(&[], &[]).map_err(error), twin::fingerprint(&[], &[]));
     assert_eq!(ackbo::oftener(&[], &[], &[]).map_err(error).err(), twin::oftener(&[], &[], &[]).err());
+    assert_eq!(ackbo::convert(&[], &mut bytes).map_err(error), twin::convert(&[], &mut [7; 4]));
     assert_eq!((words, bytes), ([7; 4], [7; 4]));
 }
 
@@ -36,10 +37,13 @@ fn empty_outputs_agree_with_the_twin() {
         let decoded = twin::decode(&book, &mut []);
         let encoded = twin::encode(&words[..len], &mut []);
         let marked = twin::mark(&book, &mut []);
-        assert_eq!([code(&decoded), code(&encoded), code(&marked)], [13, 16, 12]);
+        let old = [&[book[0] - 0x10], &book[1..]].concat();
+        let converted = twin::convert(&old, &mut []);
+        assert_eq!([code(&decoded), code(&encoded), code(&marked), code(&converted)], [13, 16, 12, 16]);
         assert_eq!(ackbo::decode(&book, &mut []).map_err(error), decoded);
         assert_eq!(ackbo::encode(&words[..len], &mut []).map_err(error), encoded);
         assert_eq!(ackbo::mark(&book, &mut []).map_err(error).err(), marked.err());
+        assert_eq!(ackbo::convert(&old, &mut []).map_err(error), converted);
     }
 }
 

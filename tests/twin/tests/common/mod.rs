@@ -1,6 +1,7 @@
 //! Signatures with names, rules in readable text, and examples of both.
 
-use twin::generate::{Book, Signature, Tree};
+use twin::format::Form;
+use twin::generate::{Book, Rule, Signature, Tree};
 use twin::table::Symbol;
 use twin::{compare, mark, report, Relation};
 
@@ -35,13 +36,20 @@ impl Theory {
         tree.words()
     }
 
-    /// The rule file of rules.
+    /// The node words of both sides of a rule.
+    fn rule(&self, rule: &str) -> Rule {
+        let (left, right) = rule.split_once("->").expect("a rule has an arrow");
+        (self.term(left), self.term(right))
+    }
+
+    /// The rule file of rules, their variables in turn.
     fn file(&self, rules: &[&str]) -> Book {
-        let rules = rules.iter().map(|rule| {
-            let (left, right) = rule.split_once("->").expect("a rule has an arrow");
-            (self.term(left), self.term(right))
-        });
-        Book { signature: self.signature.clone(), rules: rules.collect() }
+        Book::of_rules(self.signature.clone(), rules.iter().map(|rule| self.rule(rule)))
+    }
+
+    /// The rule file of rules, of a form and with their variables as they are named.
+    pub fn as_named(&self, form: Form, rules: &[&str]) -> Book {
+        Book { form, signature: self.signature.clone(), rules: rules.iter().map(|rule| self.rule(rule)).collect() }
     }
 
     /// The packed rule file of rules.

@@ -113,6 +113,19 @@ pub const OFTENER: [(&str, &str, usize); 12] = [
     ("u+neg(u)", "sub(u,u)", 16),
 ];
 
+/// Rules of the sample with any variables, and what they are converted to.
+pub const CONVERSIONS: [(&str, &str); 9] = [
+    ("z -> o", "z -> o"),
+    ("u+v -> u", "u+v -> u"),
+    ("v+u -> u", "u+v -> v"),
+    ("s -> s", "u -> u"),
+    ("sub(y,x) -> x", "sub(u,v) -> v"),
+    ("neg(w) -> v", "neg(u) -> v"),
+    ("o -> sub(s,u)", "o -> sub(u,v)"),
+    ("(v+v)+u -> (u+w)+v", "(u+u)+v -> (v+w)+u"),
+    ("s+(y+(x+(w+(v+u)))) -> u+(v+(w+(x+(y+s))))", "u+(v+(w+(x+(y+s)))) -> s+(y+(x+(w+(v+u))))"),
+];
+
 /// Traps that show in the sample.
 const SAMPLE_TRAPS: [Case; 13] = [
     // AC-equivalent members are cancelled.
@@ -165,7 +178,7 @@ const TRAPS: [Case; 23] = [
     // All members are counted. Variables count too; and low members that are above others do not help where members
     // are fewer.
     ("(u+v)+o -> u+g(o)", 5, 0),
-    ("(h(z)+v)+o -> h(z)+g(o)", 5, 0),
+    ("(h(z)+u)+o -> h(z)+g(o)", 5, 0),
     ("(o+o)+z -> g(o)+z", 5, 0),
     ("g(o)+z -> (o+o)+z", 10, 0),
     ("g(o)+u -> (o+o)+u", 10, 0),

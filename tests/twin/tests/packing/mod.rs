@@ -11,7 +11,7 @@ pub fn pack(fields: &[(u32, usize)]) -> Vec<u8> {
 }
 
 pub fn header(symbols: u32, w0: u32, rules: u32) -> Vec<(u32, usize)> {
-    vec![(1, 4), (symbols, 8), (w0, 16), (rules, 10)]
+    vec![(2, 4), (symbols, 8), (w0, 16), (rules, 10)]
 }
 
 pub fn symbol(arity: u32, ac: u32, weight: u32, rank: u32) -> Vec<(u32, usize)> {
@@ -32,4 +32,4 @@ pub fn book(rules: u32, nodes: &[(u32, usize)]) -> Vec<u8> {
 }
 
 /// The words of that book without rules.
-pub const SHEET: [u16; 12] = [1, 2, 1, 0, 0, 0, 1, 7, 1, 0, 1, 3];
+pub const SHEET: [u16; 12] = [2, 2, 1, 0, 0, 0, 1, 7, 1, 0, 1, 3];

@@ -2,7 +2,8 @@
 use mathlib.Core.Path.{sym, _∙_}
 use native.Mathlib.Omega.{arith}
 use lib.Seq.{length-take-le}
-use Rattle.marking.proofs.MarkLaws.{fault-small}
+use Rattle.format.specs.Layout.{formNumber}
+use Rattle.format.proofs.FaultLaws.{fault-small}
 use Rattle.marking.proofs.ReportLaws.{report-refusal, report-marks}
 use borrow.Author.Needs.{needs}
 use Rattle.marking.proofs.report.report.Statement.{statement}
@@ -14,7 +15,7 @@ put-refusal-requires c κs =
     let c7 = c3 .before .before .before .before in
     let c11 = c7 .before .before .before .before in (
       omega (arith, c .long .ensures .1),
-      fault-small (c11 .args .book .now) _ _ (rw (c3 .code .given .1) at (c7 .mark-file .ensures)),
+      fault-small (c11 .args .book .now) formNumber _ _ (rw (c3 .code .given .1) at (c7 .mark-file .ensures)),
     )
 
 put-count-requires : tie.Need-put-count-requires

@@ -26,8 +26,9 @@ mark-sides-requires c κs =
     let c9 = c4 .before .before .before .before .before in
     let a = c9 .args in
     let σ = signatureOf (a .table .now) in
-    let e = rw (c .before .before .value .given .1) at (c4 .read-side .ensures .0 σ (c9 .pre .1 .1)) in
-    (c9 .pre .1 .0, c9 .pre .1 .2, side-term (a .book .now) σ (a .at) _ _ (sym e), c9 .pre .1 .3)
+    let (T, A, left, N) = c9 .pre .1 .0 in
+    let (e, u) = rw (c .before .before .value .given .1) at (c4 .read-side .ensures .0 σ A) in
+    (T, left, side-term (a .book .now) (a .unused) σ (a .at) _ _ e, N)
 
 returns : tie.Need-returns
 returns c =
@@ -35,7 +36,7 @@ returns c =
     let c8 = c3 .before .before .before .before .before in
     let a = c8 .args in
     let σ = signatureOf (a .table .now) in
-    (sym (rw (c .before .offset .given .1) at (c3 .read-side .ensures .0 σ (c8 .pre .1 .1))), tt)
+    (rw (c .before .offset .given .1) at (c3 .read-side .ensures .0 σ (c8 .pre .1 .0 .1)), tt)
 
 returns-2 : tie.Need-returns-2
 returns-2 c =
@@ -44,10 +45,10 @@ returns-2 c =
     let c10 = c5 .before .before .before .before .before in
     let a = c10 .args in
     let σ = signatureOf (a .table .now) in
-    let e = rw (c3 .value .given .1) at (c5 .read-side .ensures .0 σ (c10 .pre .1 .1)) in
+    let (e, u) = rw (c3 .value .given .1) at (c5 .read-side .ensures .0 σ (c10 .pre .1 .0 .1)) in
     let within = rw (c3 .value .given .1) at (c5 .read-side .ensures .1 .0) in
     let (x, same) = c .mark-sides .ensures in
-    (right-marked σ _ (a .left .now) _ _ (c .mark-sides .result) e same x, rw same (within .1))
+    (right-marked σ _ (a .left .now) _ _ (c .mark-sides .result) e same x, rw same (within .2))
 
 pub mark-right-spec : {M : Type 1} → statement M
 mark-right-spec =

@@ -1,13 +1,25 @@
--- The left side is read first, and what follows is what the right side makes of the rule.
-use mathlib.Core.Path.{sym}
+-- The left side is read first, and what follows is what the right side, read on with its variables, makes of the rule.
+use mathlib.Core.Path.{refl, sym}
 use native.Mathlib.Omega.{arith}
 use lib.Seq.{length-take-le}
+use Rattle.format.specs.Layout.{formNumber}
 use Rattle.format.specs.Reading.{bitSource}
+use Rattle.format.specs.Format.{unusedOf}
 use Rattle.symbols.specs.Table.{signatureOf}
 use Rattle.marking.proofs.SideLaws.{side-term, left-unread, rule-marked}
 use borrow.Author.Needs.{needs}
 use Rattle.marking.proofs.rule.mark_rule.Statement.{statement}
 use Rattle.marking.proofs.rule.mark_rule.Tie as tie
+
+read-side-requires : tie.Need-read-side-requires
+read-side-requires c κs =
+    let c4 = c .before .before .before .before in
+    ((c4 .pre .0 .0, c4 .pre .0 .1, refl), c .before .unused-at-start .ensures .1)
+
+cast-after : tie.Need-cast-after
+cast-after c =
+    let c3 = c .before .before .before in
+    omega (arith, rw (c .before .value .given .1) at (c3 .read-side .ensures .1 .0))
 
 array-share-prefix-left : tie.Need-array-share-prefix-left
 array-share-prefix-left c =
@@ -24,45 +36,41 @@ slice-aggregate-mark-right c =
 mark-right-requires : tie.Need-mark-right-requires
 mark-right-requires c κs =
     let c4 = c .before .before .before .before in
-    let c8 = c4 .before .before .before .before in
-    let a = c8 .args in
+    let c9 = c4 .before .before .before .before .before in
+    let a = c9 .args in
     let σ = signatureOf (a .table .now) in
-    let e = rw (c .before .before .value .given .1) at (c4 .read-side .ensures .0 σ (c8 .pre .1 .1)) in
-    let within = rw (c .before .before .value .given .1) at (c4 .read-side .ensures .1 .0) in (
-      (c8 .pre .0 .0, within .1),
-      (
-        c8 .pre .1 .0,
-        c8 .pre .1 .1,
-        side-term (a .book .now) σ (a .at) _ _ (sym e),
-        c8 .pre .1 .2,
-      ),
-    )
+    let (T, A, N) = c9 .pre .1 in
+    let (e, u) = rw (c .before .before .value .given .1) at (c4 .read-side .ensures .0 σ A) in
+    let (few, small, end) = rw (c .before .before .value .given .1) at (c4 .read-side .ensures .1 .0) in
+    ((c9 .pre .0 .0, end), ((T, A, side-term (a .book .now) _ σ (a .at) _ _ e, N), small))
 
 returns : tie.Need-returns
 returns c =
     let c3 = c .before .before .before in
-    let c7 = c3 .before .before .before .before in
-    let a = c7 .args in
-    let σ = signatureOf (a .table .now) in (
-      left-unread σ (bitSource (a .book .now)) (a .at) _ _ (rw (c .before .offset .given .1) at (c3 .read-side
-          .ensures .0 σ (c7 .pre .1 .1))),
-      tt,
-    )
+    let c5 = c3 .before .before in
+    let c8 = c5 .before .before .before in
+    let a = c8 .args in
+    let σ = signatureOf (a .table .now) in
+    let e = rw (c .before .offset .given .1, c5 .unused-at-start .ensures .0)
+    at (c3 .read-side .ensures .0 σ (c8 .pre .1 .1)) in
+    (left-unread σ (bitSource (a .book .now)) (unusedOf formNumber) (a .at) _ _ e, tt)
 
 returns-2 : tie.Need-returns-2
 returns-2 c =
     let c3 = c .before .before .before in
     let c5 = c3 .before .before in
-    let c9 = c5 .before .before .before .before in
-    let a = c9 .args in
+    let c7 = c5 .before .before in
+    let c10 = c7 .before .before .before in
+    let a = c10 .args in
     let σ = signatureOf (a .table .now) in
-    let e = rw (c3 .value .given .1) at (c5 .read-side .ensures .0 σ (c9 .pre .1 .1)) in (
-      rule-marked σ (bitSource (a .book .now)) (a .at) _ _ e (c .mark-right .result) (c .mark-right
-          .ensures .0),
+    let (e, u) = rw (c3 .value .given .1, c7 .unused-at-start .ensures .0)
+    at (c5 .read-side .ensures .0 σ (c10 .pre .1 .1)) in (
+      rule-marked σ (bitSource (a .book .now)) (unusedOf formNumber) (a .at) _ _ _ e u (c .mark-right .result)
+          (c .mark-right .ensures .0),
       c .mark-right .ensures .1,
     )
 
 pub mark-rule-spec : {M : Type 1} → statement M
 mark-rule-spec =
-    tie.close (tie.spec (λ c κs. search needs) (λ c. search needs) (λ c. search needs) array-share-prefix-left
-    slice-aggregate-mark-right mark-right-requires returns returns-2)
+    tie.close (tie.spec (λ c κs. search needs) read-side-requires (λ c. search needs) (λ c. search needs) cast-after
+    array-share-prefix-left slice-aggregate-mark-right mark-right-requires returns returns-2)

@@ -3,6 +3,7 @@ use mathlib.Core.Path.{sym, _∙_}
 use mathlib.Core.List.{[]}
 use native.Mathlib.Omega.{arith}
 use lib.Seq.{length-take-le}
+use Rattle.format.specs.Layout.{formNumber}
 use Rattle.reader.specs.Source.{Reached}
 use Rattle.reader.proofs.SourceLaws.{read-packed}
 use Rattle.marking.proofs.MarkLaws.{is-table}
@@ -20,11 +21,11 @@ slice-aggregate-mark-under : tie.Need-slice-aggregate-mark-under
 unfolding Reached
 slice-aggregate-mark-under c =
     let c6 = c .before .before .before .before .before .before in
-    sym (length-take-le _ (c6 .read-head .last .1 .1 .1 .0) (omega (
+    sym (length-take-le _ (c6 .read-head .last .1 .1 .1 .1 .0) (omega (
       arith,
       c .before .front .ensures .1,
       c6 .read-head
-          .kept .1 .1 .1 .0,
+          .kept .1 .1 .1 .1 .0,
     )))
 
 mark-under-requires : tie.Need-mark-under-requires
@@ -38,7 +39,7 @@ mark-under-requires c κs =
       (head .1 .short, head .1 .within),
       (
         rw (c3 .front .ensures .0)
-            (is-table (c13 .args .book .now) _ _ _ _ (sym (c8 .read-head .kept .1 .1 .1 .0)) (head .1)),
+            (is-table (c13 .args .book .now) _ _ _ _ (sym (c8 .read-head .kept .1 .1 .1 .1 .0)) (head .1)),
         head .1 .fewRules,
         c13 .pre,
       ),
@@ -49,7 +50,7 @@ unfolding Reached
 returns c =
     let c4 = c .before .before .before .before in
     let c9 = c4 .before .before .before .before .before in
-    sym (read-packed (c9 .args .book .now) []) ∙ rw (c .before .code .given .1) at (c4 .read-head .ensures)
+    sym (read-packed formNumber (c9 .args .book .now) []) ∙ rw (c .before .code .given .1) at (c4 .read-head .ensures)
 
 returns-2 : tie.Need-returns-2
 unfolding Reached
@@ -60,7 +61,7 @@ returns-2 c =
     let c12 = c9 .before .before .before in
     let c17 = c12 .before .before .before .before .before in
     let head = rw (c9 .symbols .given .1) at (c12 .read-head .ensures) in
-    rw (sym (read-packed (c17 .args .book .now) []) ∙ head .0) (rw (c7 .front .ensures .0) at (c3 .mark-under
+    rw (sym (read-packed formNumber (c17 .args .book .now) []) ∙ head .0) (rw (c7 .front .ensures .0) at (c3 .mark-under
     .ensures))
 
 pub mark-file-spec : {M : Type 1} → statement M

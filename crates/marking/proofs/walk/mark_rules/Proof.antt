@@ -5,7 +5,9 @@ use native.Mathlib.Omega.{arith}
 use lib.ListN.{length, set, length-set}
 use mir.Syntax.{w64}
 use mir.ValLaws.{toZ-ofZ}
+use Rattle.format.specs.Layout.{formNumber}
 use Rattle.format.specs.Reading.{bitSource}
+use Rattle.format.specs.Format.{unusedOf}
 use Rattle.symbols.specs.Table.{signatureOf}
 use Rattle.marking.proofs.WalkLaws.{ListedSoFar, listed-none, listed-fault, listed-more, listed-all}
 use borrow.Author.Needs.{needs}
@@ -16,8 +18,8 @@ abbrev Inv-loop : tie.InvT-loop
 Inv-loop book table arities adds marks₀ margins₀ count at here₀ decreasing₀ i₀ marks margins here decreasing i =
     (i ≤ count) × (decreasing ≤ i) × (length marks ≡ length marks₀) × (length margins ≡ length margins₀)
     × (here ≤ 8 * length book)
-    × ListedSoFar (bitSource book) (signatureOf table) count here₀ marks₀ margins₀ i here decreasing marks
-    margins
+    × ListedSoFar (bitSource book) (unusedOf formNumber) (signatureOf table) count here₀ marks₀ margins₀ i here
+    decreasing marks margins
 
 abbrev μ-loop : tie.MeasureT-loop
 μ-loop book table arities adds marks₀ margins₀ count at here₀ decreasing₀ i₀ marks margins here decreasing i = count - i
@@ -31,8 +33,8 @@ loop-holds c =
       refl,
       refl,
       c3 .pre .0 .1,
-      listed-none (bitSource (a .book .now)) (signatureOf (a .table .now)) (a .count) (a .at) (a .marks .now)
-          (a .margins .now),
+      listed-none (bitSource (a .book .now)) (unusedOf formNumber) (signatureOf (a .table .now)) (a .count) (a .at)
+          (a .marks .now) (a .margins .now),
     )
 
 mark-rule-requires : tie.Need-mark-rule-requires Inv-loop μ-loop
@@ -58,8 +60,8 @@ returns c =
     let c9 = c5 .before .before .before .before in
     let a = c9 .args in
     let l = c5 .loop in (
-      listed-fault (bitSource (a .book .now)) (signatureOf (a .table .now)) (a .count) (a .at) (a .marks .now)
-          (a .margins .now)
+      listed-fault (bitSource (a .book .now)) (unusedOf formNumber) (signatureOf (a .table .now)) (a .count) (a .at)
+          (a .marks .now) (a .margins .now)
           (l .i) (l .here) (l .decreasing) (l .marks) (l .margins) (l .inv .5) (c4 .loop-test .taken) _ _ (l
           .marks) (l .margins)
           (rw (c .before .code .given .1) at (c3 .mark-rule .ensures .0)),
@@ -83,8 +85,8 @@ loop-again c =
       ap length (c7 .put-mark .ensures) ∙ simp length-set (l .inv .2),
       ap length (c .before .before .put-margin .ensures) ∙ simp length-set (l .inv .3),
       within,
-      listed-more (bitSource (a .book .now)) (signatureOf (a .table .now)) (a .count) (a .at) (a .marks .now)
-          (a .margins .now)
+      listed-more (bitSource (a .book .now)) (unusedOf formNumber) (signatureOf (a .table .now)) (a .count) (a .at)
+          (a .marks .now) (a .margins .now)
           (l .i) (l .here) (l .decreasing) (l .marks) (l .margins) (l .inv .5) (c13 .loop-test .taken) _ (c10
           .rule .given .0 .0) _ _
           (rw (c10 .rule .given .1) at (c12 .mark-rule .ensures .0)) (c .decreases .ensures .0) (c7 .put-mark
@@ -106,8 +108,8 @@ returns-2 c =
     let c5 = c .before .before .before .before .before in
     let a = c5 .args in
     let l = c .before .loop in (
-      listed-all (bitSource (a .book .now)) (signatureOf (a .table .now)) (a .count) (a .at) (a .marks .now)
-          (a .margins .now)
+      listed-all (bitSource (a .book .now)) (unusedOf formNumber) (signatureOf (a .table .now)) (a .count) (a .at)
+          (a .marks .now) (a .margins .now)
           (l .i) (l .here) (l .decreasing) (l .marks) (l .margins) (l .inv .5) (c .loop-test .left) (l .here)
           refl,
       (omega arith, l .inv .4),

@@ -3,7 +3,9 @@ use mathlib.Core.Path.{sym, _∙_}
 use mathlib.Core.List.{[]}
 use mathlib.Core.Bool.{true}
 use native.Mathlib.Omega.{arith}
+use Rattle.format.specs.Layout.{formNumber}
 use Rattle.format.specs.Reading.{bitSource}
+use Rattle.format.specs.Format.{unusedOf}
 use Rattle.symbols.specs.Table.{signatureOf}
 use Rattle.format.proofs.FormatLaws.{rules-length}
 use Rattle.reader.specs.Source.{sourceOf}
@@ -39,10 +41,11 @@ returns c =
     let σ = signatureOf (a .table .now) in
     let read = rw (c3 .decreasing .given .1) at (c8 .mark-rules .ensures .0) in
     let within = rw (c3 .decreasing .given .1) at (c8 .mark-rules .ensures .1) in
-    let long = rules-length (bitSource (a .book .now)) σ (a .count) (a .at) (read .0) _ (read .1) in (
+    let long = rules-length (bitSource (a .book .now)) (unusedOf formNumber) σ (a .count) (a .at) (read .0) _ (read .1)
+    in (
       _,
       _,
-      rest-ended true (a .book .now) [] σ (a .count) (a .at) (read .0) _ (read .1)
+      rest-ended formNumber true (a .book .now) [] σ (a .count) (a .at) (read .0) _ (read .1)
           (c3 .decreasing .given .0 .1 .0) (rw (sym (c .before .is-padding .ensures) ∙ c .if1 .taken)),
       marked-as σ (read .0) (a .count) _ _ _ _ _ long (c18 .pre .1 .1) (within .0) (read .2),
     )
@@ -53,7 +56,7 @@ returns-2 c =
     let c6 = c .before .before .before .before .before .before in
     let c16 = c6 .before .before .before .before .before .before .before .before .before .before in
     let a = c16 .args in
-    rest-unread true (a .book .now) [] (signatureOf (a .table .now)) (a .count) (a .at) _ _
+    rest-unread formNumber true (a .book .now) [] (signatureOf (a .table .now)) (a .count) (a .at) _ _
     (rw (c .before .code .given .1) at (c6 .mark-rules .ensures .0))
 
 returns-3 : tie.Need-returns-3
@@ -64,8 +67,8 @@ returns-3 c =
     let c18 = c8 .before .before .before .before .before .before .before .before .before .before in
     let a = c18 .args in
     let read = rw (c3 .decreasing .given .1) at (c8 .mark-rules .ensures .0) in
-    rest-unended true (a .book .now) [] (signatureOf (a .table .now)) (a .count) (a .at) (read .0) _ (read .1)
-    _ _
+    rest-unended formNumber true (a .book .now) [] (signatureOf (a .table .now)) (a .count) (a .at) (read .0) _
+    (read .1) _ _
     (rw (sym (c .before .is-padding .ensures) ∙ c .if1 .left))
 
 pub mark-under-spec : {M : Type 1} → statement M

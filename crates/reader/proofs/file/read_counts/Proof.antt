@@ -1,5 +1,5 @@
 -- The three fields are read and tested in the order of the definition.
-use mathlib.Core.Path.{sym, _∙_}
+use mathlib.Core.Path.{sym}
 use native.Mathlib.Omega.{arith}
 use lib.Dec.{leb}
 use borrow.Author.Tests.{leb-true}
@@ -46,13 +46,13 @@ read-table-requires c κs =
 
 returns : tie.Need-returns
 unfolding countsReader
-returns c =
+returns c form =
     let c3 = c .before .before .before in
     rw (sym (rw (c .before .offset .given .1) at (c3 .field-at-least .ensures .0)))
 
 returns-2 : tie.Need-returns-2
 unfolding countsReader
-returns-2 c =
+returns-2 c form =
     let c3 = c .before .before .before in
     let c5 = c3 .before .before in
     let c7 = c5 .before .before in
@@ -61,7 +61,7 @@ returns-2 c =
 
 returns-3 : tie.Need-returns-3
 unfolding countsReader
-returns-3 c =
+returns-3 c form =
     let c3 = c .before .before .before in
     let c5 = c3 .before .before in
     let c7 = c5 .before .before in
@@ -73,7 +73,7 @@ returns-3 c =
 
 returns-4 : tie.Need-returns-4
 unfolding countsReader
-returns-4 c =
+returns-4 c form =
     let c5 = c .before .before .before .before .before in
     let c7 = c5 .before .before in
     let c9 = c7 .before .before in
@@ -83,7 +83,7 @@ returns-4 c =
     let count = sym (rw (c13 .symbols .given .1) at (c15 .field-at-least .ensures .0)) in
     let w0 = sym (rw (c9 .w0 .given .1) at (c11 .field-at-least2 .ensures .0)) in
     let rules = sym (rw (c5 .rules .given .1) at (c7 .field .ensures .0)) in
-    rw (count, w0, rules) (c .before .before .read-table .ensures)
+    rw (count, w0, rules) (c .before .before .read-table .ensures form)
 
 pub read-counts-spec : {M : Type 1} → statement M
 read-counts-spec =

@@ -1,5 +1,5 @@
 -- The head is read, and the rest under its table's front.
-use mathlib.Core.Path.{sym, _∙_}
+use mathlib.Core.Path.{sym}
 use native.Mathlib.Omega.{arith}
 use lib.Seq.{length-take-le}
 use Prim.Native.Nat.{_+_}
@@ -19,11 +19,11 @@ slice-aggregate-read-rest : tie.Need-slice-aggregate-read-rest
 slice-aggregate-read-rest c =
     let c7 = c .before .before .before .before .before .before .before in
     let c13 = c7 .before .before .before .before .before .before in
-    sym (length-take-le (c .before .front .result) (c7 .read-head .last .1 .1 .1 .0) (omega (
+    sym (length-take-le (c .before .front .result) (c7 .read-head .last .1 .1 .1 .1 .0) (omega (
       arith,
       c .before .front
           .ensures .1,
-      c7 .read-head .kept .1 .1 .1 .0,
+      c7 .read-head .kept .1 .1 .1 .1 .0,
       c13 .pre,
     )))
 
@@ -33,11 +33,11 @@ read-rest-requires c κs =
     let c8 = c4 .before .before .before .before in
     let c14 = c8 .before .before .before .before .before .before in
     let head = rw (c4 .symbols .given .1) at (c8 .read-head .ensures) in
-    let short = length-take-le (c .before .before .front .result) (c8 .read-head .last .1 .1 .1 .0) (omega (
+    let short = length-take-le (c .before .before .front .result) (c8 .read-head .last .1 .1 .1 .1 .0) (omega (
       arith,
       c
           .before .before .front .ensures .1,
-      c8 .read-head .kept .1 .1 .1 .0,
+      c8 .read-head .kept .1 .1 .1 .1 .0,
       c14 .pre,
     )) in
     let few = entry-lt (c4 .symbols .given .0 .0) (head .1 .fewSymbols) in (
@@ -59,8 +59,9 @@ returns-2 c =
     let c20 = c14 .before .before .before .before .before .before in
     let a = c20 .args in
     let head = rw (c10 .symbols .given .1) at (c14 .read-head .ensures) in
-    rest-fault (a .packed) (a .book .now) (a .sheet .now) (c14 .read-head .last .1 .1 .1 .0) (a .words .now) (c5
-    .read-rest .last .1 .1 .1 .1 .0) _ _ _ _ head _ _
+    rest-fault (a .form) (a .packed) (a .book .now) (a .sheet .now) (c14 .read-head .last .1 .1 .1 .1 .0)
+    (a .words .now) (c5
+    .read-rest .last .1 .1 .1 .1 .1 .0) _ _ _ _ head _ _
     (rw (c .before .offset .given .1, c8 .front .ensures .0) at (c5 .read-rest .ensures))
 
 returns-3 : tie.Need-returns-3
@@ -72,8 +73,9 @@ returns-3 c =
     let c20 = c14 .before .before .before .before .before .before in
     let a = c20 .args in
     let head = rw (c10 .symbols .given .1) at (c14 .read-head .ensures) in
-    file-read (a .packed) (a .book .now) (a .sheet .now) (c14 .read-head .last .1 .1 .1 .0) (a .words .now) (c5
-    .read-rest .last .1 .1 .1 .1 .0) _ _ _ _ head _ _
+    file-read (a .form) (a .packed) (a .book .now) (a .sheet .now) (c14 .read-head .last .1 .1 .1 .1 .0)
+    (a .words .now) (c5
+    .read-rest .last .1 .1 .1 .1 .1 .0) _ _ _ _ head _ _
     (rw (c .before .value .given .1, c8 .front .ensures .0) at (c5 .read-rest .ensures))
 
 pub read-file-spec : {M : Type 1} → statement M

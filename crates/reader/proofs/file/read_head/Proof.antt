@@ -3,12 +3,15 @@ use mathlib.Core.Path.{sym, _∙_}
 use lib.ListN.{length}
 use borrow.Author.Tests.{lt-leb, le-leb, eq-eqb, ne-eqb}
 use Rattle.format.specs.Layout.{maxBytes}
-use Rattle.reader.specs.Source.{sourceOf, readSource}
+use Rattle.reader.specs.Source.{readSource}
 use Rattle.reader.proofs.SourceLaws.{reached-start, reached-field}
 use Rattle.reader.proofs.FileLaws.{read-parts}
 use borrow.Author.Needs.{needs}
 use Rattle.reader.proofs.file.read_head.Statement.{statement}
 use Rattle.reader.proofs.file.read_head.Tie as tie
+use Rattle.reader.proofs.field.field.Reads as field-reads
+use Rattle.reader.proofs.file.form_error.Reads as form-error-reads
+use Rattle.reader.proofs.file.read_counts.Reads as read-counts-reads
 
 returns : tie.Need-returns
 unfolding readSource
@@ -19,13 +22,15 @@ returns c =
 returns-2 : tie.Need-returns-2
 unfolding readSource
 returns-2 c =
-    let c4 = c .before .before .before .before in
-    let c5 = c4 .before in
-    let c9 = c5 .before .before .before .before in
-    let a = c9 .args in
-    let short = le-leb (length (a .book .now)) maxBytes (c5 .if1 .left) in
-    let form = sym (rw (c .before .before .value .given .1) at (c4 .field .ensures .0)) in
-    rw short (read-parts (a .packed) (a .book .now) (a .sheet .now) ∙ rw (form, ne-eqb _ _ (c .if2 .taken)))
+    let c3 = c .before .before .before in
+    let c5 = c3 .before .before in
+    let c6 = c5 .before in
+    let c10 = c6 .before .before .before .before in
+    let a = c10 .args in
+    let short = le-leb (length (a .book .now)) maxBytes (c6 .if1 .left) in
+    let form = sym (rw (c3 .value .given .1) at (c5 .field .ensures .0)) in
+    rw short (read-parts (a .form) (a .packed) (a .book .now) (a .sheet .now)
+    ∙ rw (form, ne-eqb _ _ (c .before .if2 .taken), c .form-error .ensures))
 
 read-counts-requires : tie.Need-read-counts-requires
 unfolding readSource
@@ -48,7 +53,7 @@ returns-3 c =
     let a = c8 .args in
     let short = le-leb (length (a .book .now)) maxBytes (c4 .if1 .left) in
     let form = sym (rw (c .before .offset .given .1) at (c3 .field .ensures .0)) in
-    rw short (read-parts (a .packed) (a .book .now) (a .sheet .now) ∙ rw form)
+    rw short (read-parts (a .form) (a .packed) (a .book .now) (a .sheet .now) ∙ rw form)
 
 returns-4 : tie.Need-returns-4
 unfolding readSource
@@ -61,10 +66,24 @@ returns-4 c =
     let a = c13 .args in
     let short = le-leb (length (a .book .now)) maxBytes (c9 .if1 .left) in
     let form = sym (rw (c6 .value .given .1) at (c8 .field .ensures .0)) in
-    rw (short, read-parts (a .packed) (a .book .now) (a .sheet .now), form, eq-eqb _ _ (c4 .if2 .left)) (c .before
-    .before .read-counts .ensures)
+    rw (
+      short,
+      read-parts (a .form) (a .packed) (a .book .now) (a .sheet .now),
+      form,
+      eq-eqb _ _ (c4 .if2 .left),
+    ) (c .before .before .read-counts .ensures (a .form))
 
 pub read-head-spec : {M : Type 1} → statement M
 read-head-spec =
-    tie.close (tie.spec returns (λ c κs. search needs) (λ c. search needs) (λ c. search needs)
-    (λ c. search needs) returns-2 read-counts-requires returns-3 (λ c. search needs) returns-4)
+    tie.close
+    (tie.spec
+    returns
+    (λ c κs. search needs)
+    (λ c. search needs)
+    (λ c. search needs)
+    (λ c κs. search needs)
+    returns-2
+    read-counts-requires
+    returns-3
+    (λ c. search needs)
+    returns-4)

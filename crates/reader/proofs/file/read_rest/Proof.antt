@@ -11,7 +11,8 @@ returns c =
     let c5 = c .before .before .before .before .before in
     let c11 = c5 .before .before .before .before .before .before in
     let a = c11 .args in
-    rest-unread (a .packed) (a .book .now) (a .sheet .now) (signatureOf (a .table .now)) (a .count) (a .at) _ _
+    rest-unread (a .form) (a .packed) (a .book .now) (a .sheet .now) (signatureOf (a .table .now)) (a .count)
+    (a .at) _ _
     (rw (c .before .offset .given .1) at (c5 .read-rules .ensures))
 
 returns-2 : tie.Need-returns-2
@@ -22,7 +23,8 @@ returns-2 c =
     let c15 = c9 .before .before .before .before .before .before in
     let a = c15 .args in
     let (rules, e, long, stored) = rw (c5 .value .given .1) at (c9 .read-rules .ensures) in
-    rest-unended (a .packed) (a .book .now) (a .sheet .now) (signatureOf (a .table .now)) (a .count) (a .at) rules _ e _ _
+    rest-unended (a .form) (a .packed) (a .book .now) (a .sheet .now) (signatureOf (a .table .now)) (a .count)
+    (a .at) rules _ e _ _
     (sym (rw (c .before .offset2 .given .1) at (c3 .end .ensures)))
 
 returns-3 : tie.Need-returns-3
@@ -32,8 +34,9 @@ returns-3 c =
     let c9 = c5 .before .before .before .before in
     let c15 = c9 .before .before .before .before .before .before in
     let a = c15 .args in
-    rest-read (a .packed) (a .book .now) (a .sheet .now) (signatureOf (a .table .now)) (a .count) (a .at) _ _ _
-    (a .words .now) (c9 .read-rules .last .1 .1 .1 .1 .0) (rw (c5 .value .given .1) at (c9 .read-rules .ensures))
+    rest-read (a .form) (a .packed) (a .book .now) (a .sheet .now) (signatureOf (a .table .now)) (a .count)
+    (a .at) _ _ _
+    (a .words .now) (c9 .read-rules .last .1 .1 .1 .1 .1 .0) (rw (c5 .value .given .1) at (c9 .read-rules .ensures))
     (sym (rw (c .before .none .given .1) at (c3 .end .ensures)))
 
 pub read-rest-spec : {M : Type 1} → statement M

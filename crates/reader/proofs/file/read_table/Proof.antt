@@ -12,21 +12,21 @@ read-symbols-requires c κs =
     (c4 .pre .0 .0, c4 .pre .1 .1, omega (arith, table-le (c4 .args .symbols) (c4 .pre .1 .1), c4 .pre .1 .0))
 
 returns : tie.Need-returns
-returns c =
+returns c form =
     let c5 = c .before .before .before .before .before in
     let c10 = c5 .before .before .before .before .before in
     let a = c10 .args in
-    symbols-fault (a .packed) (a .book .now) (a .sheet .now) (a .w0) (a .symbols) (a .rules) (a .at) _ _
+    symbols-fault form (a .packed) (a .book .now) (a .sheet .now) (a .w0) (a .symbols) (a .rules) (a .at) _ _
     (rw (c .before .offset .given .1) at (c5 .read-symbols .ensures))
 
 returns-2 : tie.Need-returns-2
-returns-2 c =
+returns-2 c form =
     let c5 = c .before .before .before .before .before in
     let c10 = c5 .before .before .before .before .before in
     let a = c10 .args in
     let (read, weight) = rw (c .before .value .given .1) at (c5 .read-symbols .ensures) in
     let room = table-le (a .symbols) (c10 .pre .1 .1) in
-    head-read (a .packed) (a .book .now) (a .sheet .now) (a .w0) (a .symbols) (a .rules) (a .at)
+    head-read form (a .packed) (a .book .now) (a .sheet .now) (a .w0) (a .symbols) (a .rules) (a .at)
     (c5 .read-symbols .last .1 .1 .1 .0) _ read weight
     (omega (arith, c5 .read-symbols .kept .1 .1 .1 .0, room, c10 .pre .1 .0)) (c10 .pre .0 .1) (c10 .pre .0 .0) (c10
     .pre .1 .1)

@@ -1,40 +1,72 @@
--- A rule is two terms.
+-- A rule is two terms, the second with the variables that the first leaves unused.
+use mathlib.Core.Path.{sym, ap, _∙_}
 use native.Mathlib.Omega.{arith}
-use mathlib.Core.Path.{sym, _∙_}
 use Rattle.format.specs.Layout.{maxNodes}
+use Rattle.answers.specs.Answer.{endOf}
 use Rattle.words.proofs.TermLaws.{terms-end}
-use Rattle.reader.proofs.RuleLaws.{rule-unread, rule-sides}
+use Rattle.reader.proofs.RuleLaws.{rule-unread, rule-half, rule-whole}
 use borrow.Author.Needs.{needs}
 use Rattle.reader.proofs.rule.read_word_rule.Statement.{statement}
 use Rattle.reader.proofs.rule.read_word_rule.Tie as tie
+use Rattle.words.proofs.term.Reads as term-reads
+
+cast-term : tie.Need-cast-term
+cast-term c =
+    let c3 = c .before .before .before in
+    omega (arith, rw (c .before .value .given .1) at (c3 .term .ensures .1))
 
 term-requires-2 : tie.Need-term-requires-2
 term-requires-2 c κs =
     let c3 = c .before .before .before in
     let c5 = c3 .before .before in
+    let a = c5 .args in
     let (σ, table) = c5 .pre .1 in
-    omega (
-      arith,
-      terms-end (c5 .args .sheet .now) σ maxNodes 1 (c5 .args .at) _ _ (sym (c3 .term .ensures σ table) ∙ c .before
-          .value .given .1),
+    let left = sym (c3 .term .ensures .0 σ table) ∙ c .before .value .given .1 in (
+      omega (arith, terms-end (a .sheet .now) σ (a .unused) maxNodes 1 (a .at) _ _ left),
+      omega (arith, rw (c .before .value .given .1) at (c3 .term .ensures .1)),
     )
 
 returns : tie.Need-returns
 returns c σ table =
     let c3 = c .before .before .before in
     let c5 = c3 .before .before in
-    sym (rule-unread (c5 .args .sheet .now) σ (c5 .args .at) _ _ (sym (c3 .term .ensures σ table) ∙ c .before .offset
-    .given .1))
+    let a = c5 .args in
+    sym (ap endOf (rule-unread (a .sheet .now) (a .unused) σ (a .at) _ _
+    (sym (c3 .term .ensures .0 σ table) ∙ c .before .offset .given .1)))
 
 returns-2 : tie.Need-returns-2
 returns-2 c σ table =
-    let c4 = c .before .before .before .before in
-    let c6 = c4 .before .before in
-    c .term2 .ensures σ table
-    ∙ sym (rule-sides (c6 .args .sheet .now) σ (c6 .args .at) _ _ (sym (c4 .term .ensures σ table) ∙ c .before .before
-    .value .given .1))
+    let c3 = c .before .before .before in
+    let c5 = c3 .before .before in
+    let c7 = c5 .before .before in
+    let c9 = c7 .before .before in
+    let a = c9 .args in
+    sym (ap endOf (rule-half (a .sheet .now) (a .unused) σ (a .at) _ _
+    (sym (c7 .term .ensures .0 σ table) ∙ c5 .value .given .1) _ _
+    (sym (c3 .term2 .ensures .0 σ table) ∙ c .before .offset2 .given .1)))
+
+returns-3 : tie.Need-returns-3
+returns-3 c σ table =
+    let c3 = c .before .before .before in
+    let c5 = c3 .before .before in
+    let c7 = c5 .before .before in
+    let c9 = c7 .before .before in
+    let a = c9 .args in
+    sym (ap endOf (rule-whole (a .sheet .now) (a .unused) σ (a .at) _ _
+    (sym (c7 .term .ensures .0 σ table) ∙ c5 .value .given .1) _ _
+    (sym (c3 .term2 .ensures .0 σ table) ∙ c .before .after .given .1) .1))
 
 pub read-word-rule-spec : {M : Type 1} → statement M
 read-word-rule-spec =
     tie.close
-    (tie.spec (λ c κs. search needs) (λ c. search needs) (λ c. search needs) term-requires-2 returns returns-2)
+    (tie.spec
+    (λ c κs. search needs)
+    (λ c. search needs)
+    (λ c. search needs)
+    cast-term
+    term-requires-2
+    (λ c. search needs)
+    (λ c. search needs)
+    returns
+    returns-2
+    returns-3)

@@ -1,9 +1,12 @@
 //! Every error of reading with its number, input and offset, and the order in which faults are found.
 
+mod forms;
+#[path = "../packing/mod.rs"]
 mod packing;
+mod terms;
 
 use packing::{book, header, node, pack, symbol, variable, FILLER, SHEET};
-use twin::{compare, decode, encode, fingerprint, mark, oftener, pick, Comparison, Error, Marked, Pick, Relation};
+use twin::{compare, convert, decode, encode, fingerprint, mark, oftener, pick, Error, Marked};
 
 /// The first bit of the rules in `book`.
 const RULES_AT: usize = 38 + 2 * 28;
@@ -15,7 +18,26 @@ fn sheet(nodes: &[u16]) -> Vec<u16> {
     words
 }
 
-/// Every operation on a packed book refuses it alike and changes nothing.
+/// The same bits in form 1.
+fn old(packed: &[u8]) -> Vec<u8> {
+    let mut bytes = packed.to_vec();
+    if let Some(first) = bytes.first_mut() {
+        *first = 0x10 | *first & 0x0f;
+    }
+    bytes
+}
+
+/// The converter refuses a book and changes nothing.
+fn refuse_old(packed: &[u8], code: u8, offset: usize) {
+    let error = Error { code, input: 0, offset };
+    let mut bytes = vec![FILLER; packed.len()];
+    assert_eq!(convert(packed, &mut bytes), Err(error));
+    assert_eq!(bytes, vec![FILLER; packed.len()]);
+    assert_eq!(convert(packed, &mut []), Err(error), "the book comes before the output");
+}
+
+/// Every operation on a packed book refuses it alike and changes nothing; the converter refuses the same bits in form 1
+/// for the same fault, but for those of form 2.
 fn refuse_packed(packed: &[u8], code: u8, offset: usize) {
     let error = Error { code, input: 0, offset };
     let mut words = [u16::from(FILLER); 400];
@@ -35,6 +57,9 @@ fn refuse_packed(packed: &[u8], code: u8, offset: usize) {
     assert_eq!(oftener(packed, &[0], &[0]), Err(error));
     assert_eq!(oftener(packed, &[], &[999]), Err(error), "the book comes before the terms");
     assert_eq!(twin::report(packed), format!("refusal {code} {offset}\n").into_bytes());
+    if ![3, 17, 18].contains(&code) {
+        refuse_old(&old(packed), code, offset);
+    }
 }
 
 fn refuse_words(words: &[u16], code: u8, offset: usize) {
@@ -55,7 +80,7 @@ fn error_1_of_a_packed_book_comes_first() {
 #[test]
 fn error_2_of_a_packed_book_is_at_the_field_that_does_not_fit() {
     refuse_packed(&[], 2, 0);
-    let whole = book(1, &[node(1), node(0), variable(15)].concat());
+    let whole = book(1, &[node(1), node(0), variable(0)].concat());
     // The fields start at 0, 4, 12, 28; 38, 41, 42, 58; 66, 69, 70, 86; 94, 95, 103, 104, 112, 113.
     let cut = [(1, 4), (2, 12), (3, 12), (4, 28), (5, 38), (6, 42), (7, 42), (8, 58), (9, 70), (10, 70), (11, 86)];
     for (len, offset) in cut.into_iter().chain([(12, 95), (13, 104), (14, 112)]) {
@@ -75,8 +100,9 @@ fn error_2_of_a_packed_book_is_at_the_field_that_does_not_fit() {
 
 #[test]
 fn errors_3_to_8_of_a_packed_book_are_at_their_field() {
-    refuse_packed(&[0x20], 3, 0);
-    refuse_packed(&[0x00], 3, 0);
+    for form in [0, 3, 4, 9, 15] {
+        refuse_packed(&[form << 4], 3, 0);
+    }
     refuse_packed(&pack(&header(0, 1, 0)), 4, 4);
     refuse_packed(&pack(&header(1, 0, 0)), 5, 12);
     for arity in [0, 1, 3, 4, 5, 6, 7] {
@@ -98,7 +124,7 @@ fn errors_9_to_11_of_a_packed_book_are_at_their_bit() {
     refuse_packed(&book(1, &[node(1), node(255)].concat()), 9, RULES_AT + 10);
     refuse_packed(&book(1, &[variable(0), node(2)].concat()), 9, RULES_AT + 6);
     refuse_packed(&book(1, &node(1).repeat(128)), 10, RULES_AT + 128 * 9);
-    refuse_packed(&book(1, &[variable(3), node(1).repeat(130)].concat()), 10, RULES_AT + 5 + 128 * 9);
+    refuse_packed(&book(1, &[variable(0), node(1).repeat(130)].concat()), 10, RULES_AT + 5 + 128 * 9);
     refuse_packed(&book(0, &[(0, 2), (0, 8)]), 11, RULES_AT);
     refuse_packed(&book(0, &[(1, 2)]), 11, RULES_AT);
     refuse_packed(&book(0, &[(2, 2)]), 11, RULES_AT);
@@ -111,13 +137,14 @@ fn errors_9_to_11_of_a_packed_book_are_at_their_bit() {
 #[test]
 fn the_first_fault_of_a_packed_book_is_given() {
     // The form before everything, K before w0, AC with its arity before the weight, the weight before the rank.
-    refuse_packed(&pack(&[(2, 4), (0, 8), (0, 16)]), 3, 0);
-    refuse_packed(&pack(&[(1, 4), (0, 8), (0, 16)]), 4, 4);
+    refuse_packed(&pack(&[(3, 4), (0, 8), (0, 16)]), 3, 0);
+    refuse_packed(&pack(&[(1, 4), (0, 8), (0, 16)]), 17, 0);
+    refuse_packed(&pack(&[(2, 4), (0, 8), (0, 16)]), 4, 4);
     refuse_packed(&pack(&[header(2, 3, 0), symbol(1, 1, 0, 0)].concat()), 6, 38);
     refuse_packed(&pack(&[header(2, 3, 0), symbol(0, 0, 3, 5), symbol(0, 0, 2, 5)].concat()), 7, 70);
     refuse_packed(&pack(&[header(2, 3, 0), symbol(0, 0, 3, 5), symbol(0, 0, 3, 5), vec![(1, 1)]].concat()), 8, 86);
     // A fault before a cut, and a cut before a fault that would follow.
-    refuse_packed(&pack(&[(1, 4), (0, 8)]), 4, 4);
+    refuse_packed(&pack(&[(2, 4), (0, 8)]), 4, 4);
     refuse_packed(&book(2, &[node(0), node(9)].concat()), 9, RULES_AT + 10);
     refuse_packed(&book(1, &node(1).repeat(3)), 2, RULES_AT + 28);
 }
@@ -143,7 +170,10 @@ fn errors_of_words_are_at_their_word() {
         words
     };
     refuse_words(&with(0, 0), 3, 0);
+    refuse_words(&with(0, 3), 3, 0);
     refuse_words(&with(0, 15), 3, 0);
+    refuse_words(&with(0, 1), 17, 0);
+    refuse_words(&[1], 17, 0);
     refuse_words(&with(1, 0), 4, 1);
     refuse_words(&with(2, 0), 5, 2);
     refuse_words(&with(5, 1), 6, 4);
@@ -158,7 +188,7 @@ fn errors_of_words_are_at_their_word() {
     refuse_words(&sheet(&[1; 128]), 10, 12 + 128);
     refuse_words(&sheet(&[1; 140]), 10, 12 + 128);
     refuse_words(&sheet(&[[1; 128].as_slice(), &[999]].concat()), 10, 12 + 128);
-    refuse_words(&sheet(&[256, 271, 0]), 15, 14);
+    refuse_words(&sheet(&[256, 257, 0]), 15, 14);
     refuse_words(&[SHEET.as_slice(), &[u16::MAX]].concat(), 15, 12);
 }
 
@@ -166,68 +196,11 @@ fn errors_of_words_are_at_their_word() {
 fn the_first_fault_of_words_is_given() {
     // A word that is too wide goes before what its value would break, also for an AC word after an arity other than 2.
     refuse_words(&[16, 0, 0], 14, 0);
-    refuse_words(&[1, 1, 1, 0, 3, 2], 14, 5);
-    refuse_words(&[1, 1, 1, 0, 3, 1, 0, 999], 6, 4);
-    refuse_words(&[1, 1, 1, 0, 0, 0, 0, 999], 7, 6);
+    refuse_words(&[2, 1, 1, 0, 3, 2], 14, 5);
+    refuse_words(&[2, 1, 1, 0, 3, 1, 0, 999], 6, 4);
+    refuse_words(&[2, 1, 1, 0, 0, 0, 0, 999], 7, 6);
     refuse_words(&sheet(&[1, 5, 999]), 9, 13);
     refuse_words(&[SHEET[..3].to_vec(), vec![0, 0, 0, 1, 7, 1, 0, 1, 7, 5]].concat(), 8, 11);
-}
-
-/// Words that do not begin with a term over the two symbols of `book`, with the error and its offset.
-const BAD_TERMS: [(&[u16], u8, usize); 6] =
-    [(&[], 2, 0), (&[1, 1], 2, 2), (&[272, 9], 14, 0), (&[1, u16::MAX], 14, 1), (&[2], 9, 0), (&[1, 255, 999], 9, 1)];
-/// A term followed by other words, with the error of what must be one term, and its offset.
-const FOLLOWED_TERMS: [(&[u16], u8, usize); 2] = [(&[0, 999], 15, 1), (&[256, 0, 0], 15, 1)];
-
-#[test]
-fn terms_are_checked_left_before_right() {
-    let packed = book(0, &[]);
-    let refuse = |left: &[u16], right: &[u16], code, input, offset| {
-        assert_eq!(compare(&packed, left, right), Err(Error { code, input, offset }), "{left:?} {right:?}");
-        assert_eq!(oftener(&packed, left, right), Err(Error { code, input, offset }), "{left:?} {right:?}");
-    };
-    for (term, code, offset) in BAD_TERMS.into_iter().chain(FOLLOWED_TERMS) {
-        refuse(term, &[0], code, 1, offset);
-        refuse(term, &[999], code, 1, offset);
-        refuse(&[0], term, code, 2, offset);
-    }
-    for longer in [[1; 128].to_vec(), [1; 129].to_vec(), [[1; 128].as_slice(), &[999, 0]].concat()] {
-        refuse(&longer, &[0], 10, 1, 128);
-        refuse(&[0], &longer, 10, 2, 128);
-    }
-    let full = [[1; 127].as_slice(), &[0]].concat();
-    refuse(&[full.as_slice(), &[0]].concat(), &[0], 15, 1, 128);
-    let reply = Comparison { relation: Relation::Greater, margin: 127 };
-    assert_eq!(compare(&packed, &full, &[0]), Ok(reply));
-    // The rules and the padding of the book are read too.
-    let refused = Error { code: 11, input: 0, offset: RULES_AT };
-    assert_eq!(compare(&book(0, &[(1, 2)]), &[], &[]), Err(refused));
-}
-
-#[test]
-fn terms_to_pick_from_are_checked_left_before_right() {
-    let packed = book(0, &[]);
-    for (term, code, offset) in BAD_TERMS {
-        let [left, right] = [1, 2].map(|input| Err(Error { code, input, offset }));
-        assert_eq!(pick(&packed, term, &[0]), left, "{term:?}");
-        assert_eq!(pick(&packed, term, &[999]), left, "{term:?}");
-        assert_eq!(pick(&packed, &[0], term), right, "{term:?}");
-        assert_eq!(pick(&packed, &[0, 999], term), right, "{term:?}");
-    }
-    assert_eq!(pick(&packed, &[0, 999], &[1, 0, 999]), Ok(Pick::Right(2)));
-    assert_eq!(pick(&packed, &[1, 256, 0], &[256, 0, 0]), Ok(Pick::Left(2)));
-}
-
-#[test]
-fn a_term_without_fingerprint_is_refused() {
-    let packed = book(0, &[]);
-    for (term, code, offset) in BAD_TERMS.into_iter().chain(FOLLOWED_TERMS) {
-        assert_eq!(fingerprint(&packed, term), Err(Error { code, input: 1, offset }), "{term:?}");
-    }
-    for after in [&[][..], &[0], &[1], &[999]] {
-        let longer = [[1; 128].as_slice(), after].concat();
-        assert_eq!(fingerprint(&packed, &longer), Err(Error { code: 10, input: 1, offset: 128 }));
-    }
 }
 
 #[test]

@@ -1,0 +1,2 @@
+-- What the code of convert cites.
+mod FitLaws

@@ -1,0 +1,101 @@
+-- What the code that converts has to show.
+--     convert-fault, convert-short, convert-written     the reply and the output afterwards
+--     sheet-short, sheet-front, sheet-packed, sheet-bits     the sheet of the converted file, and its bits
+use mathlib.Core.Path.{_≡_, ap, _∙_}
+use mathlib.Core.List.{List, [], _++_, flatMap}
+use mathlib.Core.Bool.{true}
+use Prim.Native.Nat.{ℕ, _+_, _*_, _≤_, _<_}
+use native.Mathlib.Omega.{arith}
+use native.Mathlib.Nat.{zero-add}
+use borrow.Author.Tests.{lt-leb, le-leb}
+use lib.ListN.{length, take, drop}
+use lib.Seq.{sets, sets-eq, take-append-seam}
+use Rattle.format.specs.Errors.{bytesTooShort}
+use Rattle.format.specs.Layout.{firstForm, maxBytes}
+use Rattle.format.specs.Reading.Reading.{got, fault}
+use Rattle.format.specs.Format.{RuleFile}
+use Rattle.format.specs.Files.{readBytesIn}
+use Rattle.format.specs.Packing.{Item, itemBits, bytesOf, packedIn, packed, unpacked}
+use Rattle.format.specs.Conversion.{convertedFile}
+use Rattle.format.proofs.PackingLaws.{length-bytesOf}
+use Rattle.format.proofs.FileLaws.{bytes-length}
+use Rattle.format.proofs.ConversionLaws.{converted-length}
+use Rattle.operations.specs.Replies.Reply.{accepted, refused}
+use Rattle.operations.specs.Converting.{converted}
+use Rattle.symbols.specs.Table.{entryWords}
+use Rattle.symbols.proofs.EntryLaws.{entry-lt}
+use Rattle.reader.specs.File.{FileParts}
+use Rattle.decoder.proofs.DecodeLaws.{symbol-count, word-count, nodes-few}
+use Rattle.encoder.specs.Items.{bitsTo}
+use Rattle.encoder.proofs.ItemsLaws.{file-items}
+
+-- ---- the reply and the output afterwards
+
+module _ (bytes output : List ℕ) where
+  pub convert-fault : (code offset : ℕ) → readBytesIn firstForm bytes ≡ fault code offset →
+      (refused (record { code = code; input = 0; offset = offset }) ≡ converted bytes output .reply)
+      × (output ≡ converted bytes output .output)
+  unfolding converted
+  convert-fault code offset e = (rw e, rw e)
+
+  module _ (file : RuleFile) (end : ℕ) (e : readBytesIn firstForm bytes ≡ got file end) where
+    pub convert-short : length output < length bytes →
+        (refused (record { code = bytesTooShort; input = 1; offset = 0 }) ≡ converted bytes output .reply)
+        × (output ≡ converted bytes output .output)
+    unfolding converted
+    convert-short h = let no = lt-leb (length bytes) (length output) h in (rw (e, no), rw (e, no))
+
+    -- The converted file is as long as the book.
+    pub as-long : length (packed (convertedFile file)) ≡ length bytes
+    as-long = converted-length file ∙ bytes-length firstForm bytes file end e
+
+    pub convert-written : length bytes ≤ length output →
+        (accepted (length bytes) ≡ converted bytes output .reply)
+        × (sets output 0 (packed (convertedFile file)) ≡ converted bytes output .output)
+    unfolding converted
+    convert-written h =
+        let new = packed (convertedFile file) in
+        let fits = le-leb (length bytes) (length output) h in
+        let front : sets output 0 new ≡ new ++ drop (length new) output =
+        sets-eq new output 0 (omega (arith, as-long)) ∙ ap (λ (n : ℕ). new ++ drop n output) (zero-add (length new)) in
+        (rw (e, fits), rw (e, fits) front)
+
+-- ---- the sheet of the converted file
+
+module _ (bytes table before after : List ℕ) (file : RuleFile) (symbols rules nodes offset : ℕ)
+    (parts : FileParts firstForm true bytes [] table before after file symbols rules nodes offset)
+    (room : length bytes ≤ maxBytes → 8 * length bytes ≤ 5 * length before) where
+  abbrev total : ℕ
+  total = 4 + entryWords symbols + nodes
+
+  count : total ≡ length (unpacked (convertedFile file))
+  count = word-count firstForm bytes table before after file symbols rules nodes offset parts
+
+  pub sheet-short : total ≤ 1024 + length before
+  sheet-short =
+      omega (
+        arith,
+        nodes-few firstForm bytes table before after file symbols rules nodes offset parts room,
+        entry-lt symbols (parts .head .fewSymbols),
+      )
+
+  module _ (sheet stored : List ℕ) (long : 1024 + length before ≤ length sheet)
+      (put : stored ≡ sets sheet 0 (unpacked (convertedFile file))) where
+    pub sheet-front : take total stored ≡ unpacked (convertedFile file)
+    sheet-front =
+        let words = unpacked (convertedFile file) in
+        rw (put, count, sets-eq words sheet 0 (omega (arith, count, sheet-short)))
+        (take-append-seam words (drop (0 + length words) sheet))
+
+    abbrev bits : List ℕ
+    bits = bitsTo (take total stored) (4 + entryWords symbols) (length (take total stored))
+
+    pub sheet-packed : bytesOf bits ≡ packed (convertedFile file)
+    unfolding packedIn
+    sheet-packed =
+        let k = symbol-count firstForm bytes table before after file symbols rules nodes offset parts in
+        rw (sheet-front, k) (ap (λ (is : List Item). bytesOf (flatMap itemBits is)) (file-items (convertedFile file)))
+
+    pub sheet-bits : (end : ℕ) → readBytesIn firstForm bytes ≡ got file end → length bits ≤ 8 * length bytes
+    sheet-bits end e =
+        omega (arith, as-long bytes [] file end e, ap length sheet-packed, length-bytesOf bits)

@@ -1,0 +1,2 @@
+-- Laws of converting.
+mod ConvertLaws

@@ -1,0 +1,273 @@
+-- A file of form 1 as one of form 2: the converted file of a readable one is readable, and as long.
+--     converted-words                      a rule's node words are renumbered by first use
+--     seen-few, renumbered-fit             the new numbers are such as a variable may have
+--     converted-readable                   the converted file is readable
+--     converted-bits, converted-length     it has as many bits, and as many bytes
+--     readable-before, converted-same      a file of form 2 is readable in form 1, and unchanged
+use mathlib.Core.Path.{_≡_, refl, sym, ap, ap₂, _∙_}
+use mathlib.Core.List.{List, [], _∷_, _++_, map, map-append, flatMap, List·Memᴰ, List·Memᴰ·head, List·Memᴰ·tail}
+use mathlib.Core.Bool.{true, false, not}
+use Prim.Native.Nat.{ℕ, suc, zero, _+_, _/_, _≤_, _<_}
+use native.Mathlib.Omega.{arith}
+use lib.ListN.{length, take, drop, length-append, length-map}
+use lib.Seq.{take-at, drop-at}
+use lib.Dec.{eqb, lit<}
+use borrow.Author.Tests.{eqb-true, eqb-false, ne-eqb, le-ltb, le-leb}
+use Rattle.multisets.specs.Multiset.{some}
+use Rattle.multisets.proofs.Relations.{byTest}
+use Rattle.multisets.proofs.MultisetLaws.{bit}
+use Rattle.multisets.proofs.MultisetMaps.{flatMap-append}
+use Rattle.terms.specs.Signature.{Signature}
+use Rattle.terms.specs.Term.{variableCount}
+use Rattle.terms.specs.Words.{firstVariable}
+use Rattle.terms.specs.FirstUse.{see, seeAll, firstUses, placeIn, renameWord, renumbered, inOrderFrom, inOrder}
+use Rattle.terms.proofs.FirstUseLaws.{bySight, byWord, renameWord-symbol, renameWord-variable, see-symbol, see-known}
+use Rattle.terms.proofs.FirstUseLaws.{see-new, has-last, place-lt, seen-word, renumbered-inOrder, inOrder-renumbered}
+use Rattle.format.specs.Layout.{formNumber, firstForm, tagWidth, variableWidth}
+use Rattle.format.specs.Format.{Sides, RuleFile, allUsed}
+use Rattle.format.specs.Packing.{Item, symbolItems, ruleItems, itemsIn, itemBits, packedIn, packed}
+use Rattle.format.specs.Packing.Item.{node}
+use Rattle.format.specs.Conversion.{convertedSides, convertedFile}
+use Rattle.format.proofs.ForestLaws.{known, argumentCount}
+use Rattle.format.proofs.SpellingLaws.{AllFit, all-fit-append, all-fit-split}
+use Rattle.format.proofs.FormatLaws.{Forest, RulesOk}
+use Rattle.format.proofs.FormatLaws.Forest.{noTerm, termNode}
+use Rattle.format.proofs.PackingLaws.{length-bytesOf}
+use Rattle.format.proofs.FileLaws.{Readable, fileBitsIn}
+use Rattle.format.proofs.TermReading.{fit-in-order}
+
+pub converted-words : (r : Sides) → convertedSides r .left ++ convertedSides r .right ≡ renumbered (r .left ++ r .right)
+converted-words r = sym (map-append _ (r .left) (r .right))
+
+-- ---- the new numbers
+
+-- How many numbers below n are not in the list.
+abbrev unseen : ℕ → List ℕ → ℕ
+unseen zero l = 0
+unseen (suc n) l = bit (not (some (eqb n) l)) + unseen n l
+
+unseen-none : (n : ℕ) → unseen n [] ≡ n
+unseen-none zero = refl
+unseen-none (suc n) = omega (arith, unseen-none n)
+
+some-last : (l : List ℕ) (x y : ℕ) → eqb y x ≡ false → some (eqb y) (l ++ (x ∷ [])) ≡ some (eqb y) l
+some-last [] x y e = rw e
+some-last (z ∷ l) x y e = byTest (eqb y z) (λ h. rw h) λ h. rw h (some-last l x y e)
+
+unseen-above : (n : ℕ) (l : List ℕ) (x : ℕ) → n ≤ x → unseen n (l ++ (x ∷ [])) ≡ unseen n l
+unseen-above zero l x h = refl
+unseen-above (suc n) l x h =
+    rw (some-last l x n (ne-eqb n x λ e. omega arith), unseen-above n l x (omega arith))
+
+-- A new number below n was one of them.
+unseen-new : (n : ℕ) (l : List ℕ) (x : ℕ) → x < n → some (eqb x) l ≡ false →
+    suc (unseen n (l ++ (x ∷ []))) ≡ unseen n l
+unseen-new zero l x h e = absurd (omega arith)
+unseen-new (suc n) l x h e =
+    byTest (eqb n x)
+    (λ q. let p = eqb-true n x q in rw p (rw (has-last l x, e, unseen-above x l x (omega arith)) (omega arith)))
+    λ q. rw (some-last l x n q) (omega (arith, unseen-new n l x (omega (arith, eqb-false n x q)) e))
+
+seen-few : (ws seen : List ℕ) → AllFit (map node ws) → length seen + unseen variableCount seen ≡ variableCount →
+    length (seeAll seen ws) ≤ variableCount
+unfolding seeAll
+seen-few [] seen fits h = omega arith
+seen-few (w ∷ ws) seen (f, fits) h =
+    seen-few ws (see seen w) fits
+    (bySight seen w (λ l. rw (see-symbol seen w l) h) (λ x e k. rw (e, see-known seen x k) h)
+    λ x e k. let new = unseen-new variableCount seen x (omega arith) k in
+    rw (e, see-new seen x k) (omega (arith, length-append seen (x ∷ []))))
+
+renamed-fit : (ρ : ℕ → ℕ) (ws : List ℕ) →
+    ((x : ℕ) → List·Memᴰ (firstVariable + x) ws → ρ x < variableCount) → AllFit (map node (map (renameWord ρ) ws))
+renamed-fit ρ [] h = tt
+renamed-fit ρ (w ∷ ws) h = (
+  byWord w (λ l. rw (renameWord-symbol ρ w l) (omega arith))
+      λ x e. rw (e, renameWord-variable ρ x) (omega (arith, h x (List·Memᴰ·head (sym e)))),
+  renamed-fit ρ ws λ x m. h x (List·Memᴰ·tail m),
+)
+
+pub renumbered-fit : (ws : List ℕ) → AllFit (map node ws) → AllFit (map node (renumbered ws))
+renumbered-fit ws fits =
+    renamed-fit (placeIn (firstUses ws)) ws λ x m.
+    omega (
+      arith,
+      place-lt (firstUses ws) x (seen-word ws [] x m),
+      seen-few ws [] fits (ap (_+_ 0) (unseen-none variableCount)),
+    )
+
+-- ---- a renamed word
+
+-- What does not tell variables apart is the same of a renamed word.
+kept : {A : Type 0} (f : ℕ → A) (a : A) → ((x : ℕ) → f (firstVariable + x) ≡ a) → (ρ : ℕ → ℕ) (w : ℕ) →
+    f (renameWord ρ w) ≡ f w
+kept f a h ρ w =
+    byWord w (λ l. ap f (renameWord-symbol ρ w l))
+    λ x e. rw e (ap f (renameWord-variable ρ x) ∙ h (ρ x) ∙ sym (h x))
+
+node-length : (ρ : ℕ → ℕ) (w : ℕ) → length (itemBits (node (renameWord ρ w))) ≡ length (itemBits (node w))
+node-length =
+    kept (λ (w : ℕ). length (itemBits (node w))) (tagWidth + variableWidth)
+    λ x. rw (le-ltb (firstVariable + x) firstVariable (omega arith))
+
+module _ (σ : Signature) where
+  known-rename : (ρ : ℕ → ℕ) (w : ℕ) → known σ (renameWord ρ w) ≡ known σ w
+  known-rename = kept (known σ) true λ x. rw (le-leb firstVariable (firstVariable + x) (omega arith))
+
+  arguments-rename : (ρ : ℕ → ℕ) (w : ℕ) → argumentCount σ (renameWord ρ w) ≡ argumentCount σ w
+  arguments-rename = kept (argumentCount σ) 0 λ x. rw (le-leb firstVariable (firstVariable + x) (omega arith))
+
+  forest-rename : (ρ : ℕ → ℕ) {a n : ℕ} {ws : List ℕ} → Forest σ a n ws → Forest σ a n (map (renameWord ρ) ws)
+  forest-rename ρ noTerm = noTerm
+  forest-rename ρ (termNode {a} {n} {w} {ws} k f) =
+      let rest : Forest σ a (argumentCount σ (renameWord ρ w) + n) (map (renameWord ρ) ws) =
+      rw (arguments-rename ρ w) (forest-rename ρ f) in
+      termNode (known-rename ρ w ∙ k) rest
+
+-- ---- the file
+
+pub rule-items : (r : Sides) → ruleItems r ≡ map node (r .left ++ r .right)
+rule-items r = sym (map-append node (r .left) (r .right))
+
+sides-fit : (r : Sides) → AllFit (ruleItems r) → AllFit (ruleItems (convertedSides r))
+sides-fit r fits =
+    rw (rule-items (convertedSides r), converted-words r)
+    (renumbered-fit (r .left ++ r .right) (rw (rule-items r) at fits))
+
+converted-rules : (unused : ℕ) (σ : Signature) (rs : List Sides) → RulesOk unused σ rs → AllFit (flatMap ruleItems rs) →
+    RulesOk 0 σ (map convertedSides rs) × AllFit (flatMap ruleItems (map convertedSides rs))
+unfolding flatMap
+converted-rules unused σ [] ok fits = (tt, tt)
+converted-rules unused σ (r ∷ rs) (f, g, o, ok) fits =
+    let ρ = placeIn (firstUses (r .left ++ r .right)) in
+    let (here, later) = all-fit-split (ruleItems r) (flatMap ruleItems rs) fits in
+    let (oks, rest) = converted-rules unused σ rs ok later in
+    let inTurn : inOrderFrom 0 (convertedSides r .left ++ convertedSides r .right) ≡ true =
+    rw (converted-words r) (renumbered-inOrder (r .left ++ r .right)) in (
+      (forest-rename σ ρ f, forest-rename σ ρ g, inTurn, oks),
+      all-fit-append (ruleItems (convertedSides r)) (flatMap ruleItems (map convertedSides rs)) (sides-fit r here) rest,
+    )
+
+pub converted-readable : (f : RuleFile) → Readable firstForm f → Readable formNumber (convertedFile f)
+unfolding itemsIn
+converted-readable f r =
+    let σ = f .signature in
+    let (count, (w0, (rules, rest))) = r .fits .1 in
+    let (symbols, nodes) = all-fit-split (flatMap symbolItems (σ .symbols)) (flatMap ruleItems (f .rules)) rest in
+    let (ok, fits) = converted-rules allUsed σ (f .rules) (r .ok .rulesOk) nodes in
+    let all = all-fit-append (flatMap symbolItems (σ .symbols)) _ symbols fits in
+    record {
+      ok = record {
+        someSymbol = r .ok .someSymbol;
+        variableWeighs = r .ok .variableWeighs;
+        symbolsOk = r .ok .symbolsOk;
+        rulesOk = ok;
+      };
+      fits = (lit< tt, (count, (w0, (rw (length-map (f .rules) convertedSides) rules, all))));
+    }
+
+-- ---- its length
+
+nodes-length : (ρ : ℕ → ℕ) (ws : List ℕ) →
+    length (flatMap itemBits (map node (map (renameWord ρ) ws))) ≡ length (flatMap itemBits (map node ws))
+unfolding flatMap
+nodes-length ρ [] = refl
+nodes-length ρ (w ∷ ws) =
+    omega (
+      arith,
+      length-append (itemBits (node (renameWord ρ w))) (flatMap itemBits (map node (map (renameWord ρ) ws))),
+      length-append (itemBits (node w)) (flatMap itemBits (map node ws)),
+      node-length ρ w,
+      nodes-length ρ ws,
+    )
+
+-- The bits of one list of items and of another after it.
+items-length : (is js : List Item) →
+    length (flatMap itemBits (is ++ js)) ≡ length (flatMap itemBits is) + length (flatMap itemBits js)
+items-length is js =
+    ap length (flatMap-append itemBits is js) ∙ length-append (flatMap itemBits is) (flatMap itemBits js)
+
+sides-length : (r : Sides) →
+    length (flatMap itemBits (ruleItems (convertedSides r))) ≡ length (flatMap itemBits (ruleItems r))
+sides-length r =
+    rw (rule-items (convertedSides r), converted-words r, rule-items r)
+    (nodes-length (placeIn (firstUses (r .left ++ r .right))) (r .left ++ r .right))
+
+rules-length : (rs : List Sides) →
+    length (flatMap itemBits (flatMap ruleItems (map convertedSides rs))) ≡
+    length (flatMap itemBits (flatMap ruleItems rs))
+unfolding flatMap
+rules-length [] = refl
+rules-length (r ∷ rs) =
+    omega (
+      arith,
+      items-length (ruleItems (convertedSides r)) (flatMap ruleItems (map convertedSides rs)),
+      items-length (ruleItems r) (flatMap ruleItems rs),
+      sides-length r,
+      rules-length rs,
+    )
+
+pub converted-bits : (f : RuleFile) →
+    length (fileBitsIn formNumber (convertedFile f)) ≡ length (fileBitsIn firstForm f)
+unfolding itemsIn flatMap
+converted-bits f =
+    let symbols = flatMap symbolItems (f .signature .symbols) in
+    omega (
+      arith,
+      items-length symbols (flatMap ruleItems (map convertedSides (f .rules))),
+      items-length symbols (flatMap ruleItems (f .rules)),
+      rules-length (f .rules),
+    )
+
+pub converted-length : (f : RuleFile) → length (packed (convertedFile f)) ≡ length (packedIn firstForm f)
+unfolding packedIn
+converted-length f =
+    length-bytesOf (fileBitsIn formNumber (convertedFile f))
+    ∙ ap (λ (n : ℕ). (n + 7) / 8) (converted-bits f)
+    ∙ sym (length-bytesOf (fileBitsIn firstForm f))
+
+-- ---- a file of form 2
+
+-- Its variables are also in an order that form 1 allows.
+rules-in-any-order : (σ : Signature) (rs : List Sides) → RulesOk 0 σ rs → AllFit (flatMap ruleItems rs) →
+    RulesOk allUsed σ rs
+unfolding flatMap
+rules-in-any-order σ [] ok fits = tt
+rules-in-any-order σ (r ∷ rs) (f, g, o, ok) fits =
+    let (here, later) = all-fit-split (ruleItems r) (flatMap ruleItems rs) fits in
+    (f, g, fit-in-order (r .left ++ r .right) (rw (rule-items r) at here), rules-in-any-order σ rs ok later)
+
+pub readable-before : (f : RuleFile) → Readable formNumber f → Readable firstForm f
+unfolding itemsIn
+readable-before f r =
+    let symbols = flatMap symbolItems (f .signature .symbols) in
+    let nodes = all-fit-split symbols (flatMap ruleItems (f .rules)) (r .fits .1 .1 .1 .1) .1 in
+    record {
+      ok = record {
+        someSymbol = r .ok .someSymbol;
+        variableWeighs = r .ok .variableWeighs;
+        symbolsOk = r .ok .symbolsOk;
+        rulesOk = rules-in-any-order (f .signature) (f .rules) (r .ok .rulesOk) nodes;
+      };
+      fits = (lit< tt, r .fits .1);
+    }
+
+sides-same : (r : Sides) → inOrder (r .left ++ r .right) ≡ true → convertedSides r ≡ r
+sides-same r o =
+    let word = renameWord (placeIn (firstUses (r .left ++ r .right))) in
+    let same = converted-words r ∙ inOrder-renumbered (r .left ++ r .right) o in
+    let n = length-map (r .left) word in
+    ap₂ (λ (a b : List ℕ). record { left = a; right = b })
+    (sym (take-at (map word (r .left)) (map word (r .right)) (length (r .left)) n)
+    ∙ ap (take (length (r .left))) same ∙ take-at (r .left) (r .right) (length (r .left)) refl)
+    (sym (drop-at (map word (r .left)) (map word (r .right)) (length (r .left)) n)
+    ∙ ap (drop (length (r .left))) same ∙ drop-at (r .left) (r .right) (length (r .left)) refl)
+
+rules-same : (σ : Signature) (rs : List Sides) → RulesOk 0 σ rs → map convertedSides rs ≡ rs
+rules-same σ [] ok = refl
+rules-same σ (r ∷ rs) (f, g, o, ok) = ap₂ _∷_ (sides-same r o) (rules-same σ rs ok)
+
+pub converted-same : (f : RuleFile) → Readable formNumber f → convertedFile f ≡ f
+converted-same f r =
+    ap (λ (rs : List Sides). record { signature = f .signature; rules = rs })
+    (rules-same (f .signature) (f .rules) (r .ok .rulesOk))

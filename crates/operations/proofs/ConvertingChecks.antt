@@ -1,0 +1,81 @@
+-- What converting gives back for a file of form 1 whose variables are out of turn, and for the listing in form 1; and
+-- errors that it can give, with their inputs and offsets, the output unchanged.
+use mathlib.Core.Path.{_≡_, refl}
+use mathlib.Core.List.{List, [], _∷_, _++_, map, flatMap}
+use Prim.Native.Nat.{ℕ}
+use lib.ListN.{take, drop, replicate}
+use Rattle.terms.specs.FirstUse.{see, seeAll, placeIn, renameWord}
+use Rattle.format.specs.Errors.{fileTooLong, fieldMissing, wrongForm, noSuchSymbol, badPadding, bytesTooShort}
+use Rattle.format.specs.Reading.{bitField}
+use Rattle.format.specs.Format.{symbolReader, symbolsReader, forestReader, ruleReader, rulesReader, bodyReader}
+use Rattle.format.specs.Format.{fileReader}
+use Rattle.format.specs.Files.{wholeReader, readBytesIn}
+use Rattle.format.specs.Packing.{itemsIn, packedIn}
+use Rattle.format.specs.Listing.{listing}
+use Rattle.operations.specs.Replies.{Outcome}
+use Rattle.operations.specs.Replies.Reply.{accepted, refused}
+use Rattle.operations.specs.Converting.{converted}
+
+-- A binary AC symbol s, the rules s(v5, v3) -> s(v3, v5) and v7 -> s(v2, v7).
+abbrev outOfTurn : List ℕ
+outOfTurn =
+    0x10 ∷ 0x10 ∷ 0x00 ∷ 0x10 ∷ 0x09 ∷ 0x40 ∷ 0x00 ∷ 0x40 ∷ 0x00 ∷ 0x15 ∷ 0x98 ∷ 0x02 ∷ 0x75 ∷ 0xb8 ∷ 0x02 ∷ 0x57 ∷ []
+
+-- The same with s(v0, v1) -> s(v1, v0) and v0 -> s(v1, v0).
+abbrev inTurn : List ℕ
+inTurn =
+    0x20 ∷ 0x10 ∷ 0x00 ∷ 0x10 ∷ 0x09 ∷ 0x40 ∷ 0x00 ∷ 0x40 ∷ 0x00 ∷ 0x10 ∷ 0x88 ∷ 0x02 ∷ 0x30 ∷ 0x80 ∷ 0x02 ∷ 0x30 ∷ []
+
+-- The listing, of form 1.
+abbrev oldListing : List ℕ
+oldListing = 0x10 ∷ drop 1 listing
+
+converts : converted outOfTurn (replicate 18 7) ≡ record { reply = accepted 16; output = inTurn ++ (7 ∷ 7 ∷ []) }
+unfolding converted readBytesIn wholeReader fileReader bodyReader symbolsReader symbolReader rulesReader ruleReader
+    forestReader bitField seeAll see placeIn renameWord packedIn itemsIn flatMap
+converts = refl
+
+listing-converts : converted oldListing (replicate 17 7) ≡ record { reply = accepted 17; output = listing }
+unfolding converted readBytesIn wholeReader fileReader bodyReader symbolsReader symbolReader rulesReader ruleReader
+    forestReader bitField seeAll see placeIn renameWord packedIn itemsIn flatMap
+listing-converts = refl
+
+-- What is read, and the error's code, input and offset.
+record ErrorCase : Type 0 where
+  read : List ℕ
+  code : ℕ
+  input : ℕ
+  offset : ℕ
+
+abbrev gives : List ℕ → ℕ → ℕ → ErrorCase
+gives read code offset = record { read = read; code = code; input = 0; offset = offset }
+
+-- 16 elements are lent for writing, too few for the listing: every error of reading goes first.
+abbrev lent : List ℕ
+lent = replicate 16 7
+
+abbrev cases : List ErrorCase
+cases =
+    gives (replicate 32769 0) fileTooLong 0 ∷
+    gives [] fieldMissing 0 ∷
+    gives (0x10 ∷ []) fieldMissing 4 ∷
+    gives listing wrongForm 0 ∷
+    gives (0x00 ∷ []) wrongForm 0 ∷
+    gives (0x30 ∷ []) wrongForm 0 ∷
+    gives (take 16 oldListing) fieldMissing 122 ∷
+    gives (take 16 oldListing ++ (0x80 ∷ [])) noSuchSymbol 122 ∷
+    gives (take 16 oldListing ++ (0x01 ∷ [])) badPadding 130 ∷
+    gives (oldListing ++ (0x00 ∷ [])) badPadding 130 ∷
+    record { read = oldListing; code = bytesTooShort; input = 1; offset = 0 } ∷
+    []
+
+abbrev refusal : ErrorCase → Outcome ℕ
+refusal c = record {
+  reply = refused (record { code = c .code; input = c .input; offset = c .offset });
+  output = lent;
+}
+
+errors : map (λ (c : ErrorCase). converted (c .read) lent) cases ≡ map refusal cases
+unfolding converted readBytesIn wholeReader fileReader bodyReader symbolsReader symbolReader rulesReader ruleReader
+    forestReader bitField
+errors = refl

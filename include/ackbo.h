@@ -1,11 +1,11 @@
-/* The eight operations of libackbo.a, for C. Each is proved, for every input, to reply and to leave the lent memory as
+/* The nine operations of libackbo.a, for C. Each is proved, for every input, to reply and to leave the lent memory as
    its definition says (crates/operations/specs: Boundary, over Coding, Converting, Comparing, Picking, Variables,
-   Hashing and Marking).
+   Hashing, Marking and Paging).
 
    The caller owes this, and nothing else: each pointer is valid for its length, aligned, and not NULL even where the
    length is 0; reply has room for three numbers; what is written to overlaps nothing else that is lent.
 
-   The result is 0, or the number of the refusal, 1 to 18. Of a refusal reply holds the input at fault (0 the first),
+   The result is 0, or the number of the refusal, 1 to 19. Of a refusal reply holds the input at fault (0 the first),
    the place (a bit of a book, a word of a sheet or a term, from 0), and 0. A refused call changes no other buffer. The
    first fault in reading order is given, one input after another.
 
@@ -24,7 +24,7 @@
    nothing for the next one.
 
    Stack, as measured: ackbo_decode 110 KB for every book, ackbo_encode 5 KB, ackbo_fingerprint 7 KB, ackbo_oftener
-   15 KB, ackbo_compare, ackbo_pick and ackbo_mark up to 72 KB, where AC symbols nest 63 deep. */
+   15 KB, ackbo_compare, ackbo_pick and ackbo_mark up to 72 KB, and ackbo_page 80 KB, where AC symbols nest 63 deep. */
 #ifndef ACKBO_H
 #define ACKBO_H
 
@@ -43,6 +43,9 @@ enum { ACKBO_LEFT = 1, ACKBO_RIGHT = 2 };
 
 /* What ackbo_oftener replies where no variable occurs oftener on the right: the count of variables. */
 enum { ACKBO_NONE_OFTENER = 16 };
+
+/* The bytes of a line that ackbo_page writes. */
+enum { ACKBO_LINE_BYTES = 65 };
 
 /* Opens a book to a sheet: writes its words at the front of words. reply: how many, 0, 0. */
 uint8_t ackbo_decode(const uint8_t *book, size_t book_len, uint16_t *words, size_t words_len, int64_t reply[3]);
@@ -86,6 +89,14 @@ uint8_t ackbo_oftener(const uint8_t *book, size_t book_len, const uint16_t *left
 
 /* Marks the rules of a book: writes a mark, 1 to 10, for each. reply: the rules, those that fall, the score. */
 uint8_t ackbo_mark(const uint8_t *book, size_t book_len, uint8_t *marks, size_t marks_len, int64_t reply[3]);
+
+/* Puts the marks and margins of a book's rules on a page: writes a line of ACKBO_LINE_BYTES for each at its front.
+   reply: the count of bytes written, 65 times the count of rules, 0, 0. A line has 64 characters and byte 10: columns 1
+   to 4 hold the number of the rule, from 0, and 47 to 58 the margin, both right-set; 6 to 45 hold words for the mark,
+   left-set; the rest are spaces. Books whose marks or margins differ never have the same page. Refused are the book
+   and, with 19, a page (input 1) shorter than 65 times the count of rules. A call costs what ackbo_mark costs, and the
+   writing. */
+uint8_t ackbo_page(const uint8_t *book, size_t book_len, uint8_t *page, size_t page_len, int64_t reply[3]);
 
 #ifdef __cplusplus
 }

@@ -1,5 +1,6 @@
 //! Safe functions over `libackbo.a`: opening, closing and marking of rule books, comparing of terms under them, picking
-//! the greater one, fingerprints of terms, the variable test, and converting stored books of form 1.
+//! the greater one, fingerprints of terms, the variable test, converting stored books of form 1, and pages of marks for
+//! a notice board.
 //!
 //! Every reply, and every buffer afterwards, is proved to equal a definition, for every input: see the
 //! repository's `README.md`. A refused call leaves its buffers as they were.
@@ -58,6 +59,8 @@ pub mod sys {
             marks_len: usize,
             reply: *mut [i64; 3],
         ) -> u8;
+        pub fn ackbo_page(book: *const u8, book_len: usize, page: *mut u8, page_len: usize, reply: *mut [i64; 3])
+            -> u8;
         pub fn ackbo_pick(
             book: *const u8,
             book_len: usize,
@@ -96,7 +99,10 @@ pub mod sys {
 /// The count of variables, which is the number that `ackbo_oftener` replies for none.
 const VARIABLES: i64 = 16;
 
-/// A refusal: its number, 1 to 18, the input at fault, 0 the first, and the place in it: a bit of a book, a word of a
+/// The bytes of a line of a page: 64 characters and byte 10.
+pub const LINE_BYTES: usize = 65;
+
+/// A refusal: its number, 1 to 19, the input at fault, 0 the first, and the place in it: a bit of a book, a word of a
 /// sheet or of a term.
 #[derive(Clone, Copy, Debug, PartialEq, Eq, Hash)]
 pub struct Error {
@@ -190,6 +196,39 @@ pub fn mark(book: &[u8], marks: &mut [u8]) -> Result<Marked, Error> {
     call(|reply| unsafe { sys::ackbo_mark(book.as_ptr(), book.len(), marks.as_mut_ptr(), marks.len(), reply) }).map(
         |[rules, falling, score]| Marked { rules: rules as usize, falling: falling as usize, score: score as usize },
     )
+}
+
+/// Puts the marks and margins of a book's rules on a page: writes a line of [`LINE_BYTES`] bytes for each rule at the
+/// front of `page`, and gives the count of bytes written. Later bytes are as they were.
+///
+/// A line has 64 characters and byte 10. Columns 1 to 4 hold the number of the rule, from 0, and 47 to 58 the margin,
+/// both right-set; 6 to 45 hold words for the mark, left-set; the rest are spaces. Books whose marks or margins differ
+/// never have the same page.
+///
+/// # Errors
+/// The first that holds: of the book, input 0, refusals 1 to 11, 17 and 18; then 19, of input 1 at 0, where the page is
+/// shorter than 65 times the count of rules.
+///
+/// # Cost
+/// That of [`mark`], and of writing the lines.
+///
+/// ```
+/// // Two constants of weight 1 with ranks 1 and 0; the rules 0 -> 1 and 1 -> 0.
+/// let sheet = [2, 2, 1, 2, 0, 0, 1, 1, 0, 0, 1, 0, 0, 1, 1, 0];
+/// let mut book = [0; 17];
+/// assert_eq!(ackbo::encode(&sheet, &mut book), Ok(17));
+///
+/// let mut page = [0; 2 * ackbo::LINE_BYTES];
+/// assert_eq!(ackbo::page(&book, &mut page), Ok(130));
+/// assert_eq!(page[..65], *b"   0 falls by rank                                       0      \n");
+/// assert_eq!(page[65..], *b"   1 no case                                             0      \n");
+///
+/// let error = ackbo::page(&book, &mut page[..129]).unwrap_err();
+/// assert_eq!((error.code, error.input, error.offset), (19, 1, 0));
+/// ```
+pub fn page(book: &[u8], page: &mut [u8]) -> Result<usize, Error> {
+    call(|reply| unsafe { sys::ackbo_page(book.as_ptr(), book.len(), page.as_mut_ptr(), page.len(), reply) })
+        .map(|[count, _, _]| count as usize)
 }
 
 /// Picks the greater of two terms under a book. Each term stands at the front of its words, in prefix order; what

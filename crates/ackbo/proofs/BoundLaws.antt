@@ -3,6 +3,7 @@
 --                                                      error's offset
 --     oftener-small                                    of a variable's number, and of an error's offset
 --     fingerprinted-small                              of a fingerprint, and of an error's offset
+--     paged-small                                      of the bytes of a page, and of an error's offset
 --     marked-small                                     of the counts and the score, and of an error's offset
 use mathlib.Core.List.{List}
 use mathlib.Core.Path.{_≡_, refl, sym, _∙_}
@@ -21,7 +22,7 @@ use Rattle.terms.specs.Fingerprint.{fingerprint}
 use Rattle.terms.specs.Oftener.{firstOftener}
 use Rattle.terms.proofs.OftenerLaws.{firstOftener-le}
 use Rattle.terms.proofs.Theorems.{fingerprint-fits}
-use Rattle.format.specs.Errors.{wordsTooShort, bytesTooShort, fileTooLong, marksTooShort}
+use Rattle.format.specs.Errors.{wordsTooShort, bytesTooShort, fileTooLong, marksTooShort, pageTooShort}
 use Rattle.format.specs.Layout.{firstForm, formNumber, maxBytes}
 use Rattle.format.specs.Reading.{Reading}
 use Rattle.format.specs.Reading.Reading.{got, fault}
@@ -48,6 +49,8 @@ use Rattle.operations.proofs.PickingLaws.{SideWithin, picked-accepted, picked-w
 use Rattle.operations.specs.declared.GreaterSide.{GreaterSide}
 use Rattle.operations.specs.declared.GreaterSide.the-variants.{Left, Right, Equivalent, Unrelated}
 use Rattle.operations.specs.Marking.{summaryOf, marksOf, isDecreasing, decreasingCount, marked}
+use Rattle.operations.specs.Page.{page}
+use Rattle.operations.specs.Paging.{entriesOf, lineBytes, paged}
 
 abbrev nought : {A : Type 0} → A → ℕ
 nought a = 0
@@ -188,6 +191,20 @@ fingerprinted-small bytes words h =
       fingerprint-fits σ (omega (arith, few)) (termOf σ t)
           (read-term-well-formed σ words t n .1 r .2 .wellFormed),
     )
+
+pub paged-small : (bytes output : List ℕ) → Small (length output) → Small (numberOf countOf (paged bytes output .reply))
+unfolding paged
+paged-small bytes output h =
+    let last : RuleFile → Reply (Written ℕ) = λ file. accepted (record {
+      value = lineBytes * length (file .rules);
+      front = page (entriesOf (systemOf file));
+    }) in
+    let k : RuleFile → Reply (Written ℕ) =
+    λ file. _>>_ (demand (leb (lineBytes * length (file .rules)) (length output)) pageTooShort 1) (last file) in
+    outcome-small countOf (_>>=_ (fromInput 0 (readBytes bytes)) k) output
+    (read-small count 0 (readBytes bytes) k (book-small formNumber bytes)
+    λ file end e. demand-small count (leb (lineBytes * length (file .rules)) (length output)) pageTooShort 1 (last file)
+    λ t. omega (arith, leb-true (lineBytes * length (file .rules)) (length output) t))
 
 -- A number of the summary is small if it is for every file of at most 1,023 rules.
 pub marked-small : (bytes marks : List ℕ) (m : Summary → ℕ) →

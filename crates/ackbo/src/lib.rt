@@ -13,6 +13,7 @@ ghost use Rattle.operations.specs.Hashing.{fingerprinted};
 ghost use Rattle.operations.specs.Enums.{numberReply};
 ghost use Rattle.ackbo.specs.Numbers.{Small, numberOf, countOf, wordsOf};
 ghost use Rattle.operations.specs.Marking.{marked};
+ghost use Rattle.operations.specs.Paging.{paged};
 ghost use Rattle.operations.specs.Boundary.{codeOf, valuesOf};
 ghost use Rattle.operations.specs.Boundary.{numberValues, relationValue, comparisonValues, sideValues, summaryValues};
 use operations::CompareReply;
@@ -218,4 +219,16 @@ pub extern "C" fn ackbo_mark(book: &[u8], marks: &mut [u8], reply: &mut [i64; 3]
         ),
         MarkReply::Refused(error) => put_error(reply, error.code, error.input, error.offset),
     }
+}
+
+#[no_mangle]
+pub extern "C" fn ackbo_page(book: &[u8], page: &mut [u8], reply: &mut [i64; 3]) -> u8
+    ensures { λ r. ⌜ r ≡ codeOf (paged (now (book .entry)) (now (page .entry)) .reply) ⌝ }
+    ensures { λ _. ⌜
+        now (reply .exit)
+        ≡ sets (now (reply .entry)) 0 (valuesOf numberValues (paged (now (book .entry)) (now (page .entry)) .reply))
+        ⌝ }
+    ensures { λ _. ⌜ now (page .exit) ≡ paged (now (book .entry)) (now (page .entry)) .output ⌝ }
+{
+    put_number(reply, paging::page(book, page))
 }

@@ -50,6 +50,13 @@ pub fn print_report(book: &[u8]) {
     print(&text[..end]);
 }
 
+// Prints what `board` prints for a book.
+pub fn print_page(book: &[u8]) {
+    let mut page = [0u8; paging::PAGE_BYTES];
+    let end = paging::board(book, &mut page);
+    print(&page[..end]);
+}
+
 // Prints what `marker` prints for the book of a sheet.
 pub fn show_sheet(sheet: &[u16]) {
     let mut book = [0u8; 32768];

@@ -4,6 +4,7 @@ use crate::print::close;
 use crate::print::print;
 use crate::print::print_comparison;
 use crate::print::print_number;
+use crate::print::print_page;
 use crate::print::print_pick;
 use crate::print::print_report;
 use crate::print::show;
@@ -166,6 +167,8 @@ fn terms() {
     hash_terms(&book[..count]);
     print(b"sample, variable tests\n");
     test_terms(&book[..count]);
+    print(b"sample, page\n");
+    print_page(&book[..count]);
 }
 
 pub fn run() {

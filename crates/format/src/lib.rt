@@ -76,3 +76,5 @@ pub const BYTES_TOO_SHORT: u8 = 16;
 pub const OLD_FORM: u8 = 17;
 
 pub const VARIABLE_OUT_OF_TURN: u8 = 18;
+
+pub const PAGE_TOO_SHORT: u8 = 19;

@@ -2,6 +2,7 @@
 pub mod MarkedLaws
 pub mod LikeLaws
 mod PickLaws
+mod PrintLaws
 pub mod RoundTrip
 mod ConvertedBits
 pub mod ConversionLaws

@@ -4,7 +4,7 @@ use mathlib.Core.Path.{_≡_, refl, sym, ap, _∙_}
 use mathlib.Core.Bool.{true}
 use Prim.Native.Nat.{ℕ, _≤_}
 use native.Mathlib.Omega.{arith}
-use lib.ListN.{length, getD, take}
+use lib.ListN.{length, getD, take, length-map}
 use Rattle.terms.specs.Signature.{Admissible}
 use Rattle.terms.specs.Term.Term.{var}
 use Rattle.terms.specs.Words.{firstVariable, words}
@@ -46,6 +46,12 @@ use Rattle.guarantees.proofs.PickLaws.{called-picked, called-compared, 
 use Rattle.guarantees.specs.Conversions.{OldBooksRefused, OldBooksConvert, RenamedBooksAgree, NewBooksKept}
 use Rattle.guarantees.proofs.ConversionLaws.{as-long, conversion, converted-wrote, books-agree, new-kept}
 use Rattle.guarantees.proofs.ConversionLaws.{old-refused}
+use Rattle.operations.specs.Page.{page}
+use Rattle.operations.specs.Paging.{entriesOf}
+use Rattle.operations.proofs.EntryLaws.{margin-fits, book-fits}
+use Rattle.operations.proofs.PageLaws.{lines-injective, length-page}
+use Rattle.guarantees.specs.Pages.{PagesTellApart, LinesEven, MarginsFit, BooksFit, BooksToldApart}
+use Rattle.guarantees.proofs.PrintLaws.{line-even}
 use Rattle.guarantees.specs.RoundTrips.{DecodeThenEncode, EncodeThenDecode}
 use Rattle.guarantees.proofs.RoundTrip.{decode-encode, encode-decode}
 
@@ -214,3 +220,29 @@ renamed-books-agree = books-agree
 pub new-books-kept : NewBooksKept
 new-books-kept bytes output file small h room =
     let w = new-kept bytes output file small h room in (w .reply, w .output)
+
+-- ---- pages
+
+pub pages-tell-apart : PagesTellApart
+pages-tell-apart es fs h k e = lines-injective 0 es fs h k e
+
+pub lines-even : LinesEven
+lines-even = line-even
+
+pub margins-fit : MarginsFit
+margins-fit = margin-fits
+
+pub books-fit : BooksFit
+books-fit bytes file (end, e) =
+    let i = fromBytes bytes end e in
+    let few = readable-well-formed file i .0 .within .ruleCount in
+    let n : length (entriesOf (systemOf file)) ≡ length (file .rules) =
+    length-map (systemOf file .rules) _ ∙ length-rules file in
+    (book-fits file i, length-page (entriesOf (systemOf file)) (omega arith) (book-fits file i) ∙ rw n)
+
+pub books-told-apart : BooksToldApart
+books-told-apart bytes bytes' file file' (end, e) (end', e') = (
+  pages-tell-apart (entriesOf (systemOf file)) (entriesOf (systemOf file')) (book-fits file (fromBytes bytes end e))
+      (book-fits file' (fromBytes bytes' end' e')),
+  λ d. ap page d,
+)

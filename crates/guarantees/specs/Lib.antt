@@ -2,4 +2,5 @@
 pub mod Guarantees
 pub mod Picks
 pub mod Conversions
+pub mod Pages
 pub mod RoundTrips

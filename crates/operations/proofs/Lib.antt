@@ -1,5 +1,8 @@
 -- Laws of what the operations read, and checks of the definitions of specs/, by computation.
 pub mod InputLaws
+pub mod DecimalLaws
+pub mod EntryLaws
+pub mod PageLaws
 pub mod PickingLaws
 mod CodingChecks
 mod LongFileChecks
@@ -9,3 +12,4 @@ mod PickingChecks
 mod VariablesChecks
 mod HashingChecks
 mod MarkingChecks
+mod PageChecks

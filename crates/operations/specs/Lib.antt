@@ -10,5 +10,7 @@ pub mod Hashing
 pub mod Marking
 pub mod Text
 pub mod Report
+pub mod Page
+pub mod Paging
 pub mod Enums
 pub mod Boundary

@@ -37,9 +37,12 @@ marksText R =
     line (ascii "rules" ∷ decimal (summary .rules) ∷ []) ++
     (ruleLines 0 (marksOf R) (marginsOf R) ++ summaryLines summary)
 
+abbrev pub refusalLine : ℕ → ℕ → List ℕ
+refusalLine code offset = line (ascii "refusal" ∷ decimal code ∷ decimal offset ∷ [])
+
 abbrev pub textOf : Reading RuleFile → List ℕ
 textOf (got file at) = marksText (systemOf file)
-textOf (fault code offset) = line (ascii "refusal" ∷ decimal code ∷ decimal offset ∷ [])
+textOf (fault code offset) = refusalLine code offset
 
 unfoldable pub report : List ℕ → List ℕ
 report bytes = textOf (readBytes bytes)

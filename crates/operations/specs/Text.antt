@@ -1,12 +1,14 @@
--- Text as bytes: words, decimal numbers, lines.
--- Renders: 01, "Sample book and cases": what `marker` prints, "Each ends in byte 10".
+-- Text as bytes: words, decimal numbers, lines, and text set in columns.
+-- Renders: 01, "Sample book and cases": what `marker` prints, "Each ends in byte 10"; 02, order 5: "right-set",
+-- "left-set", "spaces".
 use mathlib.Core.List.{List, [] as []ᴸ, _∷_ as _∷ᴸ_, _++_}
 use mathlib.Core.Bool.{cond}
-use Prim.Native.Nat.{ℕ, suc, zero, _+_, _/_, _%_}
+use Prim.Native.Nat.{ℕ, suc, zero, _+_, _-_, _/_, _%_}
 use Prim.Native.Char.{code}
 use Prim.Native.String.{String, [], _∷_}
 use lib.IntN.{ℤ, pos, negsuc}
 use lib.Dec.{ltb}
+use lib.ListN.{length, replicate}
 
 -- The codes of the characters.
 abbrev pub ascii : String → List ℕ
@@ -31,3 +33,13 @@ abbrev pub line : List (List ℕ) → List ℕ
 line []ᴸ = 10 ∷ᴸ []ᴸ
 line (w ∷ᴸ []ᴸ) = w ++ (10 ∷ᴸ []ᴸ)
 line (w ∷ᴸ v ∷ᴸ ws) = w ++ (32 ∷ᴸ line (v ∷ᴸ ws))
+
+abbrev pub spaces : ℕ → List ℕ
+spaces n = replicate n 32
+
+-- A text at the end of so many columns, and at their start.
+abbrev pub rightSet : ℕ → List ℕ → List ℕ
+rightSet width text = spaces (width - length text) ++ text
+
+abbrev pub leftSet : ℕ → List ℕ → List ℕ
+leftSet width text = text ++ spaces (width - length text)

@@ -1,70 +1,16 @@
--- Decimal numbers digit by digit, and text stored in a buffer.
---     decimal-small, decimal-large     the last digit, and the digits before it
---     length-decimal, decimal-few      how many digits there are at most
-use mathlib.Core.List.{List, [], _∷_, _++_, append-assoc}
-use mathlib.Core.Path.{_≡_, sym, ap, _∙_}
-use Prim.Native.Nat.{ℕ, suc, zero, _+_, _/_, _%_, _^_, _≤_, _<_}
-use native.Mathlib.Nat.{zero-add, pow-succ'}
+-- Text stored in a buffer: after other text, byte by byte, in lines and in columns. Laws of decimal numbers are in
+-- `operations`.
+use mathlib.Core.List.{List, [], _∷_, _++_, append-assoc, append-nil}
+use mathlib.Core.Path.{_≡_, sym, _∙_}
+use Prim.Native.Nat.{ℕ, suc, _+_, _-_, _/_, _%_, _≤_, _<_}
+use native.Mathlib.Nat.{zero-add}
 use native.Mathlib.Omega.{arith}
-use lib.ListN.{length, getD, take, length-append}
-use lib.Seq.{sets, length-sets, length-take-le, take-suc, take-all}
-use borrow.Author.Tests.{lt-ltb, le-ltb}
+use lib.ListN.{length, getD, take, drop, length-append, length-replicate, replicate-append-replicate}
+use lib.Seq.{sets, sets-eq, length-sets, length-take-le, take-suc, take-all, take-append-seam}
 use Rattle.multisets.proofs.ListLaws.{sets-append}
-use Rattle.multisets.proofs.Relations.{byOrder}
 use Rattle.text.specs.Put.{Put}
-use Rattle.operations.specs.Text.{digits, decimal, line}
-
--- More digits than enough change nothing.
-digits-enough : (k m n : ℕ) → n < k → n < m → digits k n ≡ digits m n
-unfolding digits
-digits-enough zero m n h l = absurd (omega arith)
-digits-enough (suc k) zero n h l = absurd (omega arith)
-digits-enough (suc k) (suc m) n h l =
-    byOrder n 10 (λ s. rw (lt-ltb n 10 s))
-    λ s. rw (le-ltb n 10 s) (ap (λ (ds : List ℕ). ds ++ ((48 + n % 10) ∷ []))
-    (digits-enough k m (n / 10) (omega arith) (omega arith)))
-
-pub decimal-small : (n : ℕ) → n < 10 → decimal n ≡ (48 + n) ∷ []
-unfolding digits
-decimal-small n h = rw (lt-ltb n 10 h)
-
-pub decimal-large : (n : ℕ) → 10 ≤ n → decimal n ≡ decimal (n / 10) ++ ((48 + n % 10) ∷ [])
-unfolding digits
-decimal-large n h =
-    rw (le-ltb n 10 h)
-    (ap (λ (ds : List ℕ). ds ++ ((48 + n % 10) ∷ []))
-    (digits-enough n (suc (n / 10)) (n / 10) (omega arith) (omega arith)))
-
-length-digits : (k n : ℕ) → length (digits k n) ≤ k
-unfolding digits
-length-digits zero n = omega arith
-length-digits (suc k) n =
-    byOrder n 10 (λ s. rw (lt-ltb n 10 s) (omega arith))
-    λ s. rw (le-ltb n 10 s) (omega (
-      arith,
-      length-append (digits k (n / 10)) ((48 + n % 10) ∷ []),
-      length-digits k
-          (n / 10),
-    ))
-
-pub length-decimal : (n : ℕ) → length (decimal n) ≤ suc n
-length-decimal n = length-digits (suc n) n
-
-digits-few : (k m n : ℕ) → n < 10 ^ suc k → length (digits m n) ≤ suc k
-unfolding digits
-digits-few k zero n h = omega arith
-digits-few zero (suc m) n h = rw (lt-ltb n 10 h) (omega arith)
-digits-few (suc k) (suc m) n h =
-    byOrder n 10 (λ s. rw (lt-ltb n 10 s) (omega arith))
-    λ s. rw (le-ltb n 10 s)
-    (omega (
-      arith,
-      length-append (digits m (n / 10)) ((48 + n % 10) ∷ []),
-      digits-few k m (n / 10) (omega (arith, pow-succ' 10 (suc k))),
-    ))
-
-pub decimal-few : (k n : ℕ) → n < 10 ^ suc k → length (decimal n) ≤ suc k
-decimal-few k n h = digits-few k (suc n) n h
+use Rattle.operations.specs.Text.{decimal, line, spaces, rightSet}
+use Rattle.operations.proofs.DecimalLaws.{decimal-small, decimal-large}
 
 -- ---- text put into a list
 
@@ -97,6 +43,45 @@ put-whole l at i r bytes out h k e d = (omega arith, e ∙ rw (take-all i bytes 
 
 pub put-length : (l : List ℕ) (at : ℕ) (text out : List ℕ) → out ≡ sets l at text → length out ≡ length l
 put-length l at text out e = rw e (length-sets l at text)
+
+-- ---- text in columns
+
+pub put-space : (l : List ℕ) (at i : ℕ) (mid out : List ℕ) → mid ≡ sets l at (spaces i) →
+    out ≡ sets mid (at + i) (32 ∷ []) → out ≡ sets l at (spaces (i + 1))
+put-space l at i mid out e d =
+    d ∙ rw (
+      e,
+      ← replicate-append-replicate {A = ℕ} i 1 32,
+      sets-append l at (spaces i) (32 ∷ []),
+      length-replicate {A = ℕ} i 32,
+    )
+
+pub put-all-spaces : (l : List ℕ) (at i count r : ℕ) (out : List ℕ) → count ≤ i → i ≤ count →
+    out ≡ sets l at (spaces i) → r ≡ at + i → Put l at (spaces count) r out
+put-all-spaces l at i count r out h k e d =
+    let n : i ≡ count = omega arith in
+    rw (← n) (d ∙ rw (length-replicate {A = ℕ} i 32), e)
+
+-- A text that is stored first stands there.
+pub stored-text : (l text out : List ℕ) (n : ℕ) → Put l 0 text n out → length text ≤ length l → take n out ≡ text
+stored-text l text out n p h =
+    let k : n ≡ length text = omega (arith, p .0) in
+    rw (p .1, sets-eq text l 0 (omega arith), k) (take-append-seam text (drop (0 + length text) l))
+
+pub put-between : (l : List ℕ) (at before : ℕ) (text : List ℕ) (after start : ℕ) (l₁ : List ℕ) (end : ℕ)
+    (l₂ : List ℕ) (r : ℕ) (out : List ℕ) → Put l at (spaces before) start l₁ → Put l₁ start text end l₂ →
+    Put l₂ end (spaces after) r out → Put l at (spaces before ++ (text ++ spaces after)) r out
+put-between l at before text after start l₁ end l₂ r out p q t =
+    put-append l at (spaces before) (text ++ spaces after) start l₁ r out p
+    (put-append l₁ start text (spaces after) end l₂ r out q t)
+
+-- A text that was stored first elsewhere is put after the spaces that it leaves of its columns.
+pub put-at-end : (l : List ℕ) (at width : ℕ) (text other kept : List ℕ) (count r : ℕ) (out : List ℕ) →
+    Put other 0 text count kept → length text ≤ length other →
+    Put l at (spaces (width - count) ++ (take count kept ++ [])) r out → Put l at (rightSet width text) r out
+put-at-end l at width text other kept count r out p h q =
+    let n : count ≡ length text = omega (arith, p .0) in
+    rw (append-nil (take count kept), stored-text other text kept count p h, n) at q
 
 -- ---- lines, word by word
 

@@ -4,7 +4,8 @@ ghost use mathlib.Core.List.{[], _∷_, _++_};
 ghost use Prim.Native.Nat.{_+_, _^_, _≤_, _<_};
 ghost use lib.ListN.{length};
 ghost use lib.Seq.{sets};
-ghost use Rattle.operations.specs.Text.{decimal, signedDecimal};
+ghost use Rattle.operations.specs.Text.{decimal, signedDecimal, spaces, rightSet, leftSet};
+ghost use Rattle.text.specs.Put.{Put};
 ghost use lib.IntN.{natAbs};
 
 // A byte past the end is left out.
@@ -80,4 +81,50 @@ pub fn put_signed(out: &mut [u8], at: usize, n: i64) -> usize
         return put_decimal(out, next, magnitude(n));
     }
     put_decimal(out, at, magnitude(n))
+}
+
+fn put_spaces(out: &mut [u8], at: usize, count: usize) -> usize
+    requires { ⌜ at + count < 2 ^ 63 ⌝ }
+    ensures { λ r. ⌜ Put (now (out .entry)) at (spaces count) r (now (out .exit)) ⌝ }
+{
+    let mut done = 0;
+    while done < count {
+        put_byte(out, at + done, b' ');
+        done += 1;
+    }
+    at + done
+}
+
+// A text between spaces.
+fn put_spaced(out: &mut [u8], at: usize, before: usize, text: &[u8], after: usize) -> usize
+    requires { ⌜ at + before + length (now text) + after < 2 ^ 63 ⌝ }
+    ensures { λ r. ⌜
+        Put (now (out .entry)) at (spaces before ++ (now (text .entry) ++ spaces after)) r (now (out .exit))
+        ⌝ }
+{
+    let start = put_spaces(out, at, before);
+    let end = put_bytes(out, start, text);
+    put_spaces(out, end, after)
+}
+
+// A text at the start of so many columns.
+pub fn put_left_set(out: &mut [u8], at: usize, width: usize, text: &[u8]) -> usize
+    requires { ⌜ (at + width < 2 ^ 63) × (length (now text) ≤ width) ⌝ }
+    ensures { λ r. ⌜ Put (now (out .entry)) at (leftSet width (now (text .entry))) r (now (out .exit)) ⌝ }
+    ensures { λ r. ⌜ r ≡ at + width ⌝ }
+{
+    let rest = width - text.len();
+    put_spaced(out, at, 0, text, rest)
+}
+
+// A number at the end of so many columns.
+pub fn put_right_set(out: &mut [u8], at: usize, width: usize, n: i64) -> usize
+    requires { ⌜ (at < 2 ^ 31) × (width < 2 ^ 31) × (length (signedDecimal n) ≤ width) ⌝ }
+    ensures { λ r. ⌜ Put (now (out .entry)) at (rightSet width (signedDecimal n)) r (now (out .exit)) ⌝ }
+    ensures { λ r. ⌜ r ≡ at + width ⌝ }
+{
+    let mut digits = [0u8; 20];
+    let count = put_signed(&mut digits, 0, n);
+    let rest = width - count;
+    put_spaced(out, at, rest, &digits[..count], 0)
 }

@@ -5,6 +5,7 @@ use std::hint::black_box;
 use std::time::{Duration, Instant};
 
 use twin::generate::{families, Book, Family, Random, Signature, MAX_RULES};
+use twin::page::LINE_BYTES;
 use twin::table::{MAX_NODES, VARIABLES};
 use twin::Pick;
 
@@ -66,7 +67,7 @@ impl Report {
         name.contains(&self.filter)
     }
 
-    /// Opening, closing, marking and converting of books.
+    /// Opening, closing, marking, pages and converting of books.
     fn books(&mut self) {
         println!("| books | library | twin | ratio |\n|---|---|---|---|");
         let mut random = Random::new(SEED);
@@ -80,6 +81,7 @@ impl Report {
             self.decode(&format!("decode {name}"), books);
             self.encode(&format!("encode {name}"), books);
             self.mark(&format!("mark {name}"), books);
+            self.page(&format!("page {name}"), books);
             self.convert(&format!("convert {name}"), books);
         }
         self.mark("mark no rules", &empty);
@@ -116,6 +118,17 @@ impl Report {
             &packed,
             |book| ackbo::mark(book, &mut ours).expect("the book is read").falling,
             |book| twin::mark(book, &mut twins).expect("the book is read").falling,
+        );
+    }
+
+    fn page(&mut self, name: &str, books: &[Book]) {
+        let packed: Vec<Vec<u8>> = books.iter().map(Book::packed).collect();
+        let (mut ours, mut twins) = (vec![0; MAX_RULES * LINE_BYTES], vec![0; MAX_RULES * LINE_BYTES]);
+        self.row(
+            name,
+            &packed,
+            |book| ackbo::page(book, &mut ours).expect("the book is read"),
+            |book| twin::page(book, &mut twins).expect("the book is read"),
         );
     }
 

@@ -45,6 +45,8 @@ pub const BYTES_TOO_SHORT: u8 = 16;
 pub const OLD_FORM: u8 = 17;
 /// A variable's number is above the count of different variables before it in its rule.
 pub const OUT_OF_TURN: u8 = 18;
+/// A page has no room for a line for each rule.
+pub const PAGE_TOO_SHORT: u8 = 19;
 
 impl Error {
     /// The error of an output, the second input of its operation, that is too short.

@@ -1,9 +1,9 @@
 //! A second implementation of the rule file format and of AC-KBO, written from the papers alone, to be compared with
 //! the first one. `reading` and `format` read and write rule files, `coding` opens, closes and converts them, `order`
 //! compares terms, `picking` picks the greater one, `fingerprint` gives a number that AC-equivalent terms share,
-//! `variables` names a variable that occurs oftener on the right, `marking` orients the rules of a file, and `generate`
-//! makes inputs of every kind: valid, damaged, largest and empty ones. Below, 01 is the scope paper, 02 the requests
-//! after it, and 000, 001 and 004 are the articles that 01 cites.
+//! `variables` names a variable that occurs oftener on the right, `marking` orients the rules of a file, `page` puts
+//! them on a page, and `generate` makes inputs of every kind: valid, damaged, largest and empty ones. Below, 01 is the
+//! scope paper, 02 the requests after it, and 000, 001 and 004 are the articles that 01 cites.
 
 mod ackbo;
 mod bits;
@@ -15,6 +15,7 @@ pub mod generate;
 pub mod marking;
 mod multiset;
 pub mod order;
+pub mod page;
 pub mod picking;
 mod reading;
 mod source;
@@ -27,5 +28,6 @@ pub use error::Error;
 pub use fingerprint::fingerprint;
 pub use marking::{mark, report, Marked};
 pub use order::{compare, Comparison, Relation};
+pub use page::{board, page};
 pub use picking::{pick, Pick};
 pub use variables::oftener;

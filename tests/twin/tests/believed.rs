@@ -1,5 +1,5 @@
-//! What must be believed: the definition files that the public contracts and the statements reach, as `believed.txt` lists
-//! them. They stand in crates without functions, and only files there say what they render.
+//! What must be believed: the definition files that the public contracts and the statements reach, as `believed.txt`
+//! lists them. They stand in crates without functions, and only files there say what they render.
 
 use std::collections::{BTreeMap, BTreeSet};
 use std::fs;
@@ -7,7 +7,7 @@ use std::path::{Path, PathBuf};
 
 /// The operations, each by the file of its contract. The functions for C are all of `crates/ackbo/src/lib.rt` that it
 /// exports.
-const OPERATIONS: [(&str, &str); 10] = [
+const OPERATIONS: [(&str, &str); 12] = [
     ("crates/decoder/src/lib.rt", "decode"),
     ("crates/encoder/src/lib.rt", "encode"),
     ("crates/comparing/src/lib.rt", "compare"),
@@ -18,6 +18,8 @@ const OPERATIONS: [(&str, &str); 10] = [
     ("crates/marking/src/mark.rt", "mark"),
     ("crates/marking/src/report.rt", "report"),
     ("crates/converter/src/lib.rt", "convert"),
+    ("crates/paging/src/lib.rt", "page"),
+    ("crates/paging/src/lib.rt", "board"),
 ];
 const FOR_C: &str = "crates/ackbo/src/lib.rt";
 

@@ -11,7 +11,7 @@ use common::{Example, Theory};
 use examples::sample::{sample, CASES, COMPARISONS, CONVERSIONS, FINGERPRINTS, OFTENER, PICKS};
 use examples::{articles, sample};
 use twin::format::Form;
-use twin::{compare, convert, encode, fingerprint, mark, oftener, pick, report};
+use twin::{board, compare, convert, encode, fingerprint, mark, oftener, pick, report};
 use twin::{Comparison, Error, Marked, Pick, Relation};
 
 /// 01's listing, in form 2.
@@ -133,6 +133,18 @@ fn listing_prints_its_text() {
 }
 
 #[test]
+fn listing_has_its_page() {
+    let lines = [
+        "   0 falls by rank                                       0      \n",
+        "   1 no case                                             0      \n",
+    ];
+    assert_eq!(String::from_utf8(board(&LISTING)).unwrap(), lines.concat());
+    assert_eq!(lines.concat(), include_str!("../../../samples/listing.page"));
+    assert_eq!(board(&[]), b"refusal 2 0\n");
+    assert_eq!(board(&sample().book(&[])), b"");
+}
+
+#[test]
 fn score_is_rounded_down() {
     let theory = sample();
     let score = |rules: &[&str]| mark(&theory.book(rules), &mut [0; 3]).unwrap().score;
@@ -144,7 +156,7 @@ fn score_is_rounded_down() {
 
 #[test]
 fn program_prints_what_the_twin_gives() {
-    let terms = [comparisons(), picks(), fingerprints(), variable_tests()].concat();
+    let terms = [comparisons(), picks(), fingerprints(), variable_tests(), sample_page()].concat();
     let parts = [reports(&sample::examples()), terms, listing(), forms(), reports(&articles::examples()), limits()];
     assert_eq!(parts.concat(), include_str!("../../../crates/cases/stdout"));
 }
@@ -212,6 +224,12 @@ fn variable_tests() -> String {
     ];
     let line = |(left, right)| oftener(&book, left, right).map_or_else(error_line, |number| format!("{number} 0 0\n"));
     calls.map(line).into_iter().fold("sample, variable tests\n".into(), |text: String, line| text + &line)
+}
+
+/// The page of the sample.
+fn sample_page() -> String {
+    let lines = String::from_utf8(board(&sample().book(&CASES.map(|(rule, ..)| rule)))).expect("a page is text");
+    format!("sample, page\n{lines}")
 }
 
 fn listing() -> String {

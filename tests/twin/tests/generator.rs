@@ -125,9 +125,9 @@ fn accepted_words_are_given_back() {
 #[test]
 fn generated_calls_reach_every_mark_and_error() {
     let mut random = Random::new(SEED);
-    let (mut marks, mut errors, mut relations) = ([0; 11], [[0; 3]; 19], [0; 4]);
+    let (mut marks, mut errors, mut relations) = ([0; 11], [[0; 3]; 20], [0; 4]);
     let mut picks = [0; 4];
-    let mut operations = [0; 8];
+    let mut operations = [0; 9];
     let mut oftener = [0; 17];
     for _ in 0..CALLS {
         let reply = call(&mut random).run();
@@ -166,16 +166,18 @@ fn generated_calls_reach_every_mark_and_error() {
                 }
             }
             Reply::Convert(..) => operations[7] += 1,
+            Reply::Page(..) => operations[8] += 1,
         }
     }
-    println!("decoding, encoding, comparing, marking, picking, fingerprints, oftener, converting: {operations:?}");
+    println!("decoding, encoding, comparing, marking, picking, fingerprints, oftener, converting, pages:");
+    println!("{operations:?}");
     println!("marks 1 to 10: {:?}", &marks[1..]);
     println!("greater, less, equivalent, unrelated: {relations:?}");
     println!("left, right, equivalent, unrelated: {picks:?}");
     println!("oftener, variables 0 to 15 and none: {oftener:?}");
     let totals = errors.map(|inputs: [usize; 3]| inputs.iter().sum::<usize>());
-    println!("errors 1 to 18: {:?}", &totals[1..]);
-    println!("errors 1 to 18 by input: {:?}", &errors[1..]);
+    println!("errors 1 to 19: {:?}", &totals[1..]);
+    println!("errors 1 to 19 by input: {:?}", &errors[1..]);
     assert!(operations.iter().all(|&count| count > CALLS / 10), "{operations:?}");
     assert!(relations.iter().chain(&picks).all(|&count| count > CALLS / 200), "{relations:?} {picks:?}");
     assert!(oftener.iter().all(|&count| count > 0), "{oftener:?}");
@@ -202,11 +204,14 @@ fn refused_calls_leave_their_output() {
         let call: Call = call(&mut random);
         match call.run() {
             Reply::Decode(Err(_), words) => assert!(words.iter().all(|&word| word == UNTOUCHED.into())),
-            Reply::Encode(Err(_), bytes) | Reply::Convert(Err(_), bytes) | Reply::Mark(Err(_), bytes) => {
+            Reply::Encode(Err(_), bytes) | Reply::Convert(Err(_), bytes) => {
+                assert!(bytes.iter().all(|&byte| byte == UNTOUCHED));
+            }
+            Reply::Mark(Err(_), bytes) | Reply::Page(Err(_), bytes) => {
                 assert!(bytes.iter().all(|&byte| byte == UNTOUCHED));
             }
             Reply::Decode(Ok(len), words) => assert!(words[len..].iter().all(|&word| word == UNTOUCHED.into())),
-            Reply::Encode(Ok(len), bytes) | Reply::Convert(Ok(len), bytes) => {
+            Reply::Encode(Ok(len), bytes) | Reply::Convert(Ok(len), bytes) | Reply::Page(Ok(len), bytes) => {
                 assert!(bytes[len..].iter().all(|&byte| byte == UNTOUCHED));
             }
             Reply::Mark(Ok(marked), bytes) => assert!(bytes[marked.rules..].iter().all(|&byte| byte == UNTOUCHED)),

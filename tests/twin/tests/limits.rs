@@ -4,7 +4,7 @@ mod packing;
 
 use packing::{book, header, node, pack, symbol, variable, FILLER, SHEET};
 use twin::generate::{Book, Random, Signature};
-use twin::{compare, convert, decode, encode, fingerprint, mark, oftener, pick};
+use twin::{compare, convert, decode, encode, fingerprint, mark, oftener, page, pick};
 use twin::{Comparison, Error, Marked, Pick, Relation};
 
 #[test]
@@ -59,6 +59,14 @@ fn outputs_may_be_long_and_must_not_be_short() {
     assert_eq!(marks, [FILLER; 3]);
     assert_eq!(mark(&packed, &mut marks), Ok(Marked { rules: 2, falling: 1, score: 50 }));
     assert_eq!(marks, [1, 7, FILLER]);
+
+    let mut lines = [FILLER; 131];
+    assert_eq!(page(&packed, &mut lines[..129]), Err(Error { code: 19, input: 1, offset: 0 }));
+    assert_eq!(lines, [FILLER; 131]);
+    assert_eq!(page(&packed, &mut lines), Ok(130));
+    assert_eq!(lines[..65], *b"   0 falls by weight                                     1      \n");
+    assert_eq!(lines[65..130], *b"   1 variable added                                      0      \n");
+    assert_eq!(lines[130], FILLER);
 }
 
 #[test]
@@ -115,6 +123,35 @@ fn marks_for_1_023_rules() {
     assert_eq!(mark(&packed, &mut marks), Ok(marked));
     assert_eq!(marks[..1_023], [1; 1_023]);
     assert_eq!(marks[1_023], FILLER);
+}
+
+#[test]
+fn a_page_of_1_023_rules() {
+    let packed = book(1_023, &[node(1), node(0), node(0)].concat().repeat(1_023));
+    let mut lines = [FILLER; 66_496];
+    assert_eq!(page(&packed, &mut lines[..66_494]), Err(Error { code: 19, input: 1, offset: 0 }));
+    assert_eq!(lines, [FILLER; 66_496]);
+    assert_eq!(page(&packed, &mut lines[..66_495]), Ok(66_495));
+    assert_eq!(page(&packed, &mut lines), Ok(66_495));
+    for (number, line) in lines[..66_495].chunks(65).enumerate() {
+        assert_eq!(
+            line,
+            format!("{number:>4} falls by weight                                     1      \n").as_bytes()
+        );
+    }
+    assert_eq!(lines[66_495], FILLER);
+    assert_eq!(page(&book(0, &[]), &mut []), Ok(0), "no rules fit a page of no bytes");
+}
+
+#[test]
+fn the_widest_margin_of_a_rule() {
+    let symbols = [symbol(0, 0, 65_535, 0), symbol(1, 0, 65_535, 1)].concat();
+    let (light, heavy) = (node(0), [node(1).repeat(127), node(0)].concat());
+    let rules = [light.clone(), heavy.clone(), heavy, light].concat();
+    let mut lines = [FILLER; 130];
+    assert_eq!(page(&pack(&[header(2, 65_535, 2), symbols, rules].concat()), &mut lines), Ok(130));
+    assert_eq!(lines[..65], *b"   0 left lighter                                 -8322945      \n");
+    assert_eq!(lines[65..], *b"   1 falls by weight                               8322945      \n");
 }
 
 #[test]

@@ -1,12 +1,12 @@
-//! The programs `marker` and `convert`, which `rt check` builds, print what the twin's report has, and what the twin
-//! converts a book to.
+//! The programs `marker`, `board` and `convert`, which `rt check` builds, print what the twin's texts have, and what
+//! the twin converts a book to.
 
 use std::io::Write;
 use std::path::Path;
 use std::process::{Command, Stdio};
 
 use twin::generate::{damaged_packed, Book, Random};
-use twin::{convert, report};
+use twin::{board, convert, report};
 
 const SEED: u64 = 7;
 const BOOKS: usize = 600;
@@ -23,9 +23,9 @@ fn printed(program: &str, book: &[u8]) -> Vec<u8> {
     run.wait_with_output().expect("it ends").stdout
 }
 
-#[test]
-fn marker_prints_the_report() {
-    let mut random = Random::new(SEED);
+/// A program prints the text that is given of each book.
+fn check(program: &str, seed: u64, text: fn(&[u8]) -> Vec<u8>) {
+    let mut random = Random::new(seed);
     let (mut rules, mut refused) = (0, 0);
     for round in 0..BOOKS {
         let book = match round % 100 {
@@ -33,18 +33,28 @@ fn marker_prints_the_report() {
             _ => Book::any(&mut random, 24),
         };
         let packed = if round % 3 == 1 { damaged_packed(&mut random, &book) } else { book.packed() };
-        let text = report(&packed);
-        assert_eq!(printed("marker", &packed), text, "book {round}");
+        let text = text(&packed);
+        assert_eq!(printed(program, &packed), text, "{program}, book {round}");
         rules += book.rules.len();
         refused += usize::from(text.starts_with(b"refusal"));
     }
-    println!("{BOOKS} books of {rules} rules, {refused} refused");
+    println!("{program}: {BOOKS} books of {rules} rules, {refused} refused");
     assert!(refused > BOOKS / 10);
 }
 
 #[test]
+fn marker_prints_the_report() {
+    check("marker", SEED, report);
+}
+
+#[test]
+fn board_prints_the_page() {
+    check("board", SEED + 1, board);
+}
+
+#[test]
 fn convert_prints_the_converted_book() {
-    let mut random = Random::new(SEED + 1);
+    let mut random = Random::new(SEED + 2);
     let mut refused = 0;
     for round in 0..BOOKS {
         let book = match round % 100 {

@@ -1,6 +1,7 @@
 -- A number below 10 is one digit; of another the digits before the last are put first.
 use native.Mathlib.Omega.{arith}
-use Rattle.text.proofs.TextLaws.{length-decimal, put-small, put-large}
+use Rattle.operations.proofs.DecimalLaws.{length-decimal}
+use Rattle.text.proofs.TextLaws.{put-small, put-large}
 use borrow.Author.Needs.{needs}
 use Prim.Native.Nat.{ℕ, _/_, _<_}
 use borrow.Fn.Kinds.{In}

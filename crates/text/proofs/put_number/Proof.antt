@@ -2,7 +2,8 @@
 use mathlib.Core.List.{[], _∷_}
 use native.Mathlib.Omega.{arith}
 use Rattle.operations.specs.Text.{decimal}
-use Rattle.text.proofs.TextLaws.{decimal-few, put-append}
+use Rattle.operations.proofs.DecimalLaws.{decimal-few}
+use Rattle.text.proofs.TextLaws.{put-append}
 use borrow.Author.Needs.{needs}
 use Rattle.text.proofs.put_number.Statement.{statement}
 use Rattle.text.proofs.put_number.Tie as tie

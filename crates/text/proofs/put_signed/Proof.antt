@@ -4,7 +4,7 @@ use lib.IntN.{natAbs}
 use mir.Syntax.{w64}
 use mir.ValLaws.{toZ-ofZ}
 use native.Mathlib.Omega.{arith}
-use Rattle.text.proofs.TextLaws.{decimal-few}
+use Rattle.operations.proofs.DecimalLaws.{decimal-few}
 use Rattle.text.proofs.SignLaws.{magnitude-le, put-negative, put-rest}
 use borrow.Author.Needs.{needs}
 use Rattle.text.proofs.put_signed.Statement.{statement}

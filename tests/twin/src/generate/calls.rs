@@ -1,8 +1,10 @@
 //! Whole calls of the operations, with outputs of every length.
 
 use super::{damaged_packed, damaged_term, damaged_words, followed, Book, Random};
+use crate::page::LINE_BYTES;
 use crate::table::{MAX_NODES, VARIABLES};
-use crate::{compare, convert, decode, encode, fingerprint, mark, oftener, pick, Comparison, Error, Marked, Pick};
+use crate::{compare, convert, decode, encode, fingerprint, mark, oftener, page, pick};
+use crate::{Comparison, Error, Marked, Pick};
 
 /// The rules of most generated rule files.
 const FEW_RULES: usize = 24;
@@ -20,6 +22,7 @@ pub enum Call {
     Fingerprint { book: Vec<u8>, term: Vec<u16> },
     Oftener { book: Vec<u8>, left: Vec<u16>, right: Vec<u16> },
     Convert { book: Vec<u8>, room: usize },
+    Page { book: Vec<u8>, room: usize },
 }
 
 /// The reply to a call, and the output after it; the output held `UNTOUCHED` in each place before.
@@ -33,6 +36,7 @@ pub enum Reply {
     Fingerprint(Result<u32, Error>),
     Oftener(Result<usize, Error>),
     Convert(Result<usize, Error>, Vec<u8>),
+    Page(Result<usize, Error>, Vec<u8>),
 }
 
 impl Call {
@@ -59,6 +63,10 @@ impl Call {
                 let mut converted = vec![UNTOUCHED; *room];
                 Reply::Convert(convert(book, &mut converted), converted)
             }
+            Call::Page { book, room } => {
+                let mut lines = vec![UNTOUCHED; *room];
+                Reply::Page(page(book, &mut lines), lines)
+            }
         }
     }
 }
@@ -68,7 +76,7 @@ impl Reply {
     pub fn error(&self) -> Option<Error> {
         match self {
             Reply::Decode(result, _) | Reply::Oftener(result) => result.err(),
-            Reply::Encode(result, _) | Reply::Convert(result, _) => result.err(),
+            Reply::Encode(result, _) | Reply::Convert(result, _) | Reply::Page(result, _) => result.err(),
             Reply::Compare(result) => result.err(),
             Reply::Mark(result, _) => result.err(),
             Reply::Pick(result) => result.err(),
@@ -82,7 +90,7 @@ pub fn call(random: &mut Random) -> Call {
     let many_rules = random.one_in(2);
     let book = if random.one_in(256) { Book::largest(random, many_rules) } else { Book::random(random, FEW_RULES) };
     let intact = random.one_in(2);
-    match random.below(8) {
+    match random.below(9) {
         0 => {
             let packed = if intact { book.packed() } else { damaged_packed(random, &book) };
             Call::Decode { book: packed, room: room(random, book.words().len()) }
@@ -105,11 +113,15 @@ pub fn call(random: &mut Random) -> Call {
             let (book, left, right) = terms(random, &book, intact);
             Call::Oftener { book, left, right }
         }
-        _ => {
+        7 => {
             let old = book.aged(random);
             let packed = if intact { old.packed() } else { damaged_packed(random, &old) };
             let room = room(random, packed.len());
             Call::Convert { book: packed, room }
+        }
+        _ => {
+            let packed = if intact { book.packed() } else { damaged_packed(random, &book) };
+            Call::Page { book: packed, room: room(random, LINE_BYTES * book.rules.len()) }
         }
     }
 }

@@ -69,6 +69,21 @@ pub fn mark(book: &[u8], room: usize) -> Result<(Marked, Vec<u8>), Error> {
     result.map(|marked| (marked, expected[..marked.rules].to_vec()))
 }
 
+/// Puts a book's rules on a page of `room` bytes; hands back the lines too.
+pub fn page(book: &[u8], room: usize) -> Result<Vec<u8>, Error> {
+    let mut expected = pattern(room);
+    let result = twin::page(book, &mut expected);
+    with_output(book, &expected, Around::Zeros, |book, page| {
+        let (len, room) = (book.len(), page.len());
+        let ours = raw(|reply| unsafe { sys::ackbo_page(book.as_ptr(), len, page.as_mut_ptr(), room, reply) });
+        agree(ours, numbers(result, |count| [count as i64, 0, 0]), &book);
+    });
+    with_output(book, &expected, Around::Ones, |book, page| {
+        agree(ackbo::page(book, page).map_err(error), result, &book);
+    });
+    result.map(|count| expected[..count].to_vec())
+}
+
 /// Compares two terms under a book.
 pub fn compare(book: &[u8], left: &[u16], right: &[u16]) -> Result<Comparison, Error> {
     let result = twin::compare(book, left, right);

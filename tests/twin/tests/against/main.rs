@@ -11,6 +11,7 @@ mod fingerprints;
 mod lent;
 mod marking;
 mod oftener;
+mod pages;
 mod picking;
 mod slices;
 mod turns;

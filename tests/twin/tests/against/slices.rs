@@ -21,6 +21,7 @@ fn empty_inputs_agree_with_the_twin() {
     assert_eq!(ackbo::decode(&[], &mut words).map_err(error), twin::decode(&[], &mut [7; 4]));
     assert_eq!(ackbo::encode(&[], &mut bytes).map_err(error), twin::encode(&[], &mut [7; 4]));
     assert_eq!(ackbo::mark(&[], &mut bytes).map_err(error).err(), twin::mark(&[], &mut [7; 4]).err());
+    assert_eq!(ackbo::page(&[], &mut bytes).map_err(error), twin::page(&[], &mut [7; 4]));
     assert_eq!(ackbo::compare(&[], &[], &[]).map_err(error).err(), twin::compare(&[], &[], &[]).err());
     assert_eq!(ackbo::pick(&[], &[], &[]).map_err(error).err(), twin::pick(&[], &[], &[]).err());
     assert_eq!(ackbo::fingerprint(&[], &[]).map_err(error), twin::fingerprint(&[], &[]));
@@ -39,11 +40,14 @@ fn empty_outputs_agree_with_the_twin() {
         let marked = twin::mark(&book, &mut []);
         let old = [&[book[0] - 0x10], &book[1..]].concat();
         let converted = twin::convert(&old, &mut []);
-        assert_eq!([code(&decoded), code(&encoded), code(&marked), code(&converted)], [13, 16, 12, 16]);
+        let paged = twin::page(&book, &mut []);
+        let codes = [code(&decoded), code(&encoded), code(&marked), code(&converted), code(&paged)];
+        assert_eq!(codes, [13, 16, 12, 16, 19]);
         assert_eq!(ackbo::decode(&book, &mut []).map_err(error), decoded);
         assert_eq!(ackbo::encode(&words[..len], &mut []).map_err(error), encoded);
         assert_eq!(ackbo::mark(&book, &mut []).map_err(error).err(), marked.err());
         assert_eq!(ackbo::convert(&old, &mut []).map_err(error), converted);
+        assert_eq!(ackbo::page(&book, &mut []).map_err(error), paged);
     }
 }
 

@@ -2,10 +2,11 @@
 
 use twin::format::Form;
 use twin::generate::{Book, Signature};
+use twin::page::LINE_BYTES;
 use twin::table::{Symbol, FIRST_VARIABLE, VARIABLES};
 use twin::Error;
 
-use crate::check::{compare, convert, decode, encode, mark};
+use crate::check::{compare, convert, decode, encode, mark, page};
 use crate::counts::Counts;
 
 /// An AC symbol, a constant, and a symbol of arity 1.
@@ -53,6 +54,7 @@ fn turns_agree_with_the_twin() {
             assert_eq!(code(opened), expected, "{number} after {met}, {on_left} of them on the left");
             assert_eq!(code(encode(&words, packed.len())), expected);
             assert_eq!(code(mark(&packed, 2)), expected);
+            assert_eq!(code(page(&packed, 2 * LINE_BYTES)), expected);
             assert_eq!(code(compare(&packed, &[1], &[1])), expected);
             // In form 1 and in a term, no variable is out of turn.
             let old = Book { form: Form::One, ..book.clone() };

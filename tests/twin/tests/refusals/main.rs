@@ -6,7 +6,7 @@ mod packing;
 mod terms;
 
 use packing::{book, header, node, pack, symbol, variable, FILLER, SHEET};
-use twin::{compare, convert, decode, encode, fingerprint, mark, oftener, pick, Error, Marked};
+use twin::{compare, convert, decode, encode, fingerprint, mark, oftener, page, pick, Error, Marked};
 
 /// The first bit of the rules in `book`.
 const RULES_AT: usize = 38 + 2 * 28;
@@ -48,6 +48,10 @@ fn refuse_packed(packed: &[u8], code: u8, offset: usize) {
     assert_eq!(mark(packed, &mut marks), Err(error));
     assert_eq!(marks, [FILLER; 4]);
     assert_eq!(mark(packed, &mut []), Err(error), "the book comes before the marks");
+    let mut lines = [FILLER; 4 * 65];
+    assert_eq!(page(packed, &mut lines), Err(error));
+    assert_eq!(lines, [FILLER; 4 * 65]);
+    assert_eq!(page(packed, &mut []), Err(error), "the book comes before the page");
     assert_eq!(compare(packed, &[0], &[0]), Err(error));
     assert_eq!(compare(packed, &[], &[999]), Err(error), "the book comes before the terms");
     assert_eq!(pick(packed, &[0], &[0]), Err(error));
@@ -57,6 +61,7 @@ fn refuse_packed(packed: &[u8], code: u8, offset: usize) {
     assert_eq!(oftener(packed, &[0], &[0]), Err(error));
     assert_eq!(oftener(packed, &[], &[999]), Err(error), "the book comes before the terms");
     assert_eq!(twin::report(packed), format!("refusal {code} {offset}\n").into_bytes());
+    assert_eq!(twin::board(packed), twin::report(packed));
     if ![3, 17, 18].contains(&code) {
         refuse_old(&old(packed), code, offset);
     }

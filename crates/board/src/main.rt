@@ -1,0 +1,26 @@
+// Reads a rule file from standard input and prints its page, or its refusal.
+ghost use mathlib.Core.Path.{_≡_};
+ghost use lib.ListN.{length};
+use libc::STDIN_FILENO;
+use libc::STDOUT_FILENO;
+
+// One byte more than a rule file may have.
+fn buffer() -> [u8; 32769]
+    ensures { λ r. ⌜ 32769 ≡ length r ⌝ }
+{
+    [0; 32769]
+}
+
+fn blank_page() -> [u8; paging::PAGE_BYTES]
+    ensures { λ r. ⌜ 66495 ≡ length r ⌝ }
+{
+    [0; paging::PAGE_BYTES]
+}
+
+fn main() {
+    let mut book = buffer();
+    let count = io::read_full(STDIN_FILENO, &mut book);
+    let mut page = blank_page();
+    let end = paging::board(&book[..count], &mut page);
+    io::write_all(STDOUT_FILENO, &page[..end]);
+}

@@ -1,0 +1,3 @@
+-- The laws of the lines of a page.
+pub mod LineLaws
+pub mod PagingLaws

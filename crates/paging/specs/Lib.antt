@@ -1,0 +1,2 @@
+-- The entries of a page, by their marks and margins.
+pub mod Entries

@@ -154,7 +154,9 @@ impl<'a> Side<'a> {
     }
 }
 
-/// The count of rules, of those that fall, and the score.
+/// The count of rules, of those that fall, and the score: the percentage of rules that fall, rounded to the nearest
+/// whole number, an exact half to the even one; 100 without rules. All rules fall exactly if the counts are equal:
+/// 1,022 of 1,023 score 100 too.
 #[derive(Clone, Copy, Debug, PartialEq, Eq, Hash)]
 pub struct Marked {
     pub rules: usize,

@@ -10,12 +10,10 @@ use mathlib.Core.Path.{_≡_, refl, sym, _∙_}
 use mathlib.Core.Bool.{Bool, true, false}
 use Prim.Native.Nat.{ℕ, _*_, _≤_, _<_}
 use native.Mathlib.Omega.{arith}
-use native.Mathlib.Nat.{div-le-self}
 use lib.ListN.{length, length-map}
-use lib.Dec.{leb, eqb}
+use lib.Dec.{leb}
 use borrow.Author.Tests.{leb-true}
 use Rattle.multisets.proofs.MultisetMaps.{choose-length}
-use Rattle.multisets.proofs.Relations.{byTest}
 use Rattle.terms.specs.Signature.{Signature}
 use Rattle.terms.specs.Words.{termOf}
 use Rattle.terms.specs.Fingerprint.{fingerprint}
@@ -51,6 +49,7 @@ use Rattle.operations.specs.declared.GreaterSide.the-variants.{Left, Right, Equ
 use Rattle.operations.specs.Marking.{summaryOf, marksOf, isDecreasing, decreasingCount, marked}
 use Rattle.operations.specs.Page.{page}
 use Rattle.operations.specs.Paging.{entriesOf, lineBytes, paged}
+use Rattle.operations.proofs.ScoreLaws.{score-le}
 
 abbrev nought : {A : Type 0} → A → ℕ
 nought a = 0
@@ -236,11 +235,9 @@ pub score-small : (file : RuleFile) → length (file .rules) < 1024 →
     Small (summaryOf (marksOf (systemOf file)) .score)
 score-small file h =
     let marks = marksOf (systemOf file) in
-    byTest (eqb (length marks) 0) (λ e. rw e (omega arith))
-    λ e. rw e (omega (
+    omega (
       arith,
-      div-le-self (100 * decreasingCount marks) (length marks),
+      score-le (decreasingCount marks) (length marks),
       rule-marks file,
-      choose-length
-          isDecreasing marks,
-    ))
+      choose-length isDecreasing marks,
+    )

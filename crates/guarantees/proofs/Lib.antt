@@ -3,6 +3,7 @@ pub mod MarkedLaws
 pub mod LikeLaws
 mod PickLaws
 mod PrintLaws
+mod ScoreLaws
 pub mod RoundTrip
 mod ConvertedBits
 pub mod ConversionLaws

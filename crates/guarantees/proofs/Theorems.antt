@@ -46,12 +46,15 @@ use Rattle.guarantees.proofs.PickLaws.{called-picked, called-compared, 
 use Rattle.guarantees.specs.Conversions.{OldBooksRefused, OldBooksConvert, RenamedBooksAgree, NewBooksKept}
 use Rattle.guarantees.proofs.ConversionLaws.{as-long, conversion, converted-wrote, books-agree, new-kept}
 use Rattle.guarantees.proofs.ConversionLaws.{old-refused}
+use Rattle.operations.specs.Score.{scoreOf}
 use Rattle.operations.specs.Page.{page}
 use Rattle.operations.specs.Paging.{entriesOf}
 use Rattle.operations.proofs.EntryLaws.{margin-fits, book-fits}
 use Rattle.operations.proofs.PageLaws.{lines-injective, length-page}
 use Rattle.guarantees.specs.Pages.{PagesTellApart, LinesEven, MarginsFit, BooksFit, BooksToldApart}
 use Rattle.guarantees.proofs.PrintLaws.{line-even}
+use Rattle.guarantees.specs.Scores.{ScoreNearest, FullScore}
+use Rattle.guarantees.proofs.ScoreLaws.{score-is-nearest, nearest-unique, full-score}
 use Rattle.guarantees.specs.RoundTrips.{DecodeThenEncode, EncodeThenDecode}
 use Rattle.guarantees.proofs.RoundTrip.{decode-encode, encode-decode}
 
@@ -246,3 +249,14 @@ books-told-apart bytes bytes' file file' (end, e) (end', e') = (
       (book-fits file' (fromBytes bytes' end' e')),
   λ d. ap page d,
 )
+
+-- ---- scores
+
+pub score-nearest : ScoreNearest
+score-nearest falling rules some score = (
+  λ p. nearest-unique falling rules some score (scoreOf falling rules) p (score-is-nearest falling rules some),
+  λ e. rw e (score-is-nearest falling rules some),
+)
+
+pub full-scores : FullScore
+full-scores = full-score

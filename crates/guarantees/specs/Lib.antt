@@ -3,4 +3,5 @@ pub mod Guarantees
 pub mod Picks
 pub mod Conversions
 pub mod Pages
+pub mod Scores
 pub mod RoundTrips

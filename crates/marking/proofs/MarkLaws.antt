@@ -20,7 +20,8 @@ use Rattle.operations.specs.Replies.Reply.{accepted, refused}
 use Rattle.symbols.specs.Table.{tableWords, maxTableWords}
 use Rattle.reader.specs.File.{HeadParts}
 use Rattle.reader.proofs.FileLaws.{table-of}
-use Rattle.operations.specs.Marking.{marksOf, scoreOf, marked}
+use Rattle.operations.specs.Score.{scoreOf}
+use Rattle.operations.specs.Marking.{marksOf, marked}
 use Rattle.marking.specs.Rule.{IsTable, MarkedAs}
 use Rattle.marking.proofs.WalkLaws.{stored-front}
 

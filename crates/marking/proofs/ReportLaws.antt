@@ -17,7 +17,8 @@ use Rattle.format.specs.Reading.Reading.{got, fault}
 use Rattle.format.specs.Format.{RuleFile, systemOf}
 use Rattle.format.specs.Files.{readBytes}
 use Rattle.operations.specs.Text.{ascii, decimal, signedDecimal, line}
-use Rattle.operations.specs.Marking.{marksOf, marginsOf, scoreOf}
+use Rattle.operations.specs.Score.{scoreOf}
+use Rattle.operations.specs.Marking.{marksOf, marginsOf}
 use Rattle.operations.specs.Report.{ruleLines, summaryLines, report}
 use Rattle.text.specs.Put.{Put}
 use Rattle.text.proofs.TextLaws.{put-append, put-first}

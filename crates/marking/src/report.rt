@@ -3,7 +3,7 @@ ghost use mathlib.Core.Path.{_≡_};
 ghost use Prim.Native.Nat.{_+_, _^_, _≤_, _<_};
 ghost use lib.ListN.{length};
 ghost use lib.Seq.{sets};
-ghost use Rattle.operations.specs.Marking.{scoreOf};
+ghost use Rattle.operations.specs.Score.{scoreOf};
 ghost use Rattle.operations.specs.Report.{summaryLines, report as reportOf};
 ghost use Rattle.text.specs.Put.{Put};
 use crate::lines::long;

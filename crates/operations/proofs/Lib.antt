@@ -4,6 +4,7 @@ pub mod DecimalLaws
 pub mod EntryLaws
 pub mod PageLaws
 pub mod PickingLaws
+pub mod ScoreLaws
 mod CodingChecks
 mod LongFileChecks
 mod ConvertingChecks
@@ -13,3 +14,4 @@ mod VariablesChecks
 mod HashingChecks
 mod MarkingChecks
 mod PageChecks
+mod ScoreChecks

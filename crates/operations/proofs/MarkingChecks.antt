@@ -16,14 +16,15 @@ use Rattle.operations.specs.Replies.{Outcome}
 use Rattle.operations.specs.Replies.Reply.{accepted, refused}
 use Rattle.format.specs.Listing.{listing}
 use Rattle.operations.specs.declared.Summary.{Summary}
+use Rattle.operations.specs.Score.{nearest, scoreOf}
 use Rattle.operations.specs.Marking.{marked}
 use Rattle.operations.specs.Report.{report}
 
 listing-marked : marked listing (7 ∷ 7 ∷ 7 ∷ []) ≡
     record { reply = accepted (record { rules = 2; decreasing = 1; score = 50 }); output = 2 ∷ 10 ∷ 7 ∷ [] }
-unfolding marked readBytesIn wholeReader fileReader bodyReader symbolsReader symbolReader rulesReader ruleReader
-    forestReader bitField forestOf mark isGreater isGreaterTo decreasingMark rootMark flattenedMark noneOftener
-    isEquivalent isEquivalentTo rowEqual rowGreater multisetEqual multisetGreater
+unfolding marked scoreOf nearest readBytesIn wholeReader fileReader bodyReader symbolsReader symbolReader rulesReader
+    ruleReader forestReader bitField forestOf mark isGreater isGreaterTo decreasingMark rootMark flattenedMark
+    noneOftener isEquivalent isEquivalentTo rowEqual rowGreater multisetEqual multisetGreater
 listing-marked = refl
 
 abbrev refusal : ℕ → ℕ → ℕ → List ℕ → Outcome Summary
@@ -41,9 +42,9 @@ empty-refused = refl
 
 -- 01's own text.
 listing-prints : report listing ≡ ascii "rules 2\n0 2 0\n1 10 0\nscore 50\nreturned\n"
-unfolding report digits readBytesIn wholeReader fileReader bodyReader symbolsReader symbolReader rulesReader ruleReader
-    forestReader bitField forestOf mark isGreater isGreaterTo decreasingMark rootMark flattenedMark noneOftener
-    isEquivalent isEquivalentTo rowEqual rowGreater multisetEqual multisetGreater
+unfolding report scoreOf nearest digits readBytesIn wholeReader fileReader bodyReader symbolsReader symbolReader
+    rulesReader ruleReader forestReader bitField forestOf mark isGreater isGreaterTo decreasingMark rootMark
+    flattenedMark noneOftener isEquivalent isEquivalentTo rowEqual rowGreater multisetEqual multisetGreater
 listing-prints = refl
 
 empty-prints : report [] ≡ ascii "refusal 2 0\n"

@@ -7,6 +7,7 @@ pub mod Comparing
 pub mod Picking
 pub mod Variables
 pub mod Hashing
+pub mod Score
 pub mod Marking
 pub mod Text
 pub mod Report

@@ -1,12 +1,12 @@
 -- What marking the rules of a rule file gives back, the reply and the marks afterwards, for every input.
 -- Renders: 01, "Replies and refusals": "Marking (book, marks). The book, then 12", its reply, and "One mark byte a rule
--- is written, the rest unchanged. Score: 100 times falling rules divided by N, rounded down; 100 if N is 0."
+-- is written, the rest unchanged."
 use mathlib.Core.List.{List, map}
-use mathlib.Core.Bool.{Bool, cond, _&&_}
-use Prim.Native.Nat.{ℕ, _*_, _/_}
+use mathlib.Core.Bool.{Bool, _&&_}
+use Prim.Native.Nat.{ℕ}
 use lib.IntN.{ℤ}
 use lib.ListN.{length}
-use lib.Dec.{eqb, leb}
+use lib.Dec.{leb}
 use Rattle.multisets.specs.Multiset.{choose}
 use Rattle.terms.specs.Order.{mark, margin}
 use Rattle.terms.specs.Rewriting.{System, Rule}
@@ -14,6 +14,7 @@ use Rattle.format.specs.Errors.{marksTooShort}
 use Rattle.format.specs.Format.{systemOf}
 use Rattle.format.specs.Files.{readBytes}
 use Rattle.operations.specs.declared.Summary.{Summary}
+use Rattle.operations.specs.Score.{scoreOf}
 use Rattle.operations.specs.Replies.{Reply, Written, Outcome, _>>=_, _>>_, fromInput, demand, outcome}
 use Rattle.operations.specs.Replies.Reply.{accepted}
 
@@ -30,10 +31,6 @@ isDecreasing m = leb 1 m && leb m 6
 -- 01: the count of marks 1 to 6, the falling rules.
 abbrev pub decreasingCount : List ℕ → ℕ
 decreasingCount marks = length (choose isDecreasing marks)
-
--- The percentage of decreasing rules, rounded down; 100 where there is no rule.
-abbrev pub scoreOf : ℕ → ℕ → ℕ
-scoreOf decreasing rules = cond (eqb rules 0) 100 (100 * decreasing / rules)
 
 -- 01: N, the count of marks 1 to 6, the score.
 abbrev pub summaryOf : List ℕ → Summary

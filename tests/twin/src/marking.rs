@@ -1,5 +1,6 @@
 //! Marking: orienting every rule of a rule file, and the text that the program `marker` prints.
 
+use std::cmp::Ordering;
 use std::io::Write;
 
 use crate::error::{Error, MARKS_TOO_SHORT};
@@ -59,7 +60,16 @@ pub fn orientations(system: &System) -> impl Iterator<Item = (Orientation, i64)>
     system.rules().map(move |(left, right)| comparer.orient(left, right))
 }
 
-/// The percentage of decreasing rules, rounded down; 100 where there is no rule.
+/// The percentage of decreasing rules, rounded to the nearest whole number, an exact half to the even one; 100 where
+/// there is no rule.
 fn score(falling: usize, rules: usize) -> usize {
-    (FULL_SCORE * falling).checked_div(rules).unwrap_or(FULL_SCORE)
+    if rules == 0 {
+        return FULL_SCORE;
+    }
+    let (below, left) = (FULL_SCORE * falling / rules, FULL_SCORE * falling % rules);
+    match (2 * left).cmp(&rules) {
+        Ordering::Less => below,
+        Ordering::Greater => below + 1,
+        Ordering::Equal => below.next_multiple_of(2),
+    }
 }

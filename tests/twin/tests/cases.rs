@@ -7,7 +7,7 @@ mod examples;
 use std::fs;
 use std::path::Path;
 
-use common::{Example, Theory};
+use common::{nearest_percent, Example, Theory};
 use examples::sample::{sample, CASES, COMPARISONS, CONVERSIONS, FINGERPRINTS, OFTENER, PICKS};
 use examples::{articles, sample};
 use twin::format::Form;
@@ -145,13 +145,35 @@ fn listing_has_its_page() {
 }
 
 #[test]
-fn score_is_rounded_down() {
+fn score_is_rounded_to_the_nearest_and_a_half_to_the_even_one() {
     let theory = sample();
-    let score = |rules: &[&str]| mark(&theory.book(rules), &mut [0; 3]).unwrap().score;
-    assert_eq!(score(&["z -> o", "o -> z", "o -> z"]), 33);
-    assert_eq!(score(&["z -> o", "z -> o", "o -> z"]), 66);
-    assert_eq!(score(&["o -> z"]), 0);
-    assert_eq!(score(&[]), 100);
+    let score = |falling: usize, rules: usize| {
+        let book = theory.book(&[vec!["z -> o"; falling], vec!["o -> z"; rules - falling]].concat());
+        mark(&book, &mut vec![0; rules]).unwrap().score
+    };
+    for (falling, rules, percent) in [
+        (1, 8, 12),
+        (3, 8, 38),
+        (5, 8, 62),
+        (7, 8, 88),
+        (1, 2, 50),
+        (1, 200, 0),
+        (3, 200, 2),
+        (0, 0, 100),
+        (1, 3, 33),
+        (2, 3, 67),
+        (1_022, 1_023, 100),
+        (1_023, 1_023, 100),
+    ] {
+        assert_eq!(score(falling, rules), percent, "{falling} of {rules}");
+    }
+    for rules in 1..=40 {
+        for falling in 0..=rules {
+            assert_eq!(score(falling, rules), nearest_percent(falling, rules), "{falling} of {rules}");
+        }
+    }
+    let nearly = text(&theory.book(&[vec!["z -> o"; 1_022], vec!["o -> z"]].concat()));
+    assert!(nearly.ends_with("score 100\nreturned\n"), "a rule does not fall");
 }
 
 #[test]

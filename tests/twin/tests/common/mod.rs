@@ -106,7 +106,7 @@ impl Example {
         let rules = self.cases.len();
         let falling = self.cases.iter().filter(|(_, mark, _)| DECREASING.contains(mark)).count();
         let verdict = if falling == rules { "accepted" } else { "returned" };
-        let text = format!("rules {rules}\n{lines}score {}\n{verdict}\n", 100 * falling / rules);
+        let text = format!("rules {rules}\n{lines}score {}\n{verdict}\n", nearest_percent(falling, rules));
         assert_eq!(self.report(), text, "{}", self.title);
     }
 
@@ -115,6 +115,12 @@ impl Example {
         let rules: Vec<&str> = self.cases.iter().map(|(rule, ..)| rule.as_str()).collect();
         String::from_utf8(report(&self.theory.book(&rules))).expect("a report is text")
     }
+}
+
+/// Of the whole percentages, the one nearest to that of the falling rules; of two such, the even one.
+pub fn nearest_percent(falling: usize, rules: usize) -> usize {
+    let distance = |score: &usize| (score * rules).abs_diff(100 * falling);
+    (0..=100).min_by_key(|score| (distance(score), score % 2)).expect("there are percentages")
 }
 
 fn is_infix(name: &str) -> bool {

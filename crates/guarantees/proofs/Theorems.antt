@@ -1,5 +1,5 @@
 -- The claims of specs/.
-use mathlib.Core.List.{List, List·Memᴰ}
+use mathlib.Core.List.{List, [], List·Memᴰ, append-nil}
 use mathlib.Core.Path.{_≡_, refl, sym, ap, _∙_}
 use mathlib.Core.Bool.{true}
 use Prim.Native.Nat.{ℕ, _≤_}
@@ -8,12 +8,14 @@ use lib.ListN.{length, getD, take, length-map}
 use Rattle.terms.specs.Signature.{Admissible}
 use Rattle.terms.specs.Term.Term.{var}
 use Rattle.terms.specs.Words.{firstVariable, words}
-use Rattle.terms.specs.Order.{mark}
+use Rattle.terms.specs.Order.{mark, margin}
 use Rattle.terms.specs.Oftener.{firstOftener}
 use Rattle.terms.specs.Rewriting.{Rule, WellFormedRules, AllDecreasing}
+use Rattle.terms.specs.Steinbach.{SteinbachGreater}
 use Rattle.theory.proofs.Theorems.{greater-irreflexive, greater-transitive, closed-under-contexts, derivations-descend}
 use Rattle.theory.proofs.Theorems.{step-ceiling}
 use Rattle.theory.proofs.Theorems.{exactly-one-mark, decreasing-marks, test-decides-article}
+use Rattle.theory.proofs.Theorems.{agrees-with-steinbach, test-decides-steinbach}
 use Rattle.format.specs.Reading.{Reading}
 use Rattle.format.specs.Reading.Reading.{got, fault}
 use Rattle.format.specs.Format.{RuleFile, systemOf}
@@ -55,6 +57,8 @@ use Rattle.guarantees.specs.Pages.{PagesTellApart, LinesEven, MarginsFit
 use Rattle.guarantees.proofs.PrintLaws.{line-even}
 use Rattle.guarantees.specs.Scores.{ScoreNearest, FullScore}
 use Rattle.guarantees.proofs.ScoreLaws.{score-is-nearest, nearest-unique, full-score}
+use Rattle.guarantees.specs.Steinbach.{RelationAsSteinbach, ComparesAsSteinbach}
+use Rattle.guarantees.proofs.RelationLaws.{relation-exact, relation-accepted}
 use Rattle.guarantees.specs.RoundTrips.{DecodeThenEncode, EncodeThenDecode}
 use Rattle.guarantees.proofs.RoundTrip.{decode-encode, encode-decode}
 
@@ -175,6 +179,25 @@ pub picks-as-compared : PicksAsCompared
 picks-as-compared bytes file s t c =
     let f = few bytes file (c .holds) in
     (called-compared bytes file f s t c, called-picked bytes (words s) (words t) file f s t c)
+
+-- ---- Steinbach's order
+
+pub relation-as-steinbach : RelationAsSteinbach
+relation-as-steinbach bytes file h L s t v w =
+    let σ = file .signature in
+    let A = admissible bytes file h in
+    relation-exact σ A (SteinbachGreater σ)
+    (λ a b x y. rw (agrees-with-steinbach σ L A a b x y) (test-decides-steinbach σ A a b x y)) s t v w
+
+pub compares-as-steinbach : ComparesAsSteinbach
+compares-as-steinbach bytes file h L s t v w i j r =
+    let c = called-compared bytes file (few bytes file h) s t (record {
+      holds = h;
+      leftBegins = record { wellFormed = v; short = i; rest = []; spelled = sym (append-nil (words s)) };
+      rightBegins = record { wellFormed = w; short = j; rest = []; spelled = sym (append-nil (words t)) };
+    }) in
+    let (to, from) = relation-as-steinbach bytes file h L s t v w r in
+    (λ p. to (relation-accepted (sym c ∙ p .1)), λ p. (margin (file .signature) s t, c ∙ rw (from p)))
 
 -- ---- marks
 

@@ -5,3 +5,4 @@ pub mod Conversions
 pub mod Pages
 pub mod Scores
 pub mod RoundTrips
+pub mod Steinbach

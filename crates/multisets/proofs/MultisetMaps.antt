@@ -1,10 +1,11 @@
 -- Multisets under choosing and flattening.
---     choose-append, -length, -member, -none, -same   what is chosen of a list; some-member, an element that passes
+--     choose-append, -length, -member, -none, -same   what is chosen of a list
+--     some-member, some-of-member                     an element that passes
 --     choose-in, choose-out, multisetEqual-choose     choosing by a test that respects likeness
 use mathlib.Core.List.{List, [], _∷_, _++_, flatMap, List·Memᴰ, List·Memᴰ·head, List·Memᴰ·tail}
 use mathlib.Core.List.{List·Memᴰ·not-nil, append-assoc}
 use mathlib.Core.Path.{_≡_, refl, sym, ap, ap₂, _∙_}
-use mathlib.Core.Bool.{Bool, true, false, cond, true≢false, false≢true}
+use mathlib.Core.Bool.{Bool, true, false, cond, true≢false, false≢true, or-true}
 use Prim.Native.Nat.{ℕ, _+_, _≤_}
 use lib.ListN.{length}
 use native.Mathlib.Omega.{arith}
@@ -52,6 +53,10 @@ module _ {A : Type 0} (p : A → Bool) where
   some-member (a ∷ l) e =
       byTest (p a) (λ h. (a, List·Memᴰ·head refl, h))
       λ h. let (b, m, k) = some-member l (rw h at e) in (b, List·Memᴰ·tail m, k)
+
+  pub some-of-member : {a : A} {l : List A} → List·Memᴰ a l → p a ≡ true → some p l ≡ true
+  some-of-member (List·Memᴰ·head e) h = rw (← e, h)
+  some-of-member (List·Memᴰ·tail {x = b} m) h = rw (some-of-member m h) (or-true (p b))
 
 module _ {A : Type 0} (like : A → A → Bool) (E : IsEquivalence like) (p : A → Bool) (k : Respects like p) where
   told-apart : (a b : A) → (p a ≡ p b → ⊥) → like a b ≡ false

@@ -1,17 +1,17 @@
 -- The multiset extension of an order, by counts: it is a strict order, and what it is unchanged by.
 --     Covering, CoversList, Dominates, Exchange  what the extension says: by elements, by surpluses, by parts
---     multisetGreater-counts                     the test says it by surpluses
+--     multisetGreater-equal, -counts             equal lists are not above; the test says it by surpluses
 --     climb                                      a highest element in surplus, at or above a given one
 --     multisetGreater-order                      transitive, irreflexive, compatible
 --     multisetGreater-mono                       lists added to both sides and taken away
---     multisetGreater-part, multiset-part        proper parts
+--     multiset-covered, multiset-part            above or equal: where what is lacking is covered; a part
 --     multisetGreater-exchange, -lists           the existential form of the articles
 --     multisetGreater-one                        one element above all of a list
 -- That it is total where the order is stands in Totality.
 use mathlib.Core.List.{List, [], _∷_, _++_, List·Memᴰ}
 use mathlib.Core.Path.{_≡_, sym, ap, _∙_}
 use mathlib.Core.Logic.{_↔_, _⊎_, inl, inr}
-use mathlib.Core.Bool.{Bool, true, not, false≢true, and-eq-true-iff as both}
+use mathlib.Core.Bool.{Bool, true, false, not, false≢true, and-eq-true-iff as both}
 use Prim.Native.Nat.{_+_, _≤_, _<_}
 use native.Mathlib.Omega.{arith}
 use borrow.Author.Tests.{not-false}
@@ -65,6 +65,12 @@ module _ {A : Type 0} (like : A → A → Bool) where
       pub fromLeft : (a : A) → count like a ss ≡ count like a common + count like a left
       pub fromRight : (a : A) → count like a ts ≡ count like a common + count like a right
       pub covers : CoversList left right
+
+    -- Of any order.
+    pub multisetGreater-equal : (ss ts : List A) → multisetEqual like ss ts ≡ true →
+        multisetGreater like greater ss ts ≡ false
+    unfolding multisetEqual multisetGreater
+    multisetGreater-equal ss ts e = rw (both (isEmpty (cancel like ss ts .left)) _ .0 e .0)
 
   module _ (E : IsEquivalence like) where
     module _ (greater : A → A → Bool) (O : IsStrictOrder like greater) where
@@ -189,23 +195,24 @@ module _ {A : Type 0} (like : A → A → Bool) where
             λ a. omega (arith, multisetEqual-counts like E l l' .0 e a, multisetEqual-counts like E m m' .0 f a);
       }
 
-      -- A list is above each proper part of it.
-      pub multisetGreater-part : (ss ts : List A) → ((a : A) → count like a ts ≤ count like a ss) → (s : A) →
-          count like s ts < count like s ss →
-          multisetGreater like greater ss ts ≡ true
-      multisetGreater-part ss ts h s k =
-          multisetGreater-counts ss ts .1 (record { top = (s, k); over = λ t n. absurd (omega (arith, h t)) })
-
-      pub multiset-part : (ss ts : List A) → ((a : A) → count like a ts ≤ count like a ss) →
+      -- Where each that is lacking has one in surplus above it: above, or equal.
+      pub multiset-covered : (ss ts : List A) →
+          ((t : A) → Surplus ts ss t → (s : A) × Surplus ss ts s × (greater s t ≡ true)) →
           (multisetGreater like greater ss ts ≡ true) ⊎ (multisetEqual like ss ts ≡ true)
-      multiset-part ss ts h =
+      multiset-covered ss ts over =
           let l = cancel like ss ts .left in
           let c = cancel-difference like E ss ts .counts in
           byTest (not (isEmpty l))
-          (λ e. let w = nonempty-counts like E l .0 e in
-          inl (multisetGreater-part ss ts h (w .0) (omega (arith, c (w .0)))))
-          λ e. inr (multisetEqual-counts like E ss ts .1
-          λ a. omega (arith, h a, c a, isEmpty-sum (λ b. bit (like a b)) l (not-false (isEmpty l) e)))
+          (λ e. let (s, k) = nonempty-counts like E l .0 e in
+          inl (multisetGreater-counts ss ts .1 (record { top = (s, omega (arith, c s)); over = over })))
+          λ e. let none : (a : A) → count like a l ≡ 0 =
+          λ a. isEmpty-sum (λ b. bit (like a b)) l (not-false (isEmpty l) e) in
+          inr (multisetEqual-counts like E ss ts .1 λ a. byOrder (count like a ss) (count like a ts)
+          (λ k. let (s, j, g) = over a k in absurd (omega (arith, c s, none s))) λ k. omega (arith, c a, none a))
+
+      pub multiset-part : (ss ts : List A) → ((a : A) → count like a ts ≤ count like a ss) →
+          (multisetGreater like greater ss ts ≡ true) ⊎ (multisetEqual like ss ts ≡ true)
+      multiset-part ss ts h = multiset-covered ss ts λ t k. absurd (omega (arith, h t))
 
       -- What is exchanged has a highest element, which is in surplus.
       exchange-rise : (ss ts : List A) (x : Exchange greater ss ts) (s : A) → 0 < count like s (x .left) →

@@ -1,11 +1,12 @@
 -- The laws of rows: likeness element by element, and the lexicographic extension of an order.
 --     rowEqual-length, rowEqual-equivalence     equal lengths; an equivalence
+--     rowGreater-equal                          equal rows are not greater, whatever the order is
 --     rowGreater-order                          a strict order; no equal lengths are asked
 --     rowGreater-among                          one element greater, the others the same
 -- That it is total where the order is stands in Totality.
 use mathlib.Core.List.{List, [], _∷_, _++_}
 use mathlib.Core.Path.{_≡_, refl, ap}
-use mathlib.Core.Bool.{Bool, true, false≢true, and-eq-true-iff as both}
+use mathlib.Core.Bool.{Bool, true, false, false≢true, and-eq-true-iff as both}
 use Prim.Native.Nat.{suc}
 use lib.ListN.{length}
 use Rattle.multisets.proofs.Relations.{byTest, IsEquivalence, IsStrictOrder, unlike-of-greater}
@@ -18,6 +19,14 @@ module _ {A : Type 0} (like : A → A → Bool) where
   rowEqual-length [] (b ∷ m) e = absurd (false≢true e)
   rowEqual-length (a ∷ l) [] e = absurd (false≢true e)
   rowEqual-length (a ∷ l) (b ∷ m) e = ap suc (rowEqual-length l m (both (like a b) _ .0 e .1))
+
+  pub rowGreater-equal : (greater : A → A → Bool) (l m : List A) → rowEqual like l m ≡ true →
+      rowGreater like greater l m ≡ false
+  unfolding rowEqual rowGreater
+  rowGreater-equal greater [] m e = refl
+  rowGreater-equal greater (a ∷ l) [] e = refl
+  rowGreater-equal greater (a ∷ l) (b ∷ m) e =
+      let h = both (like a b) _ .0 e in rw (h .0) (rowGreater-equal greater l m (h .1))
 
   module _ (E : IsEquivalence like) where
     rowEqual-refl : (l : List A) → rowEqual like l l ≡ true

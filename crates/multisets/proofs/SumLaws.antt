@@ -2,6 +2,7 @@
 --     length-flatMap, count-choose-flatMap     of lists that are joined
 --     sum-less-one, sum-choose-le, sum-split   less one each; of the elements chosen by a test, by either of two tests
 --     sum-le, sum-parts                        a part sums up to no more; two parts sum up to the whole
+--     length-lt                                a proper part is shorter
 --     sum-member, sum-pos                      a positive sum and its elements
 use mathlib.Core.List.{List, [], _∷_, _++_, flatMap, List·Memᴰ, List·Memᴰ·head, List·Memᴰ·tail}
 use mathlib.Core.Path.{_≡_, refl, sym, ap, _∙_}
@@ -11,9 +12,9 @@ use native.Mathlib.Omega.{arith}
 use lib.ListN.{length, length-append}
 use Rattle.multisets.specs.Multiset.{choose, cancel}
 use Rattle.multisets.proofs.Relations.{byTest, byOrder, IsEquivalence}
-use Rattle.multisets.proofs.MultisetLaws.{bit, sum, sum-append, isEmpty-sum, count, Respects, count-append}
-use Rattle.multisets.proofs.MultisetLaws.{count-here, cancel-difference, isEmpty-counts, multisetEqual-counts}
-use Rattle.multisets.proofs.MultisetLaws.{multisetEqual-sum}
+use Rattle.multisets.proofs.MultisetLaws.{bit, sum, sum-append, sum-one, isEmpty-sum, count, Respects}
+use Rattle.multisets.proofs.MultisetLaws.{count-append, count-resp, count-here, cancel-difference}
+use Rattle.multisets.proofs.MultisetLaws.{isEmpty-counts, multisetEqual-counts, multisetEqual-sum}
 use Rattle.multisets.proofs.MultisetMaps.{choose-append}
 
 module _ {A B : Type 0} where
@@ -82,3 +83,16 @@ module _ {A : Type 0} (like : A → A → Bool) (E : IsEquivalence like) where
     sum-pos (b ∷ l) h =
         byOrder 0 (w b) (λ i. (b, count-here like E b l, i))
         λ i. let (a, n, j) = sum-pos l (omega arith) in (a, omega arith, j)
+
+  -- A proper part is shorter.
+  pub length-lt : (ss ts : List A) → ((a : A) → count like a ts ≤ count like a ss) → (s : A) →
+      count like s ts < count like s ss → length ts < length ss
+  length-lt ss ts h s k =
+      omega (
+        arith,
+        sum-one ss,
+        sum-one (s ∷ ts),
+        sum-le (λ a. 1) (λ a b e. refl) ss (s ∷ ts) λ a. byTest (like a s)
+            (λ e. omega (arith, ap bit e, count-resp like E e ss, count-resp like E e ts))
+            λ e. omega (arith, ap bit e, h a),
+      )

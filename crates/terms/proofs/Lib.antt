@@ -7,6 +7,8 @@ pub mod EquivalenceComplete
 pub mod EquivalenceMeasures
 pub mod EquivalenceSound
 pub mod OrderLaws
+pub mod IteratedLaws
+pub mod SteinbachLaws
 pub mod OftenerLaws
 pub mod WordsLaws
 pub mod RewritingLaws

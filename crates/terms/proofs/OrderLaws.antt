@@ -6,7 +6,7 @@
 --     isGreaterTo-depth, isGreater-unfolds                 from the size on the depth does not matter
 use mathlib.Core.List.{List, _++_, List·Memᴰ·append-cases}
 use mathlib.Core.Logic.{_↔_, ⊎-elim}
-use mathlib.Core.Path.{_≡_, refl, sym, ap, ap₂, _∙_}
+use mathlib.Core.Path.{_≡_, refl, ap, ap₂, _∙_}
 use mathlib.Core.Bool.{Bool, true, false, _&&_, and-eq-true-iff as both, true≢false}
 use Prim.Native.Nat.{ℕ, suc, zero, _≤_, _<_}
 use native.Mathlib.Omega.{arith}
@@ -23,8 +23,8 @@ use Rattle.terms.specs.Order.{isGreater}
 use Rattle.multisets.proofs.Relations.{byTest}
 use Rattle.multisets.proofs.Agreement.{Agree, cancel-leaves, cancel-agree, multisetEqual-agree, multisetGreater-agree}
 use Rattle.multisets.proofs.Agreement.{rowGreater-agree}
-use Rattle.terms.proofs.TermLaws.{size-pos, Each, each-choose, Parts, smaller-parts, any-parts, AgreeOn}
-use Rattle.terms.proofs.TermLaws.{each-agree}
+use Rattle.terms.proofs.TermLaws.{Each, each-choose, Parts, smaller-parts, any-parts, AgreeOn, each-agree}
+use Rattle.terms.proofs.TermLaws.{AsksSmaller, depth, without-depth}
 
 -- ---- occurrences
 
@@ -128,29 +128,19 @@ module _ (σ : Signature) (P Q : Term → Type 0) (like like' : Term → Term �
 -- ---- depth
 
 module _ (σ : Signature) where
-  -- Orders of the parts that agree on smaller terms on the left.
-  smaller-agree : (greater greater' : Term → Term → Bool) (s t : Term) →
-      ((a b : Term) → size a < size s → greater a b ≡ greater' a b) →
-      ltb 0 (decreasingMark σ (isEquivalent σ) greater s t) ≡ ltb 0 (decreasingMark σ (isEquivalent σ) greater' s t)
-  smaller-agree greater greater' s t h =
+  abbrev step : (Term → Term → Bool) → Term → Term → Bool
+  step greater s t = ltb 0 (decreasingMark σ (isEquivalent σ) greater s t)
+
+  asks-smaller : AsksSmaller step
+  asks-smaller greater greater' s t h =
       ap (ltb 0) (decreasingMark-agree σ (λ a. size a < size s) (λ b. Unit {0}) (isEquivalent σ) (isEquivalent σ)
       (λ a b p q. refl) greater greater' (λ a b p q. h a b p) s t (smaller-parts s) (any-parts t))
 
-  depth : (n m : ℕ) (s t : Term) → size s ≤ n → size s ≤ m → isGreaterTo σ n s t ≡ isGreaterTo σ m s t
-  unfolding isGreaterTo
-  depth zero m s t h k = absurd (omega (arith, size-pos s))
-  depth (suc n) zero s t h k = absurd (omega (arith, size-pos s))
-  depth (suc n) (suc m) s t h k =
-      smaller-agree (isGreaterTo σ n) (isGreaterTo σ m) s t λ a b l. depth n m a b (omega arith) (omega arith)
-
   pub isGreaterTo-depth : (n : ℕ) (s t : Term) → size s ≤ n → isGreater σ s t ≡ isGreaterTo σ n s t
-  unfolding isGreater
-  isGreaterTo-depth n s t h = depth (size s) n s t (omega arith) h
+  unfolding isGreaterTo isGreater
+  isGreaterTo-depth n s t = depth step asks-smaller (isGreaterTo σ) (λ n s t. refl) (size s) n s t (omega arith)
 
   pub isGreater-unfolds : (s t : Term) →
       isGreater σ s t ≡ ltb 0 (decreasingMark σ (isEquivalent σ) (isGreater σ) s t)
-  unfolding isGreaterTo
-  isGreater-unfolds s t =
-      isGreaterTo-depth (suc (size s)) s t (omega arith)
-      ∙ smaller-agree (isGreaterTo σ (size s)) (isGreater σ) s t
-      λ a b l. sym (isGreaterTo-depth (size s) a b (omega arith))
+  unfolding isGreaterTo isGreater
+  isGreater-unfolds = without-depth step asks-smaller (isGreaterTo σ) λ n s t. refl

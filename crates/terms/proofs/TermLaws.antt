@@ -4,12 +4,13 @@
 --     Hereditary, row-each, flattening-each                 a property that goes down to the parts holds of them
 --     row-smaller, flattenings-smaller, flattenings-formed  two such properties
 --     Each, Parts, AgreeOn, each-agree                      what holds of a list, of all parts; tests that agree
+--     depth, without-depth                                  a test by depth: from the size on it does not matter
 use mathlib.Core.List.{List, [], _∷_, _++_, List·Memᴰ, List·Memᴰ·head, List·Memᴰ·tail, List·Memᴰ·append-cases}
 use mathlib.Core.List.{List·Memᴰ·eq-of-singleton, List·Memᴰ·not-nil, Memᴰ·append-right}
 use mathlib.Core.Logic.{⊎-elim}
-use mathlib.Core.Path.{_≡_, refl, ap}
+use mathlib.Core.Path.{_≡_, refl, sym, ap, _∙_}
 use mathlib.Core.Bool.{Bool}
-use Prim.Native.Nat.{ℕ, _≤_, _<_}
+use Prim.Native.Nat.{ℕ, suc, zero, _≤_, _<_}
 use native.Mathlib.Omega.{arith}
 use lib.Dec.{eqb}
 use Rattle.multisets.specs.Multiset.{choose}
@@ -107,6 +108,10 @@ pub formed-parts : (σ : Signature) (t : Term) → WellFormed σ t → Parts (We
 formed-parts σ (var x) w = tt
 formed-parts σ (app f ts) w = (λ a. row-each (formed σ) a ts (w .2), λ g. flattenings-formed σ ts g (w .2))
 
+pub parts-both : (P Q : Term → Type 0) (t : Term) → Parts P t → Parts Q t → Parts (λ (a : Term). P a × Q a) t
+parts-both P Q (var x) p q = tt
+parts-both P Q (app f ts) p q = (λ a m. (p .0 a m, q .0 a m), λ g a m. (p .1 g a m, q .1 g a m))
+
 -- Two tests that agree where P holds on the left and Q on the right.
 abbrev pub AgreeOn : (Term → Type 0) → (Term → Type 0) → (Term → Term → Bool) → (Term → Term → Bool) → Type 0
 AgreeOn P Q test test' = (a b : Term) → P a → Q b → test a b ≡ test' a b
@@ -114,3 +119,25 @@ AgreeOn P Q test test' = (a b : Term) → P a → Q b → test a b ≡ test' a b
 pub each-agree : {P Q : Term → Type 0} {test test' : Term → Term → Bool} → AgreeOn P Q test test' →
     {l m : List Term} → Each P l → Each Q m → Agree l m test test'
 each-agree k p q a b i j = k a b (p a i) (q b j)
+
+-- ---- tests by depth
+
+-- A step that asks its test only of smaller terms on the left.
+abbrev pub AsksSmaller : ((Term → Term → Bool) → Term → Term → Bool) → Type 0
+AsksSmaller step =
+    (test test' : Term → Term → Bool) (s t : Term) → ((a b : Term) → size a < size s → test a b ≡ test' a b) →
+    step test s t ≡ step test' s t
+
+module _ (step : (Term → Term → Bool) → Term → Term → Bool) (asks : AsksSmaller step) (to : ℕ → Term → Term → Bool)
+    (next : (n : ℕ) (s t : Term) → to (suc n) s t ≡ step (to n) s t) where
+  pub depth : (n m : ℕ) (s t : Term) → size s ≤ n → size s ≤ m → to n s t ≡ to m s t
+  depth zero m s t h k = absurd (omega (arith, size-pos s))
+  depth (suc n) zero s t h k = absurd (omega (arith, size-pos s))
+  depth (suc n) (suc m) s t h k =
+      next n s t ∙ asks (to n) (to m) s t (λ a b l. depth n m a b (omega arith) (omega arith)) ∙ sym (next m s t)
+
+  pub without-depth : (s t : Term) → to (size s) s t ≡ step (λ a b. to (size a) a b) s t
+  without-depth s t =
+      depth (size s) (suc (size s)) s t (omega arith) (omega arith)
+      ∙ next (size s) s t
+      ∙ asks (to (size s)) (λ a b. to (size a) a b) s t λ a b l. depth (size s) (size a) a b (omega arith) (omega arith)

@@ -9,10 +9,10 @@ use lib.ListN.{length}
 use Rattle.terms.specs.Signature.{Signature, symbolOf}
 use Rattle.terms.specs.Term.{Term, Terms, row, weight, occurrences, flattenings, isVar}
 use Rattle.terms.specs.Term.Term.{var, app}
-use Rattle.terms.specs.Term.Terms.{nil, cons}
 use Rattle.multisets.specs.Multiset.{choose, cancel}
 use Rattle.terms.specs.Equivalence.{Equivalent, isEquivalent}
 use Rattle.terms.specs.Order.{rootBelow}
+use Rattle.terms.specs.Iterated.{Iterated}
 
 -- Two lists are one multiset.
 pub data Permutation {A : Type 0} : List A → List A → Type 0 where
@@ -20,11 +20,6 @@ pub data Permutation {A : Type 0} : List A → List A → Type 0 where
   keep : {a : A} {l m : List A} → Permutation l m → Permutation (a ∷ l) (a ∷ m)
   swap : {a b : A} {l : List A} → Permutation (a ∷ (b ∷ l)) (b ∷ (a ∷ l))
   after : {l m n : List A} → Permutation l m → Permutation m n → Permutation l n
-
--- s = f^k(t) for some k > 0.
-pub data Iterated (f : ℕ) : Term → Term → Type 0 where
-  once : {t : Term} → Iterated f (app f (cons t nil)) t
-  more : {s t : Term} → Iterated f s t → Iterated f (app f (cons s nil)) t
 
 module _ (σ : Signature) where
   -- |s|x ≥ |t|x for all variables x, and the weights are equal.

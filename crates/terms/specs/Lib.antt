@@ -8,7 +8,9 @@ pub mod Fingerprint
 pub mod Order
 pub mod Oftener
 pub mod Marks
+pub mod Iterated
 pub mod Article
+pub mod Steinbach
 pub mod Rewriting
 pub mod Renaming
 pub mod FirstUse

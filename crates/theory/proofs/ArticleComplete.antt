@@ -13,9 +13,10 @@ use Rattle.terms.specs.Term.Term.{var, app}
 use Rattle.terms.specs.Term.Terms.{nil, cons}
 use Rattle.terms.specs.Equivalence.{Equivalent, isEquivalent}
 use Rattle.terms.specs.Order.{rootAbove, rootBelow, highPart, lowPart, joinedHigh, highEqual, isGreater}
-use Rattle.terms.specs.Article.{Iterated, Even, MultisetEquivalent, notBelow, notBelowJoined, Greater}
+use Rattle.terms.specs.Article.{Even, MultisetEquivalent, notBelow, notBelowJoined, Greater}
 use Rattle.terms.specs.Article.Greater.{heavier, case1, case2, case3a, case3b, case3c}
-use Rattle.terms.specs.Article.Iterated.{once, more}
+use Rattle.terms.specs.Iterated.{Iterated}
+use Rattle.terms.specs.Iterated.Iterated.{once, more}
 use Rattle.multisets.proofs.MultisetMaps.{choose-same}
 use Rattle.terms.proofs.TermLaws.{size-pos, row-each, formed, row-smaller, flattenings-smaller, flattenings-formed}
 use Rattle.terms.proofs.TermLaws.{Each, each-choose, Parts}

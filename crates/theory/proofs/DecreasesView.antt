@@ -60,7 +60,7 @@ module _ (σ : Signature) (like greater : Term → Term → Bool) where
   rootMark-same f ss ts = rw (le-ltb (symbolOf σ f .precedence) (symbolOf σ f .precedence) (omega arith), eqb-self)
 
   module _ (f : ℕ) (ss ts : List Term) where
-    flattened-of-mark : ltb 0 (flattenedMark σ like greater f ss ts) ≡ true →
+    pub flattened-of-mark : ltb 0 (flattenedMark σ like greater f ss ts) ≡ true →
         FlattenedDecreases σ like greater f ss ts
     unfolding flattenedMark
     flattened-of-mark h =
@@ -72,7 +72,7 @@ module _ (σ : Signature) (like greater : Term → Term → Bool) where
         λ b. absurd (false≢true (rw (e, d, c, b) at h)))
         λ d. absurd (false≢true (rw (e, d) at h))
 
-    mark-of-flattened : FlattenedDecreases σ like greater f ss ts →
+    pub mark-of-flattened : FlattenedDecreases σ like greater f ss ts →
         ltb 0 (flattenedMark σ like greater f ss ts) ≡ true
     unfolding flattenedMark
     mark-of-flattened (byHigh e) = rw e

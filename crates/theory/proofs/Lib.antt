@@ -14,6 +14,9 @@ pub mod PermutationLaws
 pub mod ArticleTests
 pub mod ArticleComplete
 pub mod ArticleSound
+pub mod FlattenedWhole
+pub mod SteinbachOrder
+pub mod SteinbachTest
 pub mod Contexts
 pub mod FlattenedSubstitution
 pub mod Substitutions
@@ -25,3 +28,4 @@ pub mod RenumberedRules
 pub mod Ceiling
 pub mod Examples
 pub mod Theorems
+mod SteinbachChecks

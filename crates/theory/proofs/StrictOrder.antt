@@ -2,7 +2,7 @@
 --     isGreater-order                               transitive, irreflexive, compatible, as at every depth
 --     decreasingMark-resp-like, greater-resp-like   the mark and the test are the same for like terms
 --     greater-not-equivalent, greater-asym          irreflexive up to AC-equivalence, asymmetric
---     greaterFormed, greaterFormed-order            the order held to well-formed terms, on all terms
+--     greaterFormed, greaterFormed-order, -lowest   the order held to well-formed terms, on all terms
 --     formed-view, greaterFormed-view               the order by its cases, over the tests held; the order held
 --     greater-weight                                the greater side weighs no less
 use mathlib.Core.Logic.{_↔_}
@@ -132,6 +132,10 @@ module _ (σ : Signature) where
 
   pub greaterFormed-order : Admissible σ → IsStrictOrder (likeFormed σ) greaterFormed
   greaterFormed-order A = held-order σ A (isGreater σ) (isGreater-order σ A)
+
+  pub greaterFormed-lowest : Admissible σ → (x : ℕ) (t : Term) → greaterFormed (var x) t ≡ true → ⊥
+  unfolding isGreater
+  greaterFormed-lowest A = greaterWithin-lowest σ (isGreater σ) λ x. var-lowest σ A (size (var x)) x
 
   pub formed-view : (s t : Term) → WellFormed σ s → WellFormed σ t →
       isGreater σ s t ≡ true ↔ Decreases σ (likeFormed σ) greaterFormed s t

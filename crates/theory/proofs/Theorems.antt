@@ -1,5 +1,5 @@
--- The theorems of specs/Statements.antt, specs/StepStatements.antt and specs/RenamingStatements.antt.
-use mathlib.Core.Path.{refl, ap₂}
+-- The theorems of specs/: of Statements, StepStatements, RenamingStatements and SteinbachStatements.
+use mathlib.Core.Path.{refl, sym, ap₂, _∙_}
 use Prim.Native.Nat.{_<_}
 use native.Mathlib.Omega.{arith}
 use lib.IntN.{subℕ}
@@ -18,11 +18,14 @@ use Rattle.theory.specs.StepStatements.{SampleAdmissible}
 use Rattle.theory.specs.RenamingStatements.{WeightRenamed, MarginRenamed, WellFormedRenamed}
 use Rattle.theory.specs.RenamingStatements.{EquivalenceRenamed, OrderRenamed, MarkRenamed}
 use Rattle.theory.specs.RenamingStatements.{RulesConverted}
+use Rattle.theory.specs.SteinbachStatements.{SteinbachUnfolds, TestDecidesSteinbach, AgreesWithSteinbach}
+use Rattle.theory.specs.SteinbachStatements.{AcLowestMeans, ArticlesAgree}
 use Rattle.multisets.proofs.Relations.{refuted}
 use Rattle.terms.proofs.EquivalenceLaws.{isEquivalent-app, isEquivalent-app-var}
 use Rattle.terms.proofs.EquivalenceComplete.{Equivalent→isEquivalent}
 use Rattle.terms.proofs.EquivalenceMeasures.{formed-resp-equivalent}
 use Rattle.terms.proofs.OrderLaws.{isGreater-unfolds}
+use Rattle.terms.proofs.SteinbachLaws.{isSteinbachGreater-unfolds}
 use Rattle.terms.proofs.WeightLaws.{nodes-le-weight}
 use Rattle.terms.proofs.RenamingLaws.{weight-rename, formed-rename}
 use Rattle.theory.proofs.StrictOrder.{isGreater-order, greater-resp-like, greater-not-equivalent}
@@ -31,6 +34,8 @@ use Rattle.theory.proofs.MarkLaws.{oftener-found, found-oftener}
 use Rattle.theory.proofs.TotalOrder.{exactly-one}
 use Rattle.theory.proofs.ArticleComplete.{isGreater→Greater}
 use Rattle.theory.proofs.ArticleSound.{Greater→isGreater}
+use Rattle.theory.proofs.SteinbachOrder.{one-of-lowest, lowest-of-one, greater-steinbach}
+use Rattle.theory.proofs.SteinbachTest.{SteinbachGreater→test, test→SteinbachGreater}
 use Rattle.theory.proofs.Contexts.{greater-part, greater-fill}
 use Rattle.theory.proofs.Substitutions.{greater-substitute}
 use Rattle.terms.proofs.RuleRenumbering.{renumbering-oneToOne}
@@ -85,6 +90,25 @@ module _ (σ : Signature) where
 
   pub test-decides-article : TestDecidesArticle σ
   test-decides-article A s t v w = (isGreater→Greater σ A s t v w, λ d. Greater→isGreater σ A d v w)
+
+  pub steinbach-unfolds : SteinbachUnfolds σ
+  steinbach-unfolds = isSteinbachGreater-unfolds σ
+
+  pub test-decides-steinbach : TestDecidesSteinbach σ
+  test-decides-steinbach A s t v w = (test→SteinbachGreater σ A s t v w, λ d. SteinbachGreater→test σ A d v w)
+
+  pub ac-lowest-means : AcLowestMeans σ
+  ac-lowest-means A f i c = (one-of-lowest σ A f i c, lowest-of-one σ A f i c)
+
+  pub agrees-with-steinbach : AgreesWithSteinbach σ
+  agrees-with-steinbach L A = greater-steinbach σ A L
+
+  pub articles-agree : ArticlesAgree σ
+  articles-agree L A s t v w =
+      let (down, up) = test-decides-article A s t v w in
+      let (to, from) = test-decides-steinbach A s t v w in
+      let e = agrees-with-steinbach L A s t v w in
+      (λ g. to (sym e ∙ up g), λ g. down (e ∙ from g))
 
   pub total-on-expressions : TotalOnExpressions σ
   total-on-expressions A s t v w g h = exactly-one σ A s t (v, g) (w, h)

@@ -21,10 +21,14 @@
    first word after the term, 15 words are left over.
 
    Each call reads its whole book, which takes about 0.1 ms for the longest (docs/BENCHMARKS.md has times), and keeps
-   nothing for the next one.
+   nothing for the next one. The functions hold no state: any number of threads may call them at once, as long as what
+   one call writes to is used by no other.
 
-   Stack, as measured: ackbo_decode 110 KB for every book, ackbo_encode 5 KB, ackbo_fingerprint 7 KB, ackbo_oftener
-   15 KB, ackbo_compare, ackbo_pick and ackbo_mark up to 72 KB, and ackbo_page 80 KB, where AC symbols nest 63 deep. */
+   ackbo_text.h has names and words for refusals and marks, and the limits; docs/MARKS.md says what each means.
+
+   Stack, at most, as measured: ackbo_convert 218 KB and ackbo_decode 111 KB, for every book; ackbo_encode 6 KB,
+   ackbo_fingerprint 8 KB, ackbo_oftener 16 KB; ackbo_compare, ackbo_pick and ackbo_mark 72 KB and ackbo_page 80 KB,
+   where AC symbols nest 63 deep. */
 #ifndef ACKBO_H
 #define ACKBO_H
 

@@ -17,10 +17,21 @@
 //!
 //! let error = ackbo::mark(&[], &mut marks).unwrap_err();
 //! assert_eq!((error.code, error.input, error.offset), (2, 0, 0));
-//! assert_eq!(error.to_string(), "refusal 2 of input 0 at 0");
+//! assert_eq!(error.to_string(), "refusal 2 of input 0 at 0: a field is missing or cut off");
 //! ```
+//!
+//! [`Mark`] and [`Refusal`] have words for the numbers, [`layout`] says what the words of a sheet are, and [`decoded`],
+//! [`encoded`], [`converted`] and [`marked`] make their own room. The functions hold no state: any number of threads
+//! may call them at once.
 
 use std::fmt;
+
+pub mod layout;
+mod owned;
+mod words;
+
+pub use owned::{converted, decoded, encoded, marked, marked_with_margins};
+pub use words::{Mark, Refusal};
 
 /// The functions as `include/ackbo.h` declares them, for callers that want the reply's three numbers as they are.
 ///
@@ -113,7 +124,8 @@ pub struct Error {
 
 impl fmt::Display for Error {
     fn fmt(&self, formatter: &mut fmt::Formatter) -> fmt::Result {
-        write!(formatter, "refusal {} of input {} at {}", self.code, self.input, self.offset)
+        write!(formatter, "refusal {} of input {} at {}", self.code, self.input, self.offset)?;
+        self.refusal().map_or(Ok(()), |refusal| write!(formatter, ": {refusal}"))
     }
 }
 

@@ -1,0 +1,3 @@
+//! The words for marks and refusals.
+
+pub use ackbo::{Mark, Refusal};

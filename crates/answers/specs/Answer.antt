@@ -1,6 +1,6 @@
--- What an answer of reading stands for, and an answer as one number.
+-- What an answer of reading stands for.
 use mathlib.Core.Bool.{cond}
-use Prim.Native.Nat.{ℕ, _/_, _%_, _<_, _≤_}
+use Prim.Native.Nat.{ℕ, _<_, _≤_}
 use lib.Dec.{eqb}
 use Rattle.format.specs.Reading.{Reading}
 use Rattle.format.specs.Reading.Reading.{got, fault}
@@ -31,6 +31,6 @@ abbrev pub Within : ℕ → ℕ → Answer → Type 0
 Within most last (Got value next) = (value ≤ most) × (next ≤ last)
 Within most last (Fault offset code) = Unit {0}
 
--- A number has an error's code, or 0, in its last six bits, a value in the 13 before them, and then an offset.
-abbrev pub answerOf : ℕ → Answer
-answerOf n = cond (eqb (n % 64) 0) (Got (n / 64 % 8192) (n / 524288)) (Fault (n / 524288) (n % 64))
+-- The answer that an error's code, 0 where it is none, with a value and an offset beside it stand for.
+abbrev pub answerOf : ℕ → ℕ → ℕ → Answer
+answerOf code value offset = cond (eqb code 0) (Got value offset) (Fault offset code)

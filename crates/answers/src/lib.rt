@@ -1,7 +1,5 @@
-// The answer of reading, a value or the first fault, and an answer as one number.
+// The answer of reading, a value or the first fault.
 ghost use mathlib.Core.Path.{_≡_};
-ghost use Prim.Native.Nat.{_^_, _<_};
-ghost use Rattle.answers.specs.declared.Answer.the-variants.{Got, Fault};
 ghost use Rattle.answers.specs.Answer.{answerOf};
 
 // A value and the offset past what was read, or an error's code and offset. A value that is nothing is 0.
@@ -10,38 +8,17 @@ pub enum Answer {
     Fault { offset: usize, code: u8 },
 }
 
-// A value and the next offset as one number.
-pub fn pack_value(value: usize, next: usize) -> usize
-    requires { ⌜ (value < 8192) × (next < 2 ^ 44) ⌝ }
-    ensures { λ r. ⌜ answerOf r ≡ Got value next ⌝ }
+// The answer of code that tells an error's code, 0 where it is none, with a value and an offset beside it.
+pub fn answer_of(code: u8, value: usize, offset: usize) -> Answer
+    ensures { λ r. ⌜ r ≡ answerOf code value offset ⌝ }
 {
-    (next * 8192 + value) * 64
-}
-
-// A fault as one number.
-pub fn pack_fault(code: u8, offset: usize) -> usize
-    requires { ⌜ (0 < code) × (code < 64) × (offset < 2 ^ 44) ⌝ }
-    ensures { λ r. ⌜ answerOf r ≡ Fault offset code ⌝ }
-{
-    offset * 524288 + code as usize
-}
-
-// The answer that a number stands for.
-pub fn unpack(number: usize) -> Answer
-    ensures { λ r. ⌜ r ≡ answerOf number ⌝ }
-{
-    let code = number % 64;
-    let offset = number / 524288;
     if code == 0 {
         return Answer::Got {
-            value: number / 64 % 8192,
+            value,
             next: offset,
         };
     }
-    Answer::Fault {
-        code: code as u8,
-        offset,
-    }
+    Answer::Fault { code, offset }
 }
 
 // The error of a refusal.

@@ -14,7 +14,6 @@ ghost use Rattle.marking.specs.Rule.{IsTable, Marks, MarksRead, MarkedWi
 use answers::Answer;
 use measures::NODE_SUMS;
 use measures::totals::total;
-use sides::UNUSED;
 
 // A rule's mark and margin, and the offset past it.
 pub struct MarkedRule {
@@ -63,7 +62,7 @@ fn mark_right(
     arities: &[u32; format::NODE_WORDS],
     adds: &[u64; NODE_SUMS],
     left: &[u16],
-    unused: u16,
+    unused: usize,
     at: usize,
 ) -> RuleReading
     requires { ⌜ (length (now book) ≤ maxBytes) × (at ≤ 8 * length (now book)) ⌝ }
@@ -80,13 +79,14 @@ fn mark_right(
     ensures { λ r. ⌜ MarkedWithin (8 * length (now (book .entry))) r ⌝ }
 {
     let mut right = [0u16; format::MAX_NODES];
-    match sides::read_side(book, arities, &mut right, unused, at) {
+    let mut after = unused;
+    match sides::read_side(book, arities, &mut right, &mut after, at) {
         Answer::Fault { code, offset } => RuleReading::Fault { code, offset },
         Answer::Got { value, next } => RuleReading::Got(mark_sides(
             table,
             adds,
             left,
-            &right[..value % UNUSED],
+            &right[..value],
             next,
         )),
     }
@@ -111,14 +111,12 @@ pub fn mark_rule(
         ⌝ }
     ensures { λ r. ⌜ MarkedWithin (8 * length (now (book .entry))) r ⌝ }
 {
-    let unused = variables::unused_at_start(format::FORM);
+    let mut unused = variables::unused_at_start(format::FORM);
     let mut left = [0u16; format::MAX_NODES];
-    match sides::read_side(book, arities, &mut left, unused, at) {
+    match sides::read_side(book, arities, &mut left, &mut unused, at) {
         Answer::Fault { code, offset } => RuleReading::Fault { code, offset },
         Answer::Got { value, next } => {
-            let count = value % UNUSED;
-            let after = (value / UNUSED) as u16;
-            mark_right(book, table, arities, adds, &left[..count], after, next)
+            mark_right(book, table, arities, adds, &left[..value], unused, next)
         }
     }
 }

@@ -84,7 +84,7 @@ fn read_packed_rules(
 }
 
 // Reads a rule's two sides from words, where the variables from a number on are unused.
-fn read_word_rule(arities: &[u32; NODE_WORDS], sheet: &[u16], unused: u16, at: usize) -> Answer
+fn read_word_rule(arities: &[u32; NODE_WORDS], sheet: &[u16], unused: usize, at: usize) -> Answer
     requires { ⌜ (at ≤ 2 ^ 19) × (unused ≤ 16) ⌝ }
     requires { ⌜ ((σ : Signature) × Arities σ (now arities)) ⌝ }
     ensures { λ r. ⌜
@@ -94,7 +94,7 @@ fn read_word_rule(arities: &[u32; NODE_WORDS], sheet: &[u16], unused: u16, at: u
 {
     match words::term(arities, sheet, unused, at) {
         Answer::Fault { code, offset } => Answer::Fault { code, offset },
-        Answer::Got { value, next } => match words::term(arities, sheet, value as u16, next) {
+        Answer::Got { value, next } => match words::term(arities, sheet, value, next) {
             Answer::Fault { code, offset } => Answer::Fault { code, offset },
             Answer::Got {
                 value: after,
@@ -111,7 +111,7 @@ fn read_word_rule(arities: &[u32; NODE_WORDS], sheet: &[u16], unused: u16, at: u
 fn read_word_rules(
     arities: &[u32; NODE_WORDS],
     sheet: &[u16],
-    unused: u16,
+    unused: usize,
     count: usize,
     at: usize,
 ) -> Answer

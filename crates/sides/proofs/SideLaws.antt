@@ -1,12 +1,12 @@
 -- What the code that reads a side and a rule has to show at each of its ends.
---     fewer-allowed, value-parts           one node fewer is allowed; how many words, and the lowest unused variable
+--     fewer-allowed                        one node fewer is allowed
 --     terms-none, terms-many, terms-fault, terms-before     reading terms
 --     side-read                            a side, from the words where it was read
---     words-more                           words stored one by one
---     within-wider, left-fault, right-read a rule
+--     words-more, side-stored              words stored one by one, and a side
+--     within-wider, left-fault, right-stored    a rule
 use mathlib.Core.Path.{_≡_, refl, sym, ap, _∙_}
 use mathlib.Core.List.{List, [], _∷_}
-use Prim.Native.Nat.{ℕ, suc, _+_, _-_, _*_, _/_, _%_, _≤_, _<_}
+use Prim.Native.Nat.{ℕ, suc, _+_, _-_, _≤_, _<_}
 use native.Mathlib.Nat.{add-zero}
 use native.Mathlib.Numerals.{add-one}
 use native.Mathlib.Omega.{arith}
@@ -25,72 +25,64 @@ use Rattle.format.proofs.ForestLaws.{before, nothing-owed, none-allowed}
 use Rattle.answers.specs.declared.Answer.{Answer}
 use Rattle.answers.specs.declared.Answer.the-variants.{Got, Fault}
 use Rattle.answers.specs.Answer.{Within}
-use Rattle.sides.specs.Side.{TermsRead, SideRead, WordsRead, sideWords}
+use Rattle.sides.specs.Side.{TermsRead, SideRead, SideStored, WordsRead, sideWords}
 
 -- One node fewer is allowed after a node.
 pub fewer-allowed : (count t : ℕ) → count ≤ maxNodes → (count ≡ maxNodes → ⊥) → maxNodes - count ≡ t →
     (maxNodes - (count + 1) < t) × (count + 1 ≤ maxNodes) × (maxNodes - (count + 1) ≡ maxNodes - count - 1)
 fewer-allowed count t h n e = omega arith
 
--- A side's value in its two parts.
-pub value-parts : (count unused : ℕ) → count ≤ maxNodes →
-    ((count + 256 * unused) % 256 ≡ count) × ((count + 256 * unused) / 256 ≡ unused)
-value-parts count unused h = omega arith
-
-pub value-of : (count lowest unused at : ℕ) → lowest ≡ firstVariable + unused →
-    Got (count + 256 * (lowest - firstVariable)) at ≡ Got (count + 256 * unused) at
-value-of count lowest unused at e =
-    let same : lowest - firstVariable ≡ unused = omega arith in ap (λ (n : ℕ). Got (count + 256 * n) at) same
-
 -- ---- reading terms
 
 module _ (source : Source) (unused : ℕ) (σ : Signature) (count n at : ℕ) (words : List ℕ) (r : Answer) (after : List ℕ)
-  where
-    abbrev whole : Reading (List ℕ)
-    whole = forestReader source unused σ (maxNodes - count) n at
+    (lowest : ℕ) where
+  abbrev whole : Reading (List ℕ)
+  whole = forestReader source unused σ (maxNodes - count) n at
 
-    pub terms-none : n ≡ 0 → count ≤ maxNodes → r ≡ Got (count + 256 * unused) at → after ≡ words →
-        TermsRead unused count words r after whole
-    terms-none z short e f = rw (z, nothing-owed source unused σ (maxNodes - count) at) (rw add-zero e, omega arith, f)
+  pub terms-none : n ≡ 0 → count ≤ maxNodes → r ≡ Got count at → after ≡ words → lowest ≡ firstVariable + unused →
+      TermsRead unused count words r after lowest whole
+  terms-none z short e f u =
+      rw (z, nothing-owed source unused σ (maxNodes - count) at) (rw add-zero e, omega arith, f, u)
 
-    pub terms-fault : (code offset : ℕ) → whole ≡ fault code offset → r ≡ Fault offset code →
-        TermsRead unused count words r after whole
-    terms-fault code offset e f = rw e f
+  pub terms-fault : (code offset : ℕ) → whole ≡ fault code offset → r ≡ Fault offset code →
+      TermsRead unused count words r after lowest whole
+  terms-fault code offset e f = rw e f
 
-    pub terms-many : 0 < n → count ≡ maxNodes → r ≡ Fault at tooManyNodes → TermsRead unused count words r after whole
-    terms-many h full e =
-        let z : maxNodes - count ≡ 0 = omega arith in
-        terms-fault tooManyNodes at (rw z (none-allowed source unused σ n at h)) e
+  pub terms-many : 0 < n → count ≡ maxNodes → r ≡ Fault at tooManyNodes →
+      TermsRead unused count words r after lowest whole
+  terms-many h full e =
+      let z : maxNodes - count ≡ 0 = omega arith in
+      terms-fault tooManyNodes at (rw z (none-allowed source unused σ n at h)) e
 
-    after-word : (w : ℕ) (x : Reading (List ℕ)) →
-        TermsRead (unusedAfter unused w) (count + 1) (set words count w) r after x →
-        TermsRead unused count words r after (before w x)
-    after-word w (got nodes next) (e, l, f) =
-        let c : count + 1 + length nodes ≡ count + suc (length nodes) = omega arith in
-        let s : count + 1 ≡ suc count = omega arith in
-        (rw c at e, omega arith, rw s at f)
-    after-word w (fault code offset) h = h
+  after-word : (w : ℕ) (x : Reading (List ℕ)) →
+      TermsRead (unusedAfter unused w) (count + 1) (set words count w) r after lowest x →
+      TermsRead unused count words r after lowest (before w x)
+  after-word w (got nodes next) (e, l, f, u) =
+      let c : count + 1 + length nodes ≡ count + suc (length nodes) = omega arith in
+      let s : count + 1 ≡ suc count = omega arith in
+      (rw c at e, omega arith, rw s at f, u)
+  after-word w (fault code offset) h = h
 
-    pub terms-before : (w m next : ℕ) →
-        whole ≡ before w (forestReader source (unusedAfter unused w) σ (maxNodes - count - 1) m next) →
-        (owed : ℕ) → owed ≡ m →
-        TermsRead (unusedAfter unused w) (count + 1) (set words count w) r after
-        (forestReader source (unusedAfter unused w) σ (maxNodes - (count + 1)) owed next) →
-        TermsRead unused count words r after whole
-    terms-before w m next e owed o h =
-        let c : maxNodes - (count + 1) ≡ maxNodes - count - 1 = omega arith in
-        rw e (after-word w (forestReader source (unusedAfter unused w) σ (maxNodes - count - 1) m next)
-        (rw (c, o) at h))
+  pub terms-before : (w m next : ℕ) →
+      whole ≡ before w (forestReader source (unusedAfter unused w) σ (maxNodes - count - 1) m next) →
+      (owed : ℕ) → owed ≡ m →
+      TermsRead (unusedAfter unused w) (count + 1) (set words count w) r after lowest
+      (forestReader source (unusedAfter unused w) σ (maxNodes - (count + 1)) owed next) →
+      TermsRead unused count words r after lowest whole
+  terms-before w m next e owed o h =
+      let c : maxNodes - (count + 1) ≡ maxNodes - count - 1 = omega arith in
+      rw e (after-word w (forestReader source (unusedAfter unused w) σ (maxNodes - count - 1) m next)
+      (rw (c, o) at h))
 
-pub side-read : (unused : ℕ) (words after : List ℕ) (r : Answer) (x : Reading (List ℕ)) → length words ≡ maxNodes →
-    TermsRead unused 0 words r after x → SideRead unused x r after
-side-read unused words after r (got nodes next) long (e, l, f) =
+pub side-read : (unused : ℕ) (words after : List ℕ) (lowest used : ℕ) (r : Answer) (x : Reading (List ℕ)) →
+    length words ≡ maxNodes → used ≡ lowest - firstVariable → TermsRead unused 0 words r after lowest x →
+    SideRead unused x r after used
+side-read unused words after lowest used r (got nodes next) long k (e, l, f, u) =
     let zero : 0 + length nodes ≡ length nodes = omega arith in
-    let (count, high) = value-parts (length nodes) (unusedAfterAll unused nodes) (omega arith) in
     let front : take (length nodes) after ≡ nodes =
     rw (f, sets-eq nodes words 0 (omega arith)) (take-append-seam nodes (drop (0 + length nodes) words)) in
-    rw (e, zero, count, front, high) (refl, refl)
-side-read unused words after r (fault code offset) long e = rw e
+    rw (e, zero, front) (refl, omega arith)
+side-read unused words after lowest used r (fault code offset) long k e = rw e
 
 -- ---- storing
 
@@ -100,12 +92,12 @@ words-more words nodes index i h =
     let long : length (take i nodes) ≡ i = length-take-le i nodes (omega arith) in
     rw (add-one i, take-suc nodes i 0 h, sets-append words index (take i nodes) (getD nodes i 0 ∷ []), long)
 
-pub side-stored : (reading : Reading (List ℕ)) (index : ℕ) (words nodes after : List ℕ) (end next : ℕ) →
-    reading ≡ got nodes next → end ≡ index + length nodes →
-    (index + length nodes ≤ length words → after ≡ sets words index nodes) →
-    WordsRead (λ (nodes : List ℕ). nodes) reading index words (Got end next) after
-side-stored reading index words nodes after end next read long stored =
-    (nodes, read, long, λ room. stored (omega arith))
+pub side-stored : (unused : ℕ) (reading : Reading (List ℕ)) (index : ℕ) (words nodes after : List ℕ)
+    (end next used : ℕ) → (reading ≡ got nodes next) × (used ≡ unusedAfterAll unused nodes) →
+    end ≡ index + length nodes → (index + length nodes ≤ length words → after ≡ sets words index nodes) →
+    SideStored unused reading index words (Got end next) after used
+side-stored unused reading index words nodes after end next used (read, u) long stored =
+    (nodes, read, long, λ room. stored (omega arith), u)
 
 -- ---- a rule
 
@@ -120,20 +112,19 @@ module _ (source : Source) (unused : ℕ) (σ : Signature) (at index : ℕ) (wor
   unfolding ruleReader
   left-fault code offset after e = rw e
 
-  pub right-read : (left : List ℕ) (next : ℕ) → forestReader source unused σ maxNodes 1 at ≡ got left next →
-      (used middle : ℕ) → used ≡ unusedAfterAll unused left → middle ≡ index + length left →
-      (between : List ℕ) → length between ≡ length words →
-      (index + length left ≤ length words → between ≡ sets words index left) → (r : Answer) (after : List ℕ) →
-      WordsRead (λ (nodes : List ℕ). nodes) (forestReader source used σ maxNodes 1 next) middle between r after →
+  pub right-stored : (middle next : ℕ) (between : List ℕ) (used : ℕ) →
+      SideStored unused (forestReader source unused σ maxNodes 1 at) index words (Got middle next) between used →
+      length between ≡ length words → (r : Answer) (after : List ℕ) (last : ℕ) →
+      SideStored used (forestReader source used σ maxNodes 1 next) middle between r after last →
       WordsRead sideWords (ruleReader source unused σ at) index words r after
   unfolding ruleReader
-  right-read left next read used middle u length-left between same stored (Got end last) after
-      (right, read', length-right, stored') = (
+  right-stored middle next between used (left, read, length-left, stored, u) same (Got end next') after last
+      (right, read', length-right, stored', u') = (
         record { left = left; right = right },
         rw (read, ← u, read'),
         simp length-append (omega arith),
         λ room. stored' (omega arith) ∙
             rw (length-left, stored (omega arith)) (sym (sets-append words index left right)),
       )
-  right-read left next read used middle u length-left between same stored (Fault offset code) after read' =
+  right-stored middle next between used (left, read, length-left, stored, u) same (Fault offset code) after last read' =
       rw (read, ← u, read')

@@ -11,92 +11,111 @@ ghost use Rattle.format.specs.Reading.{bitSource};
 ghost use Rattle.format.specs.Format.{forestReader, ruleReader};
 ghost use Rattle.symbols.specs.Arities.{Arities};
 ghost use Rattle.answers.specs.Answer.{answerOf, Within};
-ghost use Rattle.sides.specs.Side.{TermsRead, SideRead, SideWithin, WordsRead, sideWords};
+ghost use Rattle.sides.specs.Side.{TermsRead, SideRead, SideStored, WordsRead, sideWords};
 use answers::Answer;
-use answers::pack_fault;
 use format::FIRST_VARIABLE;
 use format::MAX_NODES;
 use format::NODE_WORDS;
 
-// The value of a side is how many words it has, and so many times the lowest unused variable after them.
-pub const UNUSED: usize = 256;
-
-// Reads as many terms as are owed, their words stored after the first ones. It reads a node and calls itself for what
-// is then owed, with one node fewer allowed. The answer is a number, so that this call in last place is a jump.
+// Reads as many terms as are owed from an offset on, their words stored after the first ones, and moves the word of the
+// lowest unused variable, the count of the words and the offset past them, or the offset to a fault. It reads a node and
+// calls itself for what is then owed, with one node fewer allowed. The answer is an error's code, 0 where it is none, and
+// not an enum, so that this call in last place is a jump.
 fn read_terms(
     book: &&[u8],
     arities: &[u32; NODE_WORDS],
     words: &mut [u16; MAX_NODES],
-    lowest: usize,
-    count: usize,
-    at: usize,
+    lowest: &mut usize,
+    count: &mut usize,
+    at: &mut usize,
     owed: usize,
-) -> usize
-    requires { ⌜ (length (now (now book)) ≤ maxBytes) × (at ≤ 8 * length (now (now book))) ⌝ }
+) -> u8
+    requires { ⌜ (length (now (now book)) ≤ maxBytes) × (now at ≤ 8 * length (now (now book))) ⌝ }
     requires { ⌜
-        (count ≤ maxNodes) × (owed + 2 ^ 32 * (maxNodes - count) ≤ 2 ^ 60) × (length (now words) ≡ maxNodes)
+        (now count ≤ maxNodes) × (owed + 2 ^ 32 * (maxNodes - now count) ≤ 2 ^ 60) × (length (now words) ≡ maxNodes)
         ⌝ }
-    requires { ⌜ (256 ≤ lowest) × (lowest ≤ 272) ⌝ }
+    requires { ⌜ (256 ≤ now lowest) × (now lowest ≤ 272) ⌝ }
     ensures { λ r. ⌜
-        ((σ : Signature) → Arities σ (now (arities .entry)) → (unused : ℕ) → lowest ≡ firstVariable + unused →
-        TermsRead unused count (now (words .entry)) (answerOf r) (now (words .exit))
-        (forestReader (bitSource (now (now (book .entry)))) unused σ (maxNodes - count) owed at))
+        ((σ : Signature) → Arities σ (now (arities .entry)) → (unused : ℕ) →
+        now (lowest .entry) ≡ firstVariable + unused →
+        TermsRead unused (now (count .entry)) (now (words .entry))
+        (answerOf r (now (count .exit)) (now (at .exit))) (now (words .exit)) (now (lowest .exit))
+        (forestReader (bitSource (now (now (book .entry)))) unused σ (maxNodes - now (count .entry)) owed
+        (now (at .entry))))
         ⌝ }
-    ensures { λ r. ⌜ SideWithin (8 * length (now (now (book .entry)))) (answerOf r) ⌝ }
-    ensures { λ r. ⌜ length (now (words .exit)) ≡ maxNodes ⌝ }
+    ensures { λ r. ⌜
+        Within maxNodes (8 * length (now (now (book .entry)))) (answerOf r (now (count .exit)) (now (at .exit)))
+        ⌝ }
+    ensures { λ _. ⌜
+        (length (now (words .exit)) ≡ maxNodes) × (256 ≤ now (lowest .exit)) × (now (lowest .exit) ≤ 272)
+        ⌝ }
 {
     if owed == 0 {
-        return answers::pack_value(count + UNUSED * (lowest - FIRST_VARIABLE as usize), at);
+        return 0;
     }
-    if count == MAX_NODES {
-        return pack_fault(format::TOO_MANY_NODES, at);
+    if *count == MAX_NODES {
+        return format::TOO_MANY_NODES;
     }
-    let cursor = bits::BitCursor { at };
+    let here = *at;
+    let cursor = bits::BitCursor { at: here };
     match cursor.node(*book) {
-        Answer::Fault { code, offset } => pack_fault(code, offset),
+        Answer::Fault { code, offset } => {
+            *at = offset;
+            code
+        }
         Answer::Got { value, next } => {
             let word = value as u16;
-            words[count] = word;
+            words[*count] = word;
+            *at = here + 1;
             let cell = symbols::cell_at(arities, word);
             if cell == 0 {
-                return pack_fault(format::NO_SUCH_SYMBOL, at + 1);
+                return format::NO_SUCH_SYMBOL;
             }
-            if lowest < value {
-                return pack_fault(format::VARIABLE_OUT_OF_TURN, at + 1);
+            if *lowest < value {
+                return format::VARIABLE_OUT_OF_TURN;
             }
-            let after = variables::unused_after(lowest, value);
+            *lowest = variables::unused_after(*lowest, value);
+            *count += 1;
+            *at = next;
             read_terms(
                 book,
                 arities,
                 words,
-                after,
-                count + 1,
-                next,
+                lowest,
+                count,
+                at,
                 cell - 1 + (owed - 1),
             )
         }
     }
 }
 
-// Reads a side into the words.
+// Reads a side into the words, where the variables from a number on are unused, and moves the number past those of the
+// side; the value is how many words there are.
 pub fn read_side(
     book: &[u8],
     arities: &[u32; NODE_WORDS],
     words: &mut [u16; MAX_NODES],
-    unused: u16,
+    unused: &mut usize,
     at: usize,
 ) -> Answer
     requires { ⌜ (length (now book) ≤ maxBytes) × (at ≤ 8 * length (now book)) × (length (now words) ≡ maxNodes) ⌝ }
-    requires { ⌜ unused ≤ 16 ⌝ }
+    requires { ⌜ now unused ≤ 16 ⌝ }
     ensures { λ r. ⌜
         ((σ : Signature) → Arities σ (now (arities .entry)) →
-        SideRead unused (forestReader (bitSource (now (book .entry))) unused σ maxNodes 1 at) r (now (words .exit)))
+        SideRead (now (unused .entry))
+        (forestReader (bitSource (now (book .entry))) (now (unused .entry)) σ maxNodes 1 at) r (now (words .exit))
+        (now (unused .exit)))
         ⌝ }
-    ensures { λ r. ⌜ SideWithin (8 * length (now (book .entry))) r ⌝ }
-    ensures { λ r. ⌜ length (now (words .exit)) ≡ maxNodes ⌝ }
+    ensures { λ r. ⌜ Within maxNodes (8 * length (now (book .entry))) r ⌝ }
+    ensures { λ _. ⌜ (length (now (words .exit)) ≡ maxNodes) × (now (unused .exit) ≤ 16) ⌝ }
 {
-    let lowest = (FIRST_VARIABLE + unused) as usize;
-    answers::unpack(read_terms(&book, arities, words, lowest, 0, at, 1))
+    let mut lowest = FIRST_VARIABLE as usize + *unused;
+    let mut count = 0;
+    let mut end = at;
+    let code = read_terms(&book, arities, words, &mut lowest, &mut count, &mut end, 1);
+    *unused = lowest - FIRST_VARIABLE as usize;
+    answers::answer_of(code, count, end)
 }
 
 // Stores words from an index on, where there is room for all of them, and none where there is not.
@@ -125,38 +144,41 @@ fn read_side_into(
     book: &[u8],
     arities: &[u32; NODE_WORDS],
     words: &mut [u16],
-    unused: u16,
+    unused: &mut usize,
     index: usize,
     at: usize,
 ) -> Answer
-    requires { ⌜ (length (now book) ≤ maxBytes) × (at ≤ 8 * length (now book)) × (index < 2 ^ 32) × (unused ≤ 16) ⌝ }
+    requires { ⌜ (length (now book) ≤ maxBytes) × (at ≤ 8 * length (now book)) × (index < 2 ^ 32) ⌝ }
+    requires { ⌜ now unused ≤ 16 ⌝ }
     ensures { λ r. ⌜
         ((σ : Signature) → Arities σ (now (arities .entry)) →
-        WordsRead (λ (nodes : List ℕ). nodes) (forestReader (bitSource (now (book .entry))) unused σ maxNodes 1 at)
-        index (now (words .entry)) r (now (words .exit)))
+        SideStored (now (unused .entry))
+        (forestReader (bitSource (now (book .entry))) (now (unused .entry)) σ maxNodes 1 at)
+        index (now (words .entry)) r (now (words .exit)) (now (unused .exit)))
         ⌝ }
     ensures { λ r. ⌜ Within (index + maxNodes) (8 * length (now (book .entry))) r ⌝ }
+    ensures { λ _. ⌜ now (unused .exit) ≤ 16 ⌝ }
 {
     let mut side = [0u16; MAX_NODES];
     match read_side(book, arities, &mut side, unused, at) {
         Answer::Fault { code, offset } => Answer::Fault { code, offset },
         Answer::Got { value, next } => {
-            let count = value % UNUSED;
-            put_words(words, index, &side[..count]);
+            put_words(words, index, &side[..value]);
             Answer::Got {
-                value: index + count,
+                value: index + value,
                 next,
             }
         }
     }
 }
 
-// Reads a rule's two sides, their words stored from an index on; the value is the index past them.
+// Reads a rule's two sides, where the variables from a number on are unused, their words stored from an index on; the
+// value is the index past them.
 pub fn read_rule_into(
     book: &[u8],
     arities: &[u32; NODE_WORDS],
     words: &mut [u16],
-    unused: u16,
+    unused: usize,
     index: usize,
     at: usize,
 ) -> Answer
@@ -169,14 +191,11 @@ pub fn read_rule_into(
         ⌝ }
     ensures { λ r. ⌜ Within (index + 2 * maxNodes) (8 * length (now (book .entry))) r ⌝ }
 {
-    let mut left = [0u16; MAX_NODES];
-    match read_side(book, arities, &mut left, unused, at) {
+    let mut lowest = unused;
+    match read_side_into(book, arities, words, &mut lowest, index, at) {
         Answer::Fault { code, offset } => Answer::Fault { code, offset },
         Answer::Got { value, next } => {
-            let count = value % UNUSED;
-            let after = (value / UNUSED) as u16;
-            put_words(words, index, &left[..count]);
-            read_side_into(book, arities, words, after, index + count, next)
+            read_side_into(book, arities, words, &mut lowest, value, next)
         }
     }
 }

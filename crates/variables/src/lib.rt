@@ -12,11 +12,11 @@ use format::FIRST_VARIABLE;
 use format::VARIABLES;
 
 // The lowest unused variable at the start of a rule of that form.
-pub fn unused_at_start(form: u16) -> u16
+pub fn unused_at_start(form: u16) -> usize
     ensures { λ r. ⌜ (r ≡ unusedOf form) × (r ≤ 16) ⌝ }
 {
     if form == format::FIRST_FORM {
-        return VARIABLES as u16;
+        return VARIABLES;
     }
     0
 }

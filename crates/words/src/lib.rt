@@ -15,7 +15,6 @@ ghost use Rattle.symbols.specs.Arities.{Arities};
 ghost use Rattle.answers.specs.Answer.{readingOf, Fits, answered, answerOf, endOf};
 ghost use Rattle.words.specs.Terms.{nodeError, readerOf};
 use answers::Answer;
-use answers::pack_fault;
 use format::FIRST_VARIABLE;
 use format::NODE_WORDS;
 
@@ -71,44 +70,56 @@ fn node_error(arities: &[u32; NODE_WORDS], lowest: usize, word: u16) -> u8
     0
 }
 
-// Reads as many terms as are owed, where the word of the lowest unused variable is given, and gives the lowest unused
-// variable after them and their end. It reads a node and calls itself for what is then owed. Nodes are allowed up to the
-// limit; it stops there or where the words end, so that one test serves both. The answer is a number, so that this call
-// in last place is a jump.
+// Reads as many terms as are owed from an offset on, where the word of the lowest unused variable is given, and moves
+// both past them. It reads a node and calls itself for what is then owed. Nodes are allowed up to the limit; it stops
+// there or where the words end, so that one test serves both. The answer is an error's code, 0 where it is none, and not
+// an enum, so that this call in last place is a jump.
 fn terms(
     words: &&[u16],
     arities: &[u32; NODE_WORDS],
-    lowest: usize,
-    at: usize,
+    lowest: &mut usize,
+    at: &mut usize,
     limit: usize,
     stop: usize,
     owed: usize,
-) -> usize
-    requires { ⌜ (at ≤ limit) × (limit ≤ 2 ^ 32) × (stop ≡ min limit (length (now (now words)))) ⌝ }
-    requires { ⌜ (owed + 2 ^ 32 * (limit - at) ≤ 2 ^ 60) × (256 ≤ lowest) × (lowest ≤ 272) ⌝ }
+) -> u8
+    requires { ⌜ (now at ≤ limit) × (limit ≤ 2 ^ 32) × (stop ≡ min limit (length (now (now words)))) ⌝ }
+    requires { ⌜ (owed + 2 ^ 32 * (limit - now at) ≤ 2 ^ 60) × (256 ≤ now lowest) × (now lowest ≤ 272) ⌝ }
     ensures { λ r. ⌜
-        ((σ : Signature) → Arities σ (now (arities .entry)) → (unused : ℕ) → lowest ≡ firstVariable + unused →
-        answerOf r
+        ((σ : Signature) → Arities σ (now (arities .entry)) → (unused : ℕ) →
+        now (lowest .entry) ≡ firstVariable + unused →
+        answerOf r (now (lowest .exit) - firstVariable) (now (at .exit))
         ≡ answered (unusedAfterAll unused)
-        (forestReader (wordSource (now (now (words .entry)))) unused σ (limit - at) owed at))
+        (forestReader (wordSource (now (now (words .entry)))) unused σ (limit - now (at .entry)) owed
+        (now (at .entry))))
         ⌝ }
-    ensures { λ r. ⌜ Fits 17 (answerOf r) ⌝ }
+    ensures { λ r. ⌜ Fits 17 (answerOf r (now (lowest .exit) - firstVariable) (now (at .exit))) ⌝ }
+    ensures { λ r. ⌜ (256 ≤ now (lowest .exit)) × (now (lowest .exit) ≤ 272) ⌝ }
 {
     if owed == 0 {
-        return answers::pack_value(lowest - FIRST_VARIABLE as usize, at);
+        return 0;
     }
-    if stop <= at {
-        return pack_fault(end_error(at, limit), at);
+    let here = *at;
+    if stop <= here {
+        return end_error(here, limit);
     }
-    let word = words[at];
-    let error = node_error(arities, lowest, word);
+    let word = words[here];
+    let error = node_error(arities, *lowest, word);
     if error != 0 {
-        return pack_fault(error, at);
+        return error;
     }
     let cell = symbols::cell_at(arities, word);
-    let after = variables::unused_after(lowest, symbols::wide(word));
-    let next = (cell - 1) + (owed - 1);
-    terms(words, arities, after, at + 1, limit, stop, next)
+    *lowest = variables::unused_after(*lowest, symbols::wide(word));
+    *at = here + 1;
+    terms(
+        words,
+        arities,
+        lowest,
+        at,
+        limit,
+        stop,
+        (cell - 1) + (owed - 1),
+    )
 }
 
 // The lesser of two numbers.
@@ -119,7 +130,7 @@ fn lesser(a: usize, b: usize) -> usize
 }
 
 // Reads one term, and gives the lowest unused variable after it and its end.
-pub fn term(arities: &[u32; NODE_WORDS], words: &[u16], unused: u16, at: usize) -> Answer
+pub fn term(arities: &[u32; NODE_WORDS], words: &[u16], unused: usize, at: usize) -> Answer
     requires { ⌜ (at ≤ 2 ^ 20) × (unused ≤ 16) ⌝ }
     ensures { λ r. ⌜
         ((σ : Signature) → Arities σ (now (arities .entry)) →
@@ -127,10 +138,12 @@ pub fn term(arities: &[u32; NODE_WORDS], words: &[u16], unused: u16, at: usize) 
         ⌝ }
     ensures { λ r. ⌜ Fits 17 r ⌝ }
 {
-    let lowest = (FIRST_VARIABLE + unused) as usize;
+    let mut lowest = FIRST_VARIABLE as usize + unused;
+    let mut end = at;
     let limit = at + format::MAX_NODES;
     let stop = lesser(limit, words.len());
-    answers::unpack(terms(&words, arities, lowest, at, limit, stop, 1))
+    let code = terms(&words, arities, &mut lowest, &mut end, limit, stop, 1);
+    answers::answer_of(code, lowest - FIRST_VARIABLE as usize, end)
 }
 
 // Reads the term at the front of the words, which is to be all of them where that is asked, and gives its end.
@@ -139,7 +152,7 @@ pub fn front_term(arities: &[u32; NODE_WORDS], words: &[u16], whole: bool) -> An
         ((σ : Signature) → Arities σ (now (arities .entry)) → r ≡ endOf (readerOf whole σ (now (words .entry))))
         ⌝ }
 {
-    match term(arities, words, format::VARIABLES as u16, 0) {
+    match term(arities, words, format::VARIABLES, 0) {
         Answer::Fault { code, offset } => Answer::Fault { code, offset },
         Answer::Got { value, next } => {
             if whole {

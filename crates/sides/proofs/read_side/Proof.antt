@@ -1,5 +1,6 @@
--- The words that were read stand first.
+-- The words that were read stand first, and the lowest unused variable is the number of its word.
 use mathlib.Core.Path.{refl}
+use native.Mathlib.Omega.{arith}
 use Rattle.format.specs.Layout.{maxNodes}
 use Rattle.format.specs.Reading.{bitSource}
 use Rattle.format.specs.Format.{forestReader}
@@ -8,21 +9,33 @@ use Rattle.sides.proofs.SideLaws.{side-read}
 use borrow.Author.Needs.{needs}
 use Rattle.sides.proofs.read_side.Statement.{statement}
 use Rattle.sides.proofs.read_side.Tie as tie
-use Rattle.answers.proofs.unpack.Reads as unpack-reads
+use Rattle.answers.proofs.answer_of.Reads as answer-of-reads
 use Rattle.sides.proofs.read_terms.Reads as read-terms-reads
+
+sub-unused : tie.Need-sub-unused
+sub-unused c = c .read-terms .ensures .1 .1 .1
 
 returns : tie.Need-returns
 returns c =
-    let c5 = c .before .before .before .before .before in
-    let a = c5 .args in
+    let c9 = c .before .before .before .before .before .before .before .before .before in
+    let a = c9 .args in
     let read = c .before .read-terms in
-    rw (c .unpack .ensures) (
-      λ σ k. side-read (a .unused) (a .words .now) (read .last .1 .1 .0) (answerOf (read .result))
-          (forestReader (bitSource (a .t1 .now)) (a .unused) σ maxNodes 1 (a .at)) (c5 .pre .0 .2)
-          (read .ensures .0 σ k (a .unused) refl),
-      read .ensures .1,
+    rw (c .answer-of .ensures) (
+      λ σ k. side-read (a .unused .now) (a .words .now) (read .last .1 .1 .0) (read .last .1 .1 .1 .0) _
+          (answerOf (read .result) (read .last .1 .1 .1 .1 .0) (read .last .1 .1 .1 .1 .1 .0))
+          (forestReader (bitSource (a .t1 .now)) (a .unused .now) σ maxNodes 1 (a .at)) (c9 .pre .0 .2) refl
+          (read .ensures .0 σ k (a .unused .now) refl),
+      (read .ensures .1 .0, (read .ensures .1 .1 .0, omega (arith, read .ensures .1 .1 .2))),
     )
 
 pub read-side-spec : {M : Type 1} → statement M
 read-side-spec =
-    tie.close (tie.spec (λ c. search needs) (λ c. search needs) (λ c κs. search needs) (λ c κs. search needs) returns)
+    tie.close
+    (tie.spec
+    (λ c. search needs)
+    (λ c. search needs)
+    (λ c κs. search needs)
+    (λ c. search needs)
+    sub-unused
+    (λ c κs. search needs)
+    returns)

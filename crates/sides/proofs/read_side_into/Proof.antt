@@ -1,6 +1,5 @@
 -- The side is read into an array and stored from there.
 use mathlib.Core.Path.{sym}
-use Prim.Native.Nat.{_%_}
 use native.Mathlib.Omega.{arith}
 use lib.ListN.{take}
 use lib.Seq.{length-take-le}
@@ -14,18 +13,14 @@ use Rattle.sides.proofs.read_side.Reads as read-side-reads
 array-share-prefix-side : tie.Need-array-share-prefix-side
 array-share-prefix-side c =
     let c4 = c .before .before .before .before in
-    omega (
-      arith,
-      rw (c .before .before .value .given .1) at (c4 .read-side .ensures .1 .0),
-      c4 .read-side .ensures .1 .1,
-    )
+    omega (arith, rw (c .before .before .value .given .1) at (c4 .read-side .ensures .1 .0), c4 .read-side .ensures .1 .1)
 
 slice-aggregate-put-words : tie.Need-slice-aggregate-put-words
 slice-aggregate-put-words c =
     let c3 = c .before .before .before in
     let c5 = c3 .before .before in
     let within = rw (c3 .value .given .1) at (c5 .read-side .ensures .1 .0) in
-    sym (length-take-le (c3 .value .given .0 .0 % 256) (c5 .read-side .last .1 .1 .0)
+    sym (length-take-le (c3 .value .given .0 .0) (c5 .read-side .last .1 .1 .0)
     (omega (arith, within, c5 .read-side .ensures .1 .1)))
 
 put-words-requires : tie.Need-put-words-requires
@@ -33,7 +28,7 @@ put-words-requires c κs =
     let c3 = c .before .before .before in
     let c5 = c3 .before .before in
     let within = rw (c3 .value .given .1) at (c5 .read-side .ensures .1 .0) in
-    let some = length-take-le (c3 .value .given .0 .0 % 256) (c5 .read-side .last .1 .1 .0)
+    let some = length-take-le (c3 .value .given .0 .0) (c5 .read-side .last .1 .1 .0)
     (omega (arith, within, c5 .read-side .ensures .1 .1)) in
     omega (arith, within, some)
 
@@ -46,22 +41,22 @@ add-t21 c =
 returns : tie.Need-returns
 returns c =
     let c3 = c .before .before .before in
-    (λ σ k. rw (c .before .offset .given .1) at (c3 .read-side .ensures .0 σ k), tt)
+    (λ σ k. rw (c .before .offset .given .1) at (c3 .read-side .ensures .0 σ k), (tt, c3 .read-side .ensures .1 .1 .1))
 
 returns-2 : tie.Need-returns-2
 returns-2 c =
     let c6 = c .before .before .before .before .before .before in
     let c8 = c6 .before .before in
-    let c12 = c8 .before .before .before .before in
-    let a = c12 .args in
-    let n = c6 .value .given .0 .0 % 256 in
+    let c13 = c8 .before .before .before .before .before in
+    let a = c13 .args in
+    let n = c6 .value .given .0 .0 in
     let words = c8 .read-side .last .1 .1 .0 in
     let within = rw (c6 .value .given .1) at (c8 .read-side .ensures .1 .0) in
     let long = length-take-le n words (omega (arith, within, c8 .read-side .ensures .1 .1)) in (
-      λ σ k. side-stored _ (a .index) (a .words .now) (take n words) _ _ _
-          (rw (c6 .value .given .1) at (c8 .read-side .ensures .0 σ k) .0) (omega (arith, long))
+      λ σ k. side-stored (a .unused .now) _ (a .index) (a .words .now) (take n words) _ _ _ _
+          (rw (c6 .value .given .1) at (c8 .read-side .ensures .0 σ k)) (omega (arith, long))
           (c .before .before .put-words .ensures .0),
-      (omega (arith, within), within .2),
+      ((omega (arith, within), within .1), c8 .read-side .ensures .1 .1 .1),
     )
 
 pub read-side-into-spec : {M : Type 1} → statement M

@@ -13,4 +13,4 @@ returns-2 : tie.Need-returns-2
 returns-2 c = (rw (ne-eqb (c .before .args .form) firstForm (c .if1 .left)), omega arith)
 
 pub unused-at-start-spec : {M : Type 1} → statement M
-unused-at-start-spec = tie.close (tie.spec (λ c. search needs) returns returns-2)
+unused-at-start-spec = tie.close (tie.spec returns returns-2)

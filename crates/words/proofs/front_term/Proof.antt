@@ -38,6 +38,6 @@ returns-4 c σ table =
 
 pub front-term-spec : {M : Type 1} → statement M
 front-term-spec =
-    tie.close (tie.spec (λ c. search needs) (λ c κs. search needs) (λ c. search needs)
+    tie.close (tie.spec (λ c κs. search needs) (λ c. search needs)
     (λ c. search needs) returns returns-2 returns-3
     returns-4)

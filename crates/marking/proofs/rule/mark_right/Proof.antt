@@ -7,6 +7,8 @@ use Rattle.marking.proofs.SideLaws.{side-term, right-marked}
 use borrow.Author.Needs.{needs}
 use Rattle.marking.proofs.rule.mark_right.Statement.{statement}
 use Rattle.marking.proofs.rule.mark_right.Tie as tie
+use Rattle.marking.proofs.rule.mark_sides.Reads as mark-sides-reads
+use Rattle.sides.proofs.read_side.Reads as read-side-reads
 
 array-share-prefix-right : tie.Need-array-share-prefix-right
 array-share-prefix-right c =
@@ -23,34 +25,41 @@ slice-aggregate-mark-sides c =
 mark-sides-requires : tie.Need-mark-sides-requires
 mark-sides-requires c κs =
     let c4 = c .before .before .before .before in
-    let c9 = c4 .before .before .before .before .before in
-    let a = c9 .args in
+    let c10 = c4 .before .before .before .before .before .before in
+    let a = c10 .args in
     let σ = signatureOf (a .table .now) in
-    let (T, A, left, N) = c9 .pre .1 .0 in
+    let (T, A, left, N) = c10 .pre .1 .0 in
     let (e, u) = rw (c .before .before .value .given .1) at (c4 .read-side .ensures .0 σ A) in
     (T, left, side-term (a .book .now) (a .unused) σ (a .at) _ _ e, N)
 
 returns : tie.Need-returns
 returns c =
     let c3 = c .before .before .before in
-    let c8 = c3 .before .before .before .before .before in
-    let a = c8 .args in
-    let σ = signatureOf (a .table .now) in
-    (rw (c .before .offset .given .1) at (c3 .read-side .ensures .0 σ (c8 .pre .1 .0 .1)), tt)
+    let c9 = c3 .before .before .before .before .before .before in
+    let σ = signatureOf (c9 .args .table .now) in
+    (rw (c .before .offset .given .1) at (c3 .read-side .ensures .0 σ (c9 .pre .1 .0 .1)), tt)
 
 returns-2 : tie.Need-returns-2
 returns-2 c =
     let c3 = c .before .before .before in
     let c5 = c3 .before .before in
-    let c10 = c5 .before .before .before .before .before in
-    let a = c10 .args in
+    let c11 = c5 .before .before .before .before .before .before in
+    let a = c11 .args in
     let σ = signatureOf (a .table .now) in
-    let (e, u) = rw (c3 .value .given .1) at (c5 .read-side .ensures .0 σ (c10 .pre .1 .0 .1)) in
+    let (e, u) = rw (c3 .value .given .1) at (c5 .read-side .ensures .0 σ (c11 .pre .1 .0 .1)) in
     let within = rw (c3 .value .given .1) at (c5 .read-side .ensures .1 .0) in
     let (x, same) = c .mark-sides .ensures in
-    (right-marked σ _ (a .left .now) _ _ (c .mark-sides .result) e same x, rw same (within .2))
+    (right-marked σ _ (a .left .now) _ _ (c .mark-sides .result) e same x, rw same (within .1))
 
 pub mark-right-spec : {M : Type 1} → statement M
 mark-right-spec =
-    tie.close (tie.spec (λ c κs. search needs) (λ c. search needs) (λ c. search needs) array-share-prefix-right
-    slice-aggregate-mark-sides mark-sides-requires returns returns-2)
+    tie.close
+    (tie.spec
+    (λ c κs. search needs)
+    (λ c. search needs)
+    (λ c. search needs)
+    array-share-prefix-right
+    slice-aggregate-mark-sides
+    mark-sides-requires
+    returns
+    returns-2)

@@ -10,11 +10,6 @@ use Rattle.reader.proofs.rule.read_word_rule.Statement.{statement}
 use Rattle.reader.proofs.rule.read_word_rule.Tie as tie
 use Rattle.words.proofs.term.Reads as term-reads
 
-cast-term : tie.Need-cast-term
-cast-term c =
-    let c3 = c .before .before .before in
-    omega (arith, rw (c .before .value .given .1) at (c3 .term .ensures .1))
-
 term-requires-2 : tie.Need-term-requires-2
 term-requires-2 c κs =
     let c3 = c .before .before .before in
@@ -63,7 +58,6 @@ read-word-rule-spec =
     (λ c κs. search needs)
     (λ c. search needs)
     (λ c. search needs)
-    cast-term
     term-requires-2
     (λ c. search needs)
     (λ c. search needs)

@@ -72,24 +72,22 @@ pub fn variable_weight(table: &[u16]) -> u64
     long(word_at(table, 0))
 }
 
-// Whether a symbol that is AC has two arguments.
+// Whether a symbol that is AC has two arguments: 4 shifted by the arity is odd for two alone. There is no branch on the
+// arity, which no processor foresees.
 pub fn binary_if_ac(arity: u16, ac: u16) -> bool
+    requires { ⌜ (arity < 8) × (ac < 2) ⌝ }
     ensures { λ r. ⌜ r ≡ (eqb ac 0 || eqb arity 2) ⌝ }
 {
-    if ac == 0 { true } else { arity == 2 }
+    ac <= (4u16 >> arity) % 2
 }
 
-// The least weight of a symbol of that arity.
+// The least weight of a symbol of that arity, without a branch.
 pub fn least_weight(w0: u16, arity: u16) -> u16
+    requires { ⌜ arity < 8 ⌝ }
     ensures { λ r. ⌜ r ≡ leastWeight w0 arity ⌝ }
 {
-    if arity == 0 {
-        w0
-    } else if arity == 1 {
-        1
-    } else {
-        0
-    }
+    let least = [w0, 1, 0, 0, 0, 0, 0, 0];
+    least[wide(arity)]
 }
 
 // Whether the table has a symbol of that number.

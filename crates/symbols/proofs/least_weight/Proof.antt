@@ -1,17 +1,33 @@
--- The least weight goes by the arity, as the definition does.
+-- The list has the least weights by the arity.
+use mathlib.Core.Path.{_≡_, refl, ap, _∙_}
+use mathlib.Core.List.{List, [], _∷_}
+use Prim.Native.Nat.{ℕ, suc, zero, _<_}
 use native.Mathlib.Omega.{arith}
-use mathlib.Core.Path.{_≡_}
-use Prim.Native.Nat.{suc, _-_}
+use lib.ListN.{getD}
+use Rattle.terms.specs.Signature.{leastWeight}
 use borrow.Author.Needs.{needs}
 use Rattle.symbols.proofs.least_weight.Statement.{statement}
 use Rattle.symbols.proofs.least_weight.Tie as tie
 
-returns-3 : tie.Need-returns-3
-returns-3 c =
-    let n = c .before .before .args .arity in
-    let e : n ≡ suc (suc (n - 2)) = omega arith in
-    rw e
+-- A list of zeros has nothing else.
+zeros : (n : ℕ) → getD {A = ℕ} (0 ∷ 0 ∷ 0 ∷ 0 ∷ 0 ∷ 0 ∷ []) n 0 ≡ 0
+zeros zero = refl
+zeros (suc zero) = refl
+zeros (suc (suc zero)) = refl
+zeros (suc (suc (suc zero))) = refl
+zeros (suc (suc (suc (suc zero)))) = refl
+zeros (suc (suc (suc (suc (suc zero))))) = refl
+zeros (suc (suc (suc (suc (suc (suc n)))))) = refl
+
+listed : (w0 arity : ℕ) → getD (w0 ∷ 1 ∷ 0 ∷ 0 ∷ 0 ∷ 0 ∷ 0 ∷ 0 ∷ []) arity 0 ≡ leastWeight w0 arity
+listed w0 zero = refl
+listed w0 (suc zero) = refl
+listed w0 (suc (suc n)) = zeros n
+
+returns : tie.Need-returns
+returns c = ap (λ (n : ℕ). getD (c .before .args .w0 ∷ 1 ∷ 0 ∷ 0 ∷ 0 ∷ 0 ∷ 0 ∷ 0 ∷ []) n 0) (c .wide .ensures .0)
+    ∙ listed (c .before .args .w0) (c .before .args .arity)
 
 pub least-weight-spec : {M : Type 1} → statement M
 least-weight-spec =
-    tie.close (tie.spec (λ c. search needs) (λ c. search needs) returns-3)
+    tie.close (tie.spec (λ c κs. search needs) (λ c. search needs) (λ c. search needs) returns)

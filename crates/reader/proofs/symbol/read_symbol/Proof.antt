@@ -53,6 +53,13 @@ cast-ac c =
     let c3 = c .before .before .before in
     omega (arith, rw (c .before .read2 .given .1) at (c3 .field2 .ensures .1))
 
+binary-if-ac-requires : tie.Need-binary-if-ac-requires
+binary-if-ac-requires c κs =
+    let c3 = c .before .before .before in
+    let c5 = c3 .before .before in
+    let c7 = c5 .before .before in
+    (rw (c5 .read .given .1) at (c7 .field .ensures .1), rw (c .before .read2 .given .1) at (c3 .field2 .ensures .1))
+
 returns-3 : tie.Need-returns-3
 returns-3 c =
     let c3 = c .before .before .before in
@@ -66,6 +73,12 @@ returns-3 c =
     let parts = symbol-parts (sourceOf (a .packed) (a .book .now) (a .sheet .now)) (a .w0) (symbolsAt (a .table .now)
     0 (a .number)) (a .at) in
     (parts ∙ rw (arity, ac, sym (c .before .binary-if-ac .ensures) ∙ not-true _ (c .if1 .taken)), c13 .pre .1 .1)
+
+least-weight-requires : tie.Need-least-weight-requires
+least-weight-requires c κs =
+    let c7 = c .before .before .before .before .before .before .before in
+    let c9 = c7 .before .before in
+    rw (c7 .read .given .1) at (c9 .field .ensures .1)
 
 returns-4 : tie.Need-returns-4
 returns-4 c =
@@ -185,7 +198,7 @@ returns-6 c =
 pub read-symbol-spec : {M : Type 1} → statement M
 read-symbol-spec =
     tie.close (tie.spec (λ c κs. search needs) (λ c. search needs) (λ c. search needs) returns cast-arity
-    (λ c κs. search needs) (λ c. search needs) (λ c. search needs) returns-2 cast-ac (λ c κs. search needs)
-    returns-3 (λ c κs. search needs) (λ c κs. search needs) (λ c κs. search needs) (λ c. search needs)
+    (λ c κs. search needs) (λ c. search needs) (λ c. search needs) returns-2 cast-ac binary-if-ac-requires
+    returns-3 least-weight-requires (λ c κs. search needs) (λ c κs. search needs) (λ c. search needs)
     (λ c. search needs) returns-4 cast-weight read-rank-requires (λ c. search needs) (λ c. search needs)
     returns-5 cast-put-symbol put-symbol-requires element-write-taken (λ c. search needs) returns-6)

@@ -1,10 +1,11 @@
 // The bit cursor: fields and nodes of a packed file, each with the offset past it.
 ghost use mathlib.Core.Path.{_≡_};
-ghost use Prim.Native.Nat.{ℕ, _+_, _*_, _/_, _^_, _<_, _≤_};
+ghost use Prim.Native.Nat.{ℕ, _+_, _-_, _*_, _/_, _%_, _^_, _<_, _≤_};
 ghost use lib.ListN.{length, getD};
 ghost use Rattle.format.specs.Layout.{maxBytes, tagWidth};
 ghost use Rattle.format.specs.Reading.{bitField, isPadding, bitSource};
 ghost use Rattle.format.specs.Reading.Reading.{got};
+ghost use Rattle.answers.specs.declared.Answer.the-variants.{Got};
 ghost use Rattle.answers.specs.Answer.{readingOf, Fits};
 ghost use Rattle.bits.specs.Cursor.{nodeReading, nodeWords, nodeWidth, nodeWord};
 use answers::Answer;
@@ -37,10 +38,18 @@ fn gather(book: &[u8], index: usize) -> u32
         ⌝ }
     ensures { λ r. ⌜ r < 2 ^ 24 ⌝ }
 {
-    if index + 2 < book.len() {
-        return book[index] as u32 * 65536 + book[index + 1] as u32 * 256 + book[index + 2] as u32;
-    }
     byte_at(book, index) * 65536 + byte_at(book, index + 1) * 256 + byte_at(book, index + 2)
+}
+
+// The field of that width at an offset, by the three bytes from the offset's byte on.
+fn field_of(three: u32, at: usize, width: usize) -> Answer
+    requires { ⌜ (width ≤ 16) × (at < 2 ^ 62) × (three < 2 ^ 24) ⌝ }
+    ensures { λ r. ⌜ r ≡ Got (three / 2 ^ (24 - at % 8 - width) % 2 ^ width) (at + width) ⌝ }
+{
+    Answer::Got {
+        value: ((three >> (24 - at % 8 - width)) % (1u32 << width)) as usize,
+        next: at + width,
+    }
 }
 
 // The width of a node that begins with these nine bits.
@@ -67,27 +76,37 @@ fn node_of(nine: u32, tag: u32, at: usize) -> Answer
 }
 
 impl BitCursor {
-    // The field of that width here.
-    pub fn field(self, book: &[u8], width: usize) -> Answer
+    // The field of that width here, where fewer than three bytes are left.
+    fn late_field(self, book: &[u8], width: usize) -> Answer
         requires { ⌜ (length (now book) ≤ maxBytes) × (width ≤ 16) ⌝ }
         ensures { λ r. ⌜ readingOf (λ (v : ℕ). v) r ≡ bitField (now (book .entry)) width (self .at) ⌝ }
         ensures { λ r. ⌜ Fits (2 ^ width) r ⌝ }
     {
         let at = self.at;
         let index = at / 8;
-        let skip = at % 8;
-        if book.len() < index + (skip + width + 7) / 8 {
+        if book.len() < index + (at % 8 + width + 7) / 8 {
             return Answer::Fault {
                 code: FIELD_MISSING,
                 offset: at,
             };
         }
-        let value = (gather(book, index) >> (24 - skip - width)) % (1u32 << width);
-        Answer::Got {
-            value: value as usize,
-            next: at + width,
-        }
+        field_of(gather(book, index), at, width)
     }
+
+    // The field of that width here. Where three bytes are left its bits lie in them, and nothing else is tested.
+    pub fn field(self, book: &[u8], width: usize) -> Answer
+        requires { ⌜ (length (now book) ≤ maxBytes) × (width ≤ 16) ⌝ }
+        ensures { λ r. ⌜ readingOf (λ (v : ℕ). v) r ≡ bitField (now (book .entry)) width (self .at) ⌝ }
+        ensures { λ r. ⌜ Fits (2 ^ width) r ⌝ }
+    {
+        let i = self.at / 8;
+        if book.len() <= i + 2 {
+            return self.late_field(book, width);
+        }
+        let three = book[i] as u32 * 65536 + book[i + 1] as u32 * 256 + book[i + 2] as u32;
+        field_of(three, self.at, width)
+    }
+
     // The node here, in the last byte or past it.
     fn late_node(self, book: &[u8]) -> Answer
         requires { ⌜ (length (now book) ≤ maxBytes) × (length (now book) ≤ self .at / 8 + 1) ⌝ }

@@ -24,7 +24,7 @@ const EXAMPLE_5_3: [u16; 86] = [
 
 // The same rules from right to left.
 #[rattlefmt::skip]
-const EXAMPLE_5_3_REVERSED: [u16; 86] = [
+const REVERSED_5_3: [u16; 86] = [
     2, 6, 1, 7,                      // form, K, w0, N
     2, 0, 0, 0,                      // h
     0, 0, 1, 1,                      // b
@@ -151,7 +151,7 @@ const BASE_SYSTEMS: [u16; 96] = [
 
 // 000, examples 4.6 and 4.9: the second rule is the first in the context + c.
 #[rattlefmt::skip]
-const EXAMPLES_4_6_AND_4_9: [u16; 40] = [
+const CONTEXT_OF_C: [u16; 40] = [
     2, 4, 1, 2,                            // form, K, w0, N
     0, 0, 1, 0,                            // c
     2, 1, 1, 1,                            // +
@@ -163,16 +163,10 @@ const EXAMPLES_4_6_AND_4_9: [u16; 40] = [
 
 pub fn run() {
     show(b"document 000, example 5.3\n", &EXAMPLE_5_3);
-    show(
-        b"document 000, example 5.3, reversed\n",
-        &EXAMPLE_5_3_REVERSED,
-    );
+    show(b"document 000, example 5.3, reversed\n", &REVERSED_5_3);
     show(b"document 000, example 7.3\n", &EXAMPLE_7_3);
     show(b"document 000, example 9.1\n", &EXAMPLE_9_1);
     example_6_6();
     show(b"document 000, base systems of section 6\n", &BASE_SYSTEMS);
-    show(
-        b"document 000, examples 4.6 and 4.9\n",
-        &EXAMPLES_4_6_AND_4_9,
-    );
+    show(b"document 000, examples 4.6 and 4.9\n", &CONTEXT_OF_C);
 }

@@ -49,7 +49,7 @@ fn system_r1() {
 
 // 004, examples 3.1 and 3.2: the top-flattening of (a+b)+a, and the parts of one for f > + > g.
 #[rattlefmt::skip]
-const EXAMPLES_3_1_AND_3_2: [u16; 82] = [
+const FLATTENINGS: [u16; 82] = [
     2, 5, 1, 3,                               // form, K, w0, N
     0, 0, 1, 0,                               // b
     0, 0, 1, 1,                               // a
@@ -94,10 +94,7 @@ pub fn run() {
         &SYMBOL_OVER_VARIABLE,
     );
     system_r1();
-    show(
-        b"document 004, examples 3.1 and 3.2\n",
-        &EXAMPLES_3_1_AND_3_2,
-    );
+    show(b"document 004, examples 3.1 and 3.2\n", &FLATTENINGS);
     show(b"document 001, section 5\n", &SECTION_5);
     show(b"document 001, section 2.1\n", &SECTION_2_1);
 }

@@ -13,7 +13,7 @@ pub fn encode(words: &[u16], bytes: &mut [u8]) -> NumberReply
     ensures { λ r. ⌜ numberReply r ≡ encoded (now (words .entry)) (now (bytes .entry)) .reply ⌝ }
     ensures { λ _. ⌜ now (bytes .exit) ≡ encoded (now (words .entry)) (now (bytes .entry)) .output ⌝ }
 {
-    let mut table = [0u16; symbols::TABLE_WORDS];
+    let mut table = [0u16; 0];
     let mut none = [0u16; 0];
     match reader::read_file(&[0u8; 0], words, false, format::FORM, &mut table, &mut none) {
         reader::File::Fault { code, offset } => NumberReply::Refused(answers::refusal(

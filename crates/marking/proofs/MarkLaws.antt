@@ -28,7 +28,7 @@ use Rattle.marking.proofs.WalkLaws.{stored-front}
 pub is-table : (bytes table : List ℕ) (symbols rules offset : ℕ) → maxTableWords ≡ length table →
     HeadParts true bytes [] table symbols rules offset → IsTable (take (tableWords symbols) table)
 is-table bytes table symbols rules offset n head =
-    let (short, admissible) = table-of true bytes [] table symbols rules offset n head in
+    let (short, admissible) = table-of bytes [] table symbols rules offset n head in
     record { short = short; admissible = admissible }
 
 module _ (bytes marks : List ℕ) where

@@ -15,6 +15,7 @@ ghost use Rattle.measures.specs.Nodes.{NodeSums};
 ghost use Rattle.reader.specs.File.{restReader};
 ghost use Rattle.marking.specs.Rule.{IsTable, AllMarked, AllWithin, WholeMarked};
 use crate::rule::RuleReading;
+use answers::Answer;
 
 // How many rules decrease and the offset past them, or an error's code and offset.
 pub enum RulesMarked {
@@ -149,14 +150,11 @@ pub fn mark_file(book: &[u8], marks: &mut [u8], margins: &mut [i64]) -> FileMark
         ⌝ }
 {
     let mut table = [0u16; symbols::TABLE_WORDS];
-    match reader::read_head(book, &[0u16; 0], true, format::FORM, &mut table) {
-        reader::Head::Fault { code, offset } => FileMarked::Fault { code, offset },
-        reader::Head::Read {
-            symbols,
-            rules,
-            next,
-        } => {
-            let front = symbols::front(symbols);
+    let mut rules = 0;
+    match reader::read_head(book, &[0u16; 0], true, format::FORM, &mut table, &mut rules) {
+        Answer::Fault { code, offset } => FileMarked::Fault { code, offset },
+        Answer::Got { value, next } => {
+            let front = symbols::front(value);
             mark_under(book, &table[..front], marks, margins, rules, next)
         }
     }

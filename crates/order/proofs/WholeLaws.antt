@@ -9,7 +9,7 @@ use native.Mathlib.Omega.{arith}
 use lib.ListN.{length}
 use Rattle.terms.specs.Signature.{Admissible}
 use Rattle.format.specs.Statements.{IsTerm}
-use Rattle.symbols.specs.Table.{signatureOf}
+use Rattle.symbols.specs.Table.{signatureOf, maxTableWords}
 use Rattle.symbols.proofs.TableLaws.{few-at}
 use Rattle.equivalence.specs.Parts.{Complete}
 use Rattle.equivalence.specs.Keys.{Prepared, BothPrepared}
@@ -18,7 +18,7 @@ use Rattle.measures.specs.declared.totals.Totals.{Totals}
 use Rattle.measures.specs.Sums.{Scale}
 use Rattle.order.specs.Whole.{Whole, Level}
 
-pub whole-terms : {table s t : List ℕ} → length table ≤ 1021 → Admissible (signatureOf table) →
+pub whole-terms : {table s t : List ℕ} → length table ≤ maxTableWords → Admissible (signatureOf table) →
     IsTerm (signatureOf table) s → IsTerm (signatureOf table) t → Whole table s t
 whole-terms h a p q = record { small = omega arith; binary = a .acBinary; left = p; right = q }
 

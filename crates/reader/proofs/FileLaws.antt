@@ -5,7 +5,7 @@
 --     rest-fault, file-read                         the whole
 use mathlib.Core.Path.{_≡_, refl, sym, ap, _∙_}
 use mathlib.Core.List.{List, []}
-use mathlib.Core.Bool.{Bool}
+use mathlib.Core.Bool.{Bool, true}
 use Prim.Native.Nat.{ℕ, _≤_, _<_}
 use native.Mathlib.Omega.{arith}
 use lib.Dec.{eqb, leb}
@@ -24,15 +24,16 @@ use Rattle.format.proofs.FormatLaws.{symbols-read, rules-length}
 use Rattle.format.proofs.SymbolLaws.{admissible-of-symbols}
 use Rattle.symbols.specs.Table.{symbolsAt, signatureOf, weightOf, tableWords, maxTableWords}
 use Rattle.symbols.proofs.TableLaws.{length-symbols}
-use Rattle.symbols.proofs.EntryLaws.{table-le, signature-front}
+use Rattle.symbols.proofs.EntryLaws.{table-le, table-entries, signature-front}
+use Rattle.answers.specs.declared.Answer.{Answer}
 use Rattle.answers.specs.declared.Answer.the-variants.{Got, Fault}
 use Rattle.sides.specs.Side.{WordsRead}
-use Rattle.reader.specs.declared.file.Head.the-variants as head
 use Rattle.reader.specs.declared.file.File.the-variants as file
-use Rattle.reader.specs.Source.{sourceOf, Reached, tested}
+use Rattle.reader.specs.Source.{sourceOf, Reached, tableOf, Room, tested}
 use Rattle.reader.specs.File.{restReader, tableReader, countsReader, storedWords, HeadParts, HeadRead, RestRead}
+use Rattle.reader.specs.Symbol.{SymbolsPut}
 use Rattle.reader.specs.File.{FileRead}
-use Rattle.reader.proofs.SourceLaws.{tested-then, field-fits, reached-symbols}
+use Rattle.reader.proofs.SourceLaws.{tested-then, field-fits, reached-symbols, room-table}
 
 -- ---- the whole file by its form and what follows
 
@@ -111,34 +112,49 @@ module _ (form : ℕ) (packed : Bool) (bytes words : List ℕ) (w0 symbols rules
   symbols-fault code offset e = rw e
 
   pub head-read : (table : List ℕ) (next : ℕ) →
-      symbolsReader (sourceOf packed bytes words) w0 symbols [] at ≡ got (symbolsAt table 0 symbols) next →
-      weightOf table ≡ w0 → tableWords symbols ≤ length table → Reached packed bytes words 4 at →
-      length bytes ≤ maxBytes → symbols < 256 → rules < 1024 → 0 < w0 →
+      symbolsReader (sourceOf packed bytes words) w0 symbols [] at
+      ≡ got (symbolsAt (tableOf packed words table) 0 symbols) next →
+      weightOf (tableOf packed words table) ≡ w0 → Room packed (tableWords symbols) table →
+      Reached packed bytes words 4 at → length bytes ≤ maxBytes → symbols < 256 → rules < 1024 → 0 < w0 →
       HeadRead form packed bytes words (tableReader form packed bytes words w0 symbols rules at)
-      (head.Read symbols rules next)
-      table
+      (Got symbols next) table rules
   unfolding tableReader
   head-read table next read weight room start short few some positive =
-      let σ : signatureOf (take (tableWords symbols) table) ≡ record { w0 = w0; symbols = symbolsAt table 0 symbols } =
-      signature-front table symbols room ∙ rw weight in (
+      let T = tableOf packed words table in
+      let within = reached-symbols packed bytes words 4 w0 symbols at (symbolsAt T 0 symbols) next start read in
+      let long = room-table packed bytes words table (tableWords symbols) next room
+      (rw (table-entries symbols) within) in
+      let σ : signatureOf (take (tableWords symbols) T) ≡ record { w0 = w0; symbols = symbolsAt T 0 symbols } =
+      signature-front T symbols long ∙ rw weight in (
         rw (read, σ),
         record {
-          symbolCount = rw σ (sym (length-symbols table 0 symbols));
+          symbolCount = rw σ (sym (length-symbols T 0 symbols));
           short = short;
           fewSymbols = few;
           fewRules = some;
-          admissible = rw σ
-              (symbols-admissible packed bytes words w0 symbols at (symbolsAt table 0 symbols) next read positive);
-          within = reached-symbols packed bytes words 4 w0 symbols at (symbolsAt table 0 symbols) next start read;
+          admissible = rw σ (symbols-admissible packed bytes words w0 symbols at (symbolsAt T 0 symbols) next read
+              positive);
+          within = within;
         },
       )
 
--- The table that reading a head leaves.
-pub table-of : (packed : Bool) (bytes words table : List ℕ) (symbols rules offset : ℕ) → maxTableWords ≡ length table →
-    HeadParts packed bytes words table symbols rules offset →
+  -- What the answer to the symbols makes of the head.
+  pub head-answer : (table : List ℕ) (r : Answer) →
+      SymbolsPut w0 symbols (symbolsReader (sourceOf packed bytes words) w0 symbols [] at) r
+      (tableOf packed words table) →
+      Room packed (tableWords symbols) table → Reached packed bytes words 4 at → length bytes ≤ maxBytes →
+      symbols < 256 → rules < 1024 → 0 < w0 →
+      HeadRead form packed bytes words (tableReader form packed bytes words w0 symbols rules at) r table rules
+  head-answer table (Got value next) (read, weight, all) room start short few some positive =
+      rw all (head-read table next read weight room start short few some positive)
+  head-answer table (Fault offset code) read room start short few some positive = symbols-fault code offset read
+
+-- The table that reading the head of a packed file leaves.
+pub table-of : (bytes words table : List ℕ) (symbols rules offset : ℕ) → maxTableWords ≡ length table →
+    HeadParts true bytes words table symbols rules offset →
     (length (take (tableWords symbols) table) ≤ maxTableWords)
     × Admissible (signatureOf (take (tableWords symbols) table))
-table-of packed bytes words table symbols rules offset n head =
+table-of bytes words table symbols rules offset n head =
     let few = table-le symbols (head .fewSymbols) in
     (omega (arith, few, length-take-le (tableWords symbols) table (omega (arith, few))), head .admissible)
 
@@ -174,10 +190,9 @@ module _ (form : ℕ) (packed : Bool) (bytes words : List ℕ) (σ : Signature) 
 -- ---- the whole
 
 module _ (form : ℕ) (packed : Bool) (bytes words table before after : List ℕ) (reading : Reading RuleFile)
-    (symbols rules start : ℕ) (read : HeadRead form packed bytes words reading
-    (head.Read symbols rules start) table) where
+    (symbols rules start : ℕ) (read : HeadRead form packed bytes words reading (Got symbols start) table rules) where
   abbrev σ : Signature
-  σ = signatureOf (take (tableWords symbols) table)
+  σ = signatureOf (take (tableWords symbols) (tableOf packed words table))
 
   pub rest-fault : (code offset : ℕ) → RestRead form packed bytes words σ rules start (Fault offset code) before after →
       FileRead form packed bytes words reading (file.Fault code offset) table before after

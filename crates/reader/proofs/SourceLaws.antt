@@ -2,15 +2,18 @@
 --     read-packed, read-words    the two sources as the format has them
 --     tested-fault, tested-less, tested-got, tested-field, tested-then     a field that is tested
 --     field-fits                 a field that is read is within its width
---     reached-start, reached-field, reached-symbols     where fields, and symbols, end
+--     reached-start, reached-field, reached-entry, reached-symbols     where fields, and symbols, end
+--     entry-stands, w0-stands    what was read among words stands there
+--     room-le, room-same, room-table    room for a table
 use mathlib.Core.Path.{_≡_, refl, ap}
 use mathlib.Core.List.{List, [], _∷_, flatMap}
 use mathlib.Core.Bool.{Bool, true, false}
-use Prim.Native.Nat.{ℕ, _+_, _^_, _<_}
+use Prim.Native.Nat.{ℕ, _+_, _*_, _^_, _≤_, _<_}
 use native.Mathlib.Omega.{arith}
-use lib.ListN.{length}
+use lib.Dec.{eqb}
+use lib.ListN.{length, getD}
 use Rattle.terms.specs.Signature.{Symbol}
-use Rattle.format.specs.Layout.{formNumber}
+use Rattle.format.specs.Layout.{formNumber, arityWidth, acWidth, weightWidth, rankWidth}
 use Rattle.format.specs.Reading.{Reading, Reader, Source, andThen, require, bitSource, wordSource}
 use Rattle.format.specs.Reading.Reading.{got, fault}
 use Rattle.format.specs.Format.{symbolsReader}
@@ -21,8 +24,9 @@ use Rattle.format.proofs.ReadingLaws.{holds-got}
 use Rattle.format.proofs.SpellingLaws.{spells→coded}
 use Rattle.format.proofs.CodingLaws.{word-coding, bit-coding}
 use Rattle.format.proofs.FormatLaws.{symbols-read}
-use Rattle.symbols.specs.Table.{entryWords}
-use Rattle.reader.specs.Source.{sourceOf, Reached, tested, readSource}
+use Rattle.symbols.specs.Table.{symbolAt, entryWords, tableWords}
+use Rattle.symbols.proofs.EntryLaws.{table-next}
+use Rattle.reader.specs.Source.{sourceOf, Reached, tableOf, Room, tested, readSource}
 
 pub read-packed : (form : ℕ) (bytes words : List ℕ) → readSource form true bytes words ≡ readBytesIn form bytes
 unfolding readSource readBytesIn sourceOf
@@ -103,6 +107,79 @@ reached-field true bytes words fields width at v next h e = bit-coding bytes .re
 reached-field false bytes words fields width at v next h e =
     let (f, n, l, a) = word-coding words .read→code (field width v) at next e in
     (omega arith, l)
+
+-- ---- what stands among words
+
+word-stands : (bytes words : List ℕ) (width at v next : ℕ) → sourceOf false bytes words .field width at ≡ got v next →
+    getD words at 0 ≡ v
+unfolding sourceOf
+word-stands bytes words width at v next e = word-coding words .read→code (field width v) at next e .3 .0
+
+pub w0-stands : (packed : Bool) (bytes words : List ℕ) (width at v next : ℕ) → Reached packed bytes words 2 at →
+    sourceOf packed bytes words .field width at ≡ got v next → packed ≡ false → getD words 2 0 ≡ v
+unfolding Reached
+w0-stands packed bytes words width at v next h e z =
+    let (here, in-words) = rw z at h in
+    rw here at (word-stands bytes words width at v next (rw z at e))
+
+-- The four fields of a symbol.
+module _ (packed : Bool) (bytes words : List ℕ) (number at arity n₁ ac n₂ weight n₃ rank n₄ : ℕ)
+    (start : Reached packed bytes words (tableWords number) at)
+    (e₁ : sourceOf packed bytes words .field arityWidth at ≡ got arity n₁)
+    (e₂ : sourceOf packed bytes words .field acWidth n₁ ≡ got ac n₂)
+    (e₃ : sourceOf packed bytes words .field weightWidth n₂ ≡ got weight n₃)
+    (e₄ : sourceOf packed bytes words .field rankWidth n₃ ≡ got rank n₄) where
+  abbrev reach : (fields width at v next : ℕ) → Reached packed bytes words fields at →
+      sourceOf packed bytes words .field width at ≡ got v next → Reached packed bytes words (fields + 1) next
+  reach = reached-field packed bytes words
+
+  abbrev r₁ : Reached packed bytes words (tableWords number + 1) n₁
+  r₁ = reach _ _ _ _ _ start e₁
+
+  abbrev r₂ : Reached packed bytes words (tableWords number + 1 + 1) n₂
+  r₂ = reach _ _ _ _ _ r₁ e₂
+
+  abbrev r₃ : Reached packed bytes words (tableWords number + 1 + 1 + 1) n₃
+  r₃ = reach _ _ _ _ _ r₂ e₃
+
+  pub reached-entry : Reached packed bytes words (tableWords (number + 1)) n₄
+  reached-entry = rw (table-next number) (reach _ _ _ _ _ r₃ e₄)
+
+  pub entry-stands : packed ≡ false →
+      symbolAt words number ≡ record { arity = arity; ac = eqb ac 1; weight = weight; precedence = rank }
+  unfolding Reached tableWords entryWords
+  entry-stands z =
+      let a₁ : 4 * number + 4 ≡ at = omega (arith, (rw z at start) .0) in
+      let a₂ : 4 * number + 5 ≡ n₁ = omega (arith, (rw z at r₁) .0) in
+      let a₃ : 4 * number + 6 ≡ n₂ = omega (arith, (rw z at r₂) .0) in
+      let a₄ : 4 * number + 7 ≡ n₃ = omega (arith, (rw z at r₃) .0) in
+      rw (
+        a₁,
+        a₂,
+        a₃,
+        a₄,
+        word-stands bytes words _ at arity n₁ (rw z at e₁),
+        word-stands bytes words _ n₁ ac n₂ (rw z at e₂),
+        word-stands bytes words _ n₂ weight n₃ (rw z at e₃),
+        word-stands bytes words _ n₃ rank n₄ (rw z at e₄),
+      )
+
+-- ---- room
+
+pub room-le : (packed : Bool) (m n : ℕ) (table : List ℕ) → m ≤ n → Room packed n table → Room packed m table
+room-le true m n table h r = omega arith
+room-le false m n table h r = tt
+
+pub room-same : (packed : Bool) (n : ℕ) (table other : List ℕ) → length other ≡ length table → Room packed n table →
+    Room packed n other
+room-same true n table other e r = omega arith
+room-same false n table other e r = tt
+
+pub room-table : (packed : Bool) (bytes words table : List ℕ) (n at : ℕ) → Room packed n table →
+    Reached packed bytes words n at → n ≤ length (tableOf packed words table)
+unfolding Reached
+room-table true bytes words table n at r h = r
+room-table false bytes words table n at r h = omega arith
 
 -- A symbol takes four words.
 length-coded : (ss : List Symbol) → length (flatMap (λ i. itemWord i ∷ []) (flatMap symbolItems ss))

@@ -2,8 +2,8 @@
 --     taken-none, taken-put                the marks before the first symbol, and with one rank more
 --     symbol-parts                         a symbol by its four fields, the last two with their tests
 --     symbols-fault, symbols-past          reading some symbols by reading one
---     symbols-done                         reading so many by a loop
-use mathlib.Core.Path.{_≡_, refl, sym, ap, _∙_}
+--     symbols-done, symbols-weighed        reading so many by a loop, and w0
+use mathlib.Core.Path.{_≡_, refl, sym, _∙_}
 use mathlib.Core.List.{List, [], _∷_, _++_}
 use mathlib.Core.Bool.{Bool, true, false, _||_, not}
 use Prim.Native.Nat.{ℕ, suc, _+_, _-_, _<_}
@@ -21,7 +21,11 @@ use Rattle.format.specs.Reading.Reading.{got, fault}
 use Rattle.format.specs.Format.{heldBy, symbolReader, symbolsReader}
 use Rattle.format.proofs.ReadingLaws.{andThen-same}
 use Rattle.reader.specs.Source.{tested}
-use Rattle.reader.specs.Symbol.{TakenBy}
+use Rattle.symbols.specs.Table.{weightOf, symbolsAt}
+use Rattle.symbols.proofs.TableLaws.{length-symbols}
+use Rattle.answers.specs.declared.Answer.{Answer}
+use Rattle.answers.specs.declared.Answer.the-variants.{Got, Fault}
+use Rattle.reader.specs.Symbol.{TakenBy, SymbolsRead, SymbolsPut}
 use Rattle.reader.proofs.SourceLaws.{tested-then}
 
 -- ---- the marks
@@ -111,3 +115,11 @@ pub symbols-done : (source : Source) (w0 n : ℕ) (ss : List Symbol) (at : ℕ) 
     got ss at
 unfolding symbolsReader
 symbols-done source w0 n ss at e = rw e
+
+-- The symbols of a table that has w0, too.
+pub symbols-weighed : (w0 count : ℕ) (reading : Reading (List Symbol)) (r : Answer) (table after : List ℕ) →
+    SymbolsRead reading r (symbolsAt table 0 count) → weightOf after ≡ w0 →
+    symbolsAt after 0 count ≡ symbolsAt table 0 count → SymbolsPut w0 count reading r after
+symbols-weighed w0 count reading (Got value next) table after (read, all) weight same =
+    (read ∙ rw same, weight, all ∙ length-symbols table 0 count)
+symbols-weighed w0 count reading (Fault offset code) table after read weight same = read

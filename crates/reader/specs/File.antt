@@ -17,11 +17,9 @@ use Rattle.symbols.specs.Table.{signatureOf, entryWords, tableWords}
 use Rattle.answers.specs.declared.Answer.{Answer}
 use Rattle.answers.specs.declared.Answer.the-variants as answer
 use Rattle.sides.specs.Side.{rulesWords}
-use Rattle.reader.specs.declared.file.Head.{Head}
-use Rattle.reader.specs.declared.file.Head.the-variants as head
 use Rattle.reader.specs.declared.file.File.{File}
 use Rattle.reader.specs.declared.file.File.the-variants.{Read, Fault}
-use Rattle.reader.specs.Source.{sourceOf, Reached, tested}
+use Rattle.reader.specs.Source.{sourceOf, Reached, tableOf, tested}
 
 module _ (form : ℕ) (packed : Bool) (bytes words : List ℕ) where
   -- What follows the symbols: the rules, and what may stand after them.
@@ -59,19 +57,21 @@ storedWords form false rules = []
 
 -- A file's counts of symbols and of rules, its signature, and the offset of its rules.
 pub record HeadParts (packed : Bool) (bytes words table : List ℕ) (symbols rules offset : ℕ) : Type 0 where
-  pub symbolCount : symbols ≡ length (signatureOf (take (tableWords symbols) table) .symbols)
+  pub symbolCount : symbols ≡ length (signatureOf (take (tableWords symbols) (tableOf packed words table)) .symbols)
   pub short : length bytes ≤ maxBytes
   pub fewSymbols : symbols < 256
   pub fewRules : rules < 1024
-  pub admissible : Admissible (signatureOf (take (tableWords symbols) table))
+  pub admissible : Admissible (signatureOf (take (tableWords symbols) (tableOf packed words table)))
   pub within : Reached packed bytes words (4 + entryWords symbols) offset
 
--- What is read, the answer to the head, and the table afterwards.
-abbrev pub HeadRead : ℕ → Bool → List ℕ → List ℕ → Reading RuleFile → Head → List ℕ → Type 0
-HeadRead form packed bytes words reading (head.Read symbols rules next) table =
-    (reading ≡ restReader form packed bytes words (signatureOf (take (tableWords symbols) table)) rules next)
-    × HeadParts packed bytes words table symbols rules next
-HeadRead form packed bytes words reading (head.Fault code offset) table = reading ≡ fault code offset
+-- What is read, the answer to the head, which says how many symbols there are, and the table and the count of rules
+-- afterwards.
+abbrev pub HeadRead : ℕ → Bool → List ℕ → List ℕ → Reading RuleFile → Answer → List ℕ → ℕ → Type 0
+HeadRead form packed bytes words reading (answer.Got symbols next) table rules =
+    (reading
+    ≡ restReader form packed bytes words (signatureOf (take (tableWords symbols) (tableOf packed words table))) rules
+    next) × HeadParts packed bytes words table symbols rules next
+HeadRead form packed bytes words reading (answer.Fault offset code) table rules = reading ≡ fault code offset
 
 -- What is read after the symbols, the answer, and the words before and after.
 abbrev pub RestRead : ℕ → Bool → List ℕ → List ℕ → Signature → ℕ → ℕ → Answer → List ℕ → List ℕ → Type 0
@@ -89,7 +89,7 @@ RestRead form packed bytes words σ count at (answer.Fault offset code) before a
 pub record FileParts (form : ℕ) (packed : Bool) (bytes words table before after : List ℕ) (file : RuleFile)
     (symbols rules nodes offset : ℕ) : Type 0 where
   pub head : HeadParts packed bytes words table symbols rules offset
-  pub signature : signatureOf (take (tableWords symbols) table) ≡ file .signature
+  pub signature : signatureOf (take (tableWords symbols) (tableOf packed words table)) ≡ file .signature
   pub ruleCount : rules ≡ length (file .rules)
   pub nodeCount : nodes ≡ length (storedWords form packed (file .rules))
   pub end : ℕ

@@ -21,6 +21,16 @@ unfoldable pub Reached : Bool → List ℕ → List ℕ → ℕ → ℕ → Type
 Reached true bytes words fields at = at ≤ 8 * length bytes
 Reached false bytes words fields at = (at ≡ fields) × (at ≤ length words)
 
+-- The words with a file's table: those stored where the file is packed, else its own, whose front is one.
+abbrev pub tableOf : Bool → List ℕ → List ℕ → List ℕ
+tableOf true words table = table
+tableOf false words table = words
+
+-- Where the file is packed there is room for so many words of a table.
+abbrev pub Room : Bool → ℕ → List ℕ → Type 0
+Room true n table = n ≤ length table
+Room false n table = Unit {0}
+
 -- A field that is to pass a test, with that error where it does not.
 unfoldable pub tested : Source → ℕ → (ℕ → Bool) → ℕ → Reader ℕ
 tested source width ok error = do

@@ -3,7 +3,7 @@ use mathlib.Core.Path.{_≡_}
 use mathlib.Core.List.{List, [], _∷_, _++_}
 use mathlib.Core.Bool.{Bool, false}
 use Prim.Native.Nat.{ℕ, _<_}
-use lib.ListN.{getD}
+use lib.ListN.{length, getD}
 use Rattle.terms.specs.Signature.{Symbol}
 use Rattle.format.specs.Reading.{Reading}
 use Rattle.format.specs.Reading.Reading.{got, fault}
@@ -16,14 +16,19 @@ use Rattle.answers.specs.declared.Answer.the-variants.{Got, Fault}
 abbrev pub TakenBy : List Symbol → List Bool → Type 0
 TakenBy symbols taken = (rank : ℕ) → rank < 256 → getD taken rank false ≡ heldBy symbols rank
 
--- What is read after the earlier symbols, the answer, and the symbols and the marks afterwards.
-abbrev pub SymbolPut : Reading Symbol → List Symbol → Answer → List Symbol → List Bool → Type 0
-SymbolPut reading earlier (Got value next) symbols taken =
-    (s : Symbol) × (reading ≡ got s next) × (symbols ≡ earlier ++ (s ∷ [])) × TakenBy symbols taken
-SymbolPut reading earlier (Fault offset code) symbols taken = reading ≡ fault code offset
+-- What is read after the earlier symbols, where it ends, the answer, and the symbols and the marks afterwards.
+abbrev pub SymbolPut : Reading Symbol → List Symbol → (ℕ → Type 0) → Answer → List Symbol → List Bool → Type 0
+SymbolPut reading earlier End (Got value next) symbols taken =
+    (s : Symbol) × (reading ≡ got s next) × (symbols ≡ earlier ++ (s ∷ [])) × TakenBy symbols taken × End next
+SymbolPut reading earlier End (Fault offset code) symbols taken = reading ≡ fault code offset
+
+-- What is read of so many symbols, the answer, and the symbols afterwards.
+abbrev pub SymbolsRead : Reading (List Symbol) → Answer → List Symbol → Type 0
+SymbolsRead reading (Got value next) symbols = (reading ≡ got symbols next) × (value ≡ length symbols)
+SymbolsRead reading (Fault offset code) symbols = reading ≡ fault code offset
 
 -- What is read of so many symbols, the answer, and the table afterwards.
 abbrev pub SymbolsPut : ℕ → ℕ → Reading (List Symbol) → Answer → List ℕ → Type 0
 SymbolsPut w0 count reading (Got value next) table =
-    (reading ≡ got (symbolsAt table 0 count) next) × (weightOf table ≡ w0)
+    (reading ≡ got (symbolsAt table 0 count) next) × (weightOf table ≡ w0) × (value ≡ count)
 SymbolsPut w0 count reading (Fault offset code) table = reading ≡ fault code offset

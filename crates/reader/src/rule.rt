@@ -1,17 +1,17 @@
 // Reading the rules of a file: those of a packed one are stored one after the other, those among words stay there.
 ghost use mathlib.Core.Path.{_≡_};
 ghost use mathlib.Core.List.{List};
-ghost use Prim.Native.Nat.{ℕ, _+_, _*_, _^_, _≤_, _<_};
-ghost use lib.ListN.{length};
+ghost use Prim.Native.Nat.{_+_, _*_, _^_, _≤_, _<_};
+ghost use lib.ListN.{length, take};
 ghost use Rattle.terms.specs.Signature.{Signature};
 ghost use Rattle.format.specs.Layout.{maxBytes, maxNodes};
 ghost use Rattle.format.specs.Reading.{bitSource, wordSource};
 ghost use Rattle.format.specs.Format.{Sides, unusedOf, ruleReader, rulesReader};
-ghost use Rattle.symbols.specs.Table.{signatureOf, maxTableWords};
+ghost use Rattle.symbols.specs.Table.{signatureOf, tableWords};
 ghost use Rattle.symbols.specs.Arities.{Arities};
 ghost use Rattle.answers.specs.Answer.{endOf, Within};
 ghost use Rattle.sides.specs.Side.{WordsRead, sideWords, rulesWords};
-ghost use Rattle.reader.specs.Source.{sourceOf, Reached};
+ghost use Rattle.reader.specs.Source.{sourceOf, Reached, tableOf, Room};
 ghost use Rattle.reader.specs.File.{sidesIn, rulesIn, storedWords};
 use answers::Answer;
 use format::NODE_WORDS;
@@ -137,29 +137,35 @@ fn read_word_rules(
     }
 }
 
-// Reads that many rules of that form under a symbol table; the value is how many words are stored.
+// Reads that many rules of that form under a table of so many symbols; the value is how many words are stored.
 pub fn read_rules(
     book: &[u8],
     sheet: &[u16],
     packed: bool,
     form: u16,
     table: &[u16],
+    symbols: usize,
     words: &mut [u16],
     count: usize,
     at: usize,
 ) -> Answer
-    requires { ⌜ (length (now book) ≤ maxBytes) × (length (now table) ≤ maxTableWords) × (count < 1024) ⌝ }
-    requires { ⌜ ((fields : ℕ) × (fields ≤ 2 ^ 16) × Reached packed (now book) (now sheet) fields at) ⌝ }
+    requires { ⌜ (length (now book) ≤ maxBytes) × (symbols < 256) × (count < 1024) ⌝ }
+    requires { ⌜
+        Reached packed (now book) (now sheet) (tableWords symbols) at × Room packed (tableWords symbols) (now table)
+        ⌝ }
     ensures { λ r. ⌜
         WordsRead (storedWords form packed)
         (rulesReader (sourceOf packed (now (book .entry)) (now (sheet .entry))) (unusedOf form)
-        (signatureOf (now (table .entry))) count at)
+        (signatureOf (take (tableWords symbols) (tableOf packed (now (sheet .entry)) (now (table .entry))))) count at)
         0 (now (words .entry)) r (now (words .exit))
         ⌝ }
 {
+    let front = symbols::front(symbols);
     if packed {
-        return read_packed_rules(book, &symbols::arities(table), words, form, count, at);
+        let arities = symbols::arities(&table[..front]);
+        return read_packed_rules(book, &arities, words, form, count, at);
     }
+    let arities = symbols::arities(&sheet[..front]);
     let unused = variables::unused_at_start(form);
-    read_word_rules(&symbols::arities(table), sheet, unused, count, at)
+    read_word_rules(&arities, sheet, unused, count, at)
 }

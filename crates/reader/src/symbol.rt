@@ -1,17 +1,18 @@
 // The symbol table of a rule file: a symbol's entry, and all of them into a table.
 ghost use mathlib.Core.Path.{_≡_};
-ghost use mathlib.Core.List.{List, []};
-ghost use mathlib.Core.Bool.{not};
+ghost use mathlib.Core.List.{List, [], _∷_, _++_};
+ghost use mathlib.Core.Bool.{false, not};
 ghost use Prim.Native.Nat.{ℕ, _+_, _≤_, _<_};
-ghost use lib.ListN.{length};
+ghost use lib.Dec.{eqb};
+ghost use lib.ListN.{length, getD};
 ghost use Rattle.terms.specs.Signature.{Symbol};
 ghost use Rattle.format.specs.Errors.{rankTaken};
 ghost use Rattle.format.specs.Layout.{maxBytes, rankWidth};
 ghost use Rattle.format.specs.Format.{heldBy, symbolReader, symbolsReader};
-ghost use Rattle.symbols.specs.Table.{symbolsAt, tableWords};
+ghost use Rattle.symbols.specs.Table.{symbolAt, symbolsAt, tableWords};
 ghost use Rattle.answers.specs.Answer.{readingOf, Fits};
-ghost use Rattle.reader.specs.Source.{sourceOf, tested};
-ghost use Rattle.reader.specs.Symbol.{TakenBy, SymbolPut, SymbolsPut};
+ghost use Rattle.reader.specs.Source.{sourceOf, Reached, tableOf, Room, tested};
+ghost use Rattle.reader.specs.Symbol.{TakenBy, SymbolPut, SymbolsRead, SymbolsPut};
 use crate::field::field;
 use answers::Answer;
 use format::RANKS;
@@ -41,7 +42,31 @@ fn read_rank(book: &[u8], sheet: &[u16], packed: bool, taken: &[bool; RANKS], at
     }
 }
 
-// Reads the symbol of that number into the table, after those before it, and marks its rank.
+// Stores the entry of the symbol of that number where the file is packed; among words it stands.
+fn put_entry(
+    table: &mut [u16],
+    packed: bool,
+    number: usize,
+    arity: u16,
+    ac: u16,
+    weight: u16,
+    rank: u16,
+)
+    requires { ⌜ (number < 256) × Room packed (tableWords (number + 1)) (now table) ⌝ }
+    ensures { λ _. ⌜
+        ((words : List ℕ) (s : Symbol) →
+        s ≡ record { arity = arity; ac = eqb ac 1; weight = weight; precedence = rank } →
+        (packed ≡ false → symbolAt words number ≡ s) →
+        symbolsAt (tableOf packed words (now (table .exit))) 0 (number + 1)
+        ≡ symbolsAt (tableOf packed words (now (table .entry))) 0 number ++ (s ∷ []))
+        ⌝ }
+{
+    if packed {
+        symbols::put_symbol(table, number, arity, ac, weight, rank);
+    }
+}
+
+// Reads the symbol of that number, of a packed file into the table, after those before it, and marks its rank.
 fn read_symbol(
     book: &[u8],
     sheet: &[u16],
@@ -52,13 +77,18 @@ fn read_symbol(
     number: usize,
     at: usize,
 ) -> Answer
-    requires { ⌜ (length (now book) ≤ maxBytes) × (number < 256) × (tableWords (number + 1) ≤ length (now table)) ⌝ }
-    requires { ⌜ TakenBy (symbolsAt (now table) 0 number) (now taken) × (length (now taken) ≡ 256) ⌝ }
+    requires { ⌜ (length (now book) ≤ maxBytes) × (number < 256) × Room packed (tableWords (number + 1)) (now table) ⌝ }
+    requires { ⌜ Reached packed (now book) (now sheet) (tableWords number) at ⌝ }
+    requires { ⌜
+        TakenBy (symbolsAt (tableOf packed (now sheet) (now table)) 0 number) (now taken) × (length (now taken) ≡ 256)
+        ⌝ }
     ensures { λ r. ⌜
         SymbolPut
         (symbolReader (sourceOf packed (now (book .entry)) (now (sheet .entry))) w0
-        (symbolsAt (now (table .entry)) 0 number) at)
-        (symbolsAt (now (table .entry)) 0 number) r (symbolsAt (now (table .exit)) 0 (number + 1)) (now (taken .exit))
+        (symbolsAt (tableOf packed (now (sheet .entry)) (now (table .entry))) 0 number) at)
+        (symbolsAt (tableOf packed (now (sheet .entry)) (now (table .entry))) 0 number)
+        (Reached packed (now (book .entry)) (now (sheet .entry)) (tableWords (number + 1))) r
+        (symbolsAt (tableOf packed (now (sheet .entry)) (now (table .exit))) 0 (number + 1)) (now (taken .exit))
         ⌝ }
     ensures { λ r. ⌜ length (now (taken .exit)) ≡ 256 ⌝ }
 {
@@ -96,12 +126,12 @@ fn read_symbol(
     let Answer::Got { value, next: _ } = read else {
         return read;
     };
-    symbols::put_symbol(table, number, arity, ac, weight, value as u16);
+    put_entry(table, packed, number, arity, ac, weight, value as u16);
     taken[value] = true;
     read
 }
 
-// Reads that many symbols into the table, with w0.
+// Reads that many symbols, those of a packed file into the table; the value is their number.
 fn read_symbols_from(
     book: &[u8],
     sheet: &[u16],
@@ -111,10 +141,11 @@ fn read_symbols_from(
     count: usize,
     at: usize,
 ) -> Answer
-    requires { ⌜ (length (now book) ≤ maxBytes) × (count < 256) × (tableWords count ≤ length (now table)) ⌝ }
+    requires { ⌜ (length (now book) ≤ maxBytes) × (count < 256) × Room packed (tableWords count) (now table) ⌝ }
+    requires { ⌜ Reached packed (now book) (now sheet) 4 at ⌝ }
     ensures { λ r. ⌜
-        SymbolsPut w0 count
-        (symbolsReader (sourceOf packed (now (book .entry)) (now (sheet .entry))) w0 count [] at) r (now (table .exit))
+        SymbolsRead (symbolsReader (sourceOf packed (now (book .entry)) (now (sheet .entry))) w0 count [] at) r
+        (symbolsAt (tableOf packed (now (sheet .entry)) (now (table .exit))) 0 count)
         ⌝ }
 {
     let mut taken = [false; RANKS];
@@ -127,14 +158,13 @@ fn read_symbols_from(
         }
         number += 1;
     }
-    symbols::put_variable_weight(table, w0);
     Answer::Got {
-        value: 0,
+        value: count,
         next: here,
     }
 }
 
-// The same by one branch on the source, so that the compiler makes a loop for each.
+// The same with w0, by one branch on the source, so that the compiler makes a loop for each.
 pub fn read_symbols(
     book: &[u8],
     sheet: &[u16],
@@ -144,14 +174,18 @@ pub fn read_symbols(
     count: usize,
     at: usize,
 ) -> Answer
-    requires { ⌜ (length (now book) ≤ maxBytes) × (count < 256) × (tableWords count ≤ length (now table)) ⌝ }
+    requires { ⌜ (length (now book) ≤ maxBytes) × (count < 256) × Room packed (tableWords count) (now table) ⌝ }
+    requires { ⌜ Reached packed (now book) (now sheet) 4 at × (packed ≡ false → getD (now sheet) 2 0 ≡ w0) ⌝ }
     ensures { λ r. ⌜
         SymbolsPut w0 count
-        (symbolsReader (sourceOf packed (now (book .entry)) (now (sheet .entry))) w0 count [] at) r (now (table .exit))
+        (symbolsReader (sourceOf packed (now (book .entry)) (now (sheet .entry))) w0 count [] at) r
+        (tableOf packed (now (sheet .entry)) (now (table .exit)))
         ⌝ }
 {
     if packed {
-        return read_symbols_from(book, sheet, true, table, w0, count, at);
+        let read = read_symbols_from(book, sheet, true, table, w0, count, at);
+        symbols::put_variable_weight(table, w0);
+        return read;
     }
     read_symbols_from(book, sheet, false, table, w0, count, at)
 }

@@ -4,7 +4,7 @@
 --     side-read                            a side, from the words where it was read
 --     words-more, side-stored              words stored one by one, and a side
 --     within-wider, left-fault, right-stored    a rule
-use mathlib.Core.Path.{_≡_, refl, sym, ap, _∙_}
+use mathlib.Core.Path.{_≡_, refl, sym, _∙_}
 use mathlib.Core.List.{List, [], _∷_}
 use Prim.Native.Nat.{ℕ, suc, _+_, _-_, _≤_, _<_}
 use native.Mathlib.Nat.{add-zero}

@@ -13,8 +13,9 @@ use Rattle.format.specs.Format.{Sides}
 use Rattle.answers.specs.declared.Answer.{Answer}
 use Rattle.answers.specs.declared.Answer.the-variants.{Got, Fault}
 
--- The answer to a reading of terms, the words before and after, where so many words stand before the nodes, and the word
--- of the lowest unused variable afterwards. A fault leaves open which words were stored before it, and that variable.
+-- The answer to a reading of terms, the words before and after, where so many words stand before the nodes, and the
+-- word of the lowest unused variable afterwards. A fault leaves open which words were stored before it, and that
+-- variable.
 abbrev pub TermsRead : ℕ → ℕ → List ℕ → Answer → List ℕ → ℕ → Reading (List ℕ) → Type 0
 TermsRead unused count before answer after lowest (got nodes next) =
     (answer ≡ Got (count + length nodes) next) × (count + length nodes ≤ maxNodes)

@@ -1,6 +1,5 @@
 // Reading a side and a rule of a packed file, node by node in prefix order, and storing their words.
 ghost use mathlib.Core.Path.{_≡_};
-ghost use mathlib.Core.List.{List};
 ghost use Prim.Native.Nat.{ℕ, _+_, _-_, _*_, _^_, _≤_, _<_};
 ghost use lib.ListN.{length};
 ghost use lib.Seq.{sets};
@@ -18,9 +17,9 @@ use format::MAX_NODES;
 use format::NODE_WORDS;
 
 // Reads as many terms as are owed from an offset on, their words stored after the first ones, and moves the word of the
-// lowest unused variable, the count of the words and the offset past them, or the offset to a fault. It reads a node and
-// calls itself for what is then owed, with one node fewer allowed. The answer is an error's code, 0 where it is none, and
-// not an enum, so that this call in last place is a jump.
+// lowest unused variable, the count of words and the offset past them, or the offset to a fault. It reads a node and
+// calls itself for what is then owed, with one node fewer allowed. The answer is an error's code, 0 where it is none,
+// and no enum, so that this call in last place is a jump.
 fn read_terms(
     book: &&[u8],
     arities: &[u32; NODE_WORDS],

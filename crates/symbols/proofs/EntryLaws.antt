@@ -1,13 +1,14 @@
 -- The words of entries in a table, and in a sheet.
 --     stored-four                        four stores one after the other
---     table-le, entry-lt, table-more, table-some     how many words a table has
+--     table-le, entry-lt, table-more, table-next, table-start, table-entries, table-some     how many words a table has
+--     symbols-stand                      one symbol more that stands
 --     symbols-put, symbols-kept          the symbols of a table after an entry, and after w0, was stored
 --     signature-front                    the signature of a table's front part
 --     length-symbolsWords, symbols-more  how many words the symbols take in a sheet; one symbol more
 use mathlib.Core.Path.{_≡_, refl, sym, ap, _∙_}
 use mathlib.Core.List.{List, [], _∷_, _++_, map}
 use mathlib.Core.Bool.{false}
-use Prim.Native.Nat.{ℕ, suc, zero, _+_, _*_, _/_, _≤_, _<_}
+use Prim.Native.Nat.{ℕ, suc, zero, _+_, _-_, _*_, _/_, _≤_, _<_}
 use native.Mathlib.Nat.{add-zero}
 use native.Mathlib.Numerals.{add-one}
 use native.Mathlib.Omega.{arith}
@@ -33,7 +34,7 @@ pub table-le : (n : ℕ) → n < 256 → tableWords n ≤ maxTableWords
 unfolding tableWords entryWords
 table-le n h = omega arith
 
-pub entry-lt : (n : ℕ) → n < 256 → entryWords n < maxTableWords
+pub entry-lt : (n : ℕ) → n < 256 → entryWords n + 3 < maxTableWords
 unfolding entryWords
 entry-lt n h = omega arith
 
@@ -41,19 +42,31 @@ pub table-more : (m n : ℕ) → m < n → tableWords (m + 1) ≤ tableWords n
 unfolding tableWords entryWords
 table-more m n h = omega arith
 
-pub table-some : (n : ℕ) → 0 < tableWords n
+pub table-next : (n : ℕ) → tableWords (n + 1) ≡ tableWords n + 1 + 1 + 1 + 1
+unfolding tableWords entryWords
+table-next n = omega arith
+
+pub table-start : tableWords 0 ≡ 4
+unfolding tableWords entryWords
+table-start = refl
+
+pub table-entries : (n : ℕ) → tableWords n ≡ 4 + entryWords n
+unfolding tableWords
+table-entries n = refl
+
+pub table-some : (n : ℕ) → 2 < tableWords n
 unfolding tableWords
 table-some n = omega arith
 
-symbols-same : (l m : List ℕ) (n f : ℕ) → ((j : ℕ) → 0 < j → j < 4 * (f + n) + 1 → getD l j 0 ≡ getD m j 0) →
+symbols-same : (l m : List ℕ) (n f : ℕ) → ((j : ℕ) → 3 < j → j < 4 * (f + n) + 4 → getD l j 0 ≡ getD m j 0) →
     symbolsAt l f n ≡ symbolsAt m f n
 symbols-same l m zero f h = refl
 symbols-same l m (suc n) f h =
     rw (
-      h (4 * f + 1) (omega arith) (omega arith),
-      h (4 * f + 2) (omega arith) (omega arith),
-      h (4 * f + 3) (omega arith) (omega arith),
       h (4 * f + 4) (omega arith) (omega arith),
+      h (4 * f + 5) (omega arith) (omega arith),
+      h (4 * f + 6) (omega arith) (omega arith),
+      h (4 * f + 7) (omega arith) (omega arith),
       symbols-same l m n (suc f) (λ j a b. h j a (omega arith)),
     )
 
@@ -62,6 +75,12 @@ symbols-snoc l f zero = rw add-zero
 symbols-snoc l f (suc n) =
     let e : suc f + n ≡ f + suc n = omega arith in
     ap (λ (ss : List Symbol). symbolAt l f ∷ ss) (rw e at (symbols-snoc l (suc f) n))
+
+pub symbols-stand : (l : List ℕ) (n : ℕ) (s : Symbol) → symbolAt l n ≡ s →
+    symbolsAt l 0 (n + 1) ≡ symbolsAt l 0 n ++ (s ∷ [])
+symbols-stand l n s e =
+    let z : 0 + n ≡ n = omega arith in
+    rw (add-one n) (symbols-snoc l 0 n ∙ rw (z, e))
 
 -- Words stored from an index on, and the words before them.
 module _ (l : List ℕ) (i : ℕ) (vs : List ℕ) (h : i + length vs ≤ length l) where
@@ -83,40 +102,40 @@ module _ (l : List ℕ) (i : ℕ) (vs : List ℕ) (h : i + length vs ≤ length 
 
 pub symbols-put : (table : List ℕ) (f arity ac weight rank : ℕ) → tableWords (f + 1) ≤ length table →
     symbolsAt (sets table (tableWords f) (arity ∷ ac ∷ weight ∷ rank ∷ [])) 0 (f + 1) ≡ symbolsAt table 0 f ++
-    (symbolAt (0 ∷ arity ∷ ac ∷ weight ∷ rank ∷ []) 0 ∷ [])
+    (symbolAt (0 ∷ 0 ∷ 0 ∷ 0 ∷ arity ∷ ac ∷ weight ∷ rank ∷ []) 0 ∷ [])
 unfolding tableWords entryWords
 symbols-put table f arity ac weight rank h =
     let vs : List ℕ = arity ∷ ac ∷ weight ∷ rank ∷ [] in
-    let put : List ℕ = sets table (1 + 4 * f) vs in
-    let at : (j k : ℕ) → j ≡ 1 + 4 * f + k → k < 4 → getD put j 0 ≡ getD vs k 0 =
-    sets-at table (1 + 4 * f) vs (omega arith) in
+    let put : List ℕ = sets table (4 + 4 * f) vs in
+    let at : (j k : ℕ) → j ≡ 4 + 4 * f + k → k < 4 → getD put j 0 ≡ getD vs k 0 =
+    sets-at table (4 + 4 * f) vs (omega arith) in
     let before : symbolsAt put 0 f ≡ symbolsAt table 0 f =
-    symbols-same put table f 0 (λ j a b. sets-before table (1 + 4 * f) vs (omega arith) j (omega arith)) in
+    symbols-same put table f 0 (λ j a b. sets-before table (4 + 4 * f) vs (omega arith) j (omega arith)) in
     let number : 0 + f ≡ f = omega arith in
     rw (add-one f)
     (symbols-snoc put 0 f
     ∙ rw (
       before,
       number,
-      at (4 * f + 1) 0 (omega arith) (omega arith),
-      at (4 * f + 2) 1 (omega arith) (omega arith),
-      at (4 * f + 3) 2 (omega arith) (omega arith),
-      at (4 * f + 4) 3 (omega arith) (omega arith),
+      at (4 * f + 4) 0 (omega arith) (omega arith),
+      at (4 * f + 5) 1 (omega arith) (omega arith),
+      at (4 * f + 6) 2 (omega arith) (omega arith),
+      at (4 * f + 7) 3 (omega arith) (omega arith),
     ))
 
-pub symbols-kept : (table : List ℕ) (w0 n : ℕ) → symbolsAt (set table 0 w0) 0 n ≡ symbolsAt table 0 n
+pub symbols-kept : (table : List ℕ) (w0 n : ℕ) → symbolsAt (set table 2 w0) 0 n ≡ symbolsAt table 0 n
 symbols-kept table w0 n =
-    symbols-same (set table 0 w0) table n 0 (λ j a b. getD-set-other table 0 j w0 0 (λ e. omega arith))
+    symbols-same (set table 2 w0) table n 0 (λ j a b. getD-set-other table 2 j w0 0 (λ e. omega arith))
 
 pub signature-front : (table : List ℕ) (n : ℕ) → tableWords n ≤ length table →
     signatureOf (take (tableWords n) table) ≡ record { w0 = weightOf table; symbols = symbolsAt table 0 n }
 unfolding signatureOf tableWords entryWords
 signature-front table n h =
-    let front : List ℕ = take (1 + 4 * n) table in
-    let count : (length front + 2) / 4 ≡ n = omega (arith, length-take-le (1 + 4 * n) table h) in
-    let same : (j : ℕ) → j < 1 + 4 * n → getD front j 0 ≡ getD table j 0 =
-    λ j b. getD-take (1 + 4 * n) table j 0 b in
-    rw (count, same 0 (omega arith), symbols-same front table n 0 (λ j a b. same j (omega arith)))
+    let front : List ℕ = take (4 + 4 * n) table in
+    let count : (length front - 1) / 4 ≡ n = omega (arith, length-take-le (4 + 4 * n) table h) in
+    let same : (j : ℕ) → j < 4 + 4 * n → getD front j 0 ≡ getD table j 0 =
+    λ j b. getD-take (4 + 4 * n) table j 0 b in
+    rw (count, same 2 (omega arith), symbols-same front table n 0 (λ j a b. same j (omega arith)))
 
 -- ---- in a sheet
 

@@ -1,17 +1,15 @@
 -- What a symbol table says of a symbol, by index.
 --     symbol-at     a symbol's entry is its four words, also past the end
---     symbol-count, index-count    how many symbols a table has, and whether it has one
+--     symbol-count  how many symbols a table has
 --     few-at        a table of at most 1,025 words has at most 256 symbols
 use mathlib.Core.List.{List}
 use mathlib.Core.Path.{_≡_, refl, sym, ap, _∙_}
 use mathlib.Core.Bool.{false}
-use Prim.Native.Nat.{ℕ, suc, zero, _+_, _*_, _/_, _≤_, _<_}
+use Prim.Native.Nat.{ℕ, suc, zero, _+_, _-_, _*_, _/_, _≤_, _<_}
 use native.Mathlib.Omega.{arith}
 use native.Mathlib.Nat.{add-zero, zero-add}
-use lib.Dec.{ltb}
 use lib.ListN.{length, getD, List·getD-eq-default}
-use borrow.Author.Tests.{lt-ltb, ltb-true}
-use Rattle.multisets.proofs.Relations.{byOrder, sameTest}
+use Rattle.multisets.proofs.Relations.{byOrder}
 use Rattle.terms.specs.Signature.{Symbol, symbolOf}
 use Rattle.symbols.specs.Table.{symbolAt, symbolsAt, signatureOf}
 
@@ -29,28 +27,22 @@ pub length-symbols : (table : List ℕ) (g n : ℕ) → length (symbolsAt table 
 length-symbols table g zero = refl
 length-symbols table g (suc n) = ap suc (length-symbols table (suc g) n)
 
-past-end : (table : List ℕ) (f : ℕ) → (length table + 2) / 4 ≤ f → symbolAt table f ≡ none
+past-end : (table : List ℕ) (f : ℕ) → (length table - 1) / 4 ≤ f → symbolAt table f ≡ none
 past-end table f h =
-    let past : (i : ℕ) → getD table (4 * f + suc i) 0 ≡ 0 = λ i. List·getD-eq-default table 0 (omega arith) in
-    rw (past 0, past 1, past 2, past 3)
+    let past : (i : ℕ) → 3 < i → getD table (4 * f + i) 0 ≡ 0 = λ i k. List·getD-eq-default table 0 (omega arith) in
+    rw (past 4 (omega arith), past 5 (omega arith), past 6 (omega arith), past 7 (omega arith))
 
 pub symbol-at : (table : List ℕ) (f : ℕ) → symbolOf (signatureOf table) f ≡ symbolAt table f
 unfolding signatureOf
 symbol-at table f =
-    let n = (length table + 2) / 4 in
+    let n = (length table - 1) / 4 in
     byOrder f n (λ h. symbols-at table 0 n f h ∙ ap (symbolAt table) (add-zero f))
     λ h. List·getD-eq-default (symbolsAt table 0 n) none (omega (arith, length-symbols table 0 n))
     ∙ sym (past-end table f h)
 
-pub symbol-count : (table : List ℕ) → length (signatureOf table .symbols) ≡ (length table + 2) / 4
+pub symbol-count : (table : List ℕ) → length (signatureOf table .symbols) ≡ (length table - 1) / 4
 unfolding signatureOf
-symbol-count table = length-symbols table 0 ((length table + 2) / 4)
-
-pub index-count : (f n : ℕ) → ltb (4 * f + 1) n ≡ ltb f ((n + 2) / 4)
-index-count f n =
-    sameTest (ltb (4 * f + 1) n) (ltb f ((n + 2) / 4))
-    (λ e. lt-ltb f ((n + 2) / 4) (omega (arith, ltb-true (4 * f + 1) n e)))
-    λ e. lt-ltb (4 * f + 1) n (omega (arith, ltb-true f ((n + 2) / 4) e))
+symbol-count table = length-symbols table 0 ((length table - 1) / 4)
 
 pub few-at : (table : List ℕ) → length table ≤ 1025 → length (signatureOf table .symbols) ≤ 256
 few-at table h = omega (arith, symbol-count table)

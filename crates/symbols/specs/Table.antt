@@ -1,6 +1,7 @@
--- The symbol table as words, and the signature that it means.
+-- The symbol table as words, and the signature that it means. The words lie as at the front of a sheet: w0 is the
+-- third, and the symbols begin after the header's four.
 use mathlib.Core.List.{List, [], _∷_, _++_, map}
-use Prim.Native.Nat.{ℕ, suc, zero, _+_, _*_, _/_}
+use Prim.Native.Nat.{ℕ, suc, zero, _+_, _-_, _*_, _/_}
 use lib.Dec.{eqb}
 use lib.ListN.{length, getD}
 use Rattle.terms.specs.Signature.{Symbol, Signature}
@@ -9,10 +10,10 @@ use Rattle.format.specs.Packing.{itemWord, symbolItems}
 -- The symbol of number f; words past the end are zeros.
 abbrev pub symbolAt : List ℕ → ℕ → Symbol
 symbolAt table f = record {
-  arity = getD table (4 * f + 1) 0;
-  ac = eqb (getD table (4 * f + 2) 0) 1;
-  weight = getD table (4 * f + 3) 0;
-  precedence = getD table (4 * f + 4) 0;
+  arity = getD table (4 * f + 4) 0;
+  ac = eqb (getD table (4 * f + 5) 0) 1;
+  weight = getD table (4 * f + 6) 0;
+  precedence = getD table (4 * f + 7) 0;
 }
 
 -- The n symbols from number f on.
@@ -22,11 +23,11 @@ symbolsAt table f (suc n) = symbolAt table f ∷ symbolsAt table (suc f) n
 
 -- The weight of a variable.
 abbrev pub weightOf : List ℕ → ℕ
-weightOf table = getD table 0 0
+weightOf table = getD table 2 0
 
--- w0 is the first word; the last symbol's words may be fewer than four.
+-- The last symbol's words may be fewer than four.
 unfoldable pub signatureOf : List ℕ → Signature
-signatureOf table = record { w0 = weightOf table; symbols = symbolsAt table 0 ((length table + 2) / 4) }
+signatureOf table = record { w0 = weightOf table; symbols = symbolsAt table 0 ((length table - 1) / 4) }
 
 -- How many words the entries of so many symbols take.
 unfoldable pub entryWords : ℕ → ℕ
@@ -34,10 +35,10 @@ entryWords n = 4 * n
 
 -- How many words a table of so many symbols has, and how many one may have.
 unfoldable pub tableWords : ℕ → ℕ
-tableWords n = 1 + entryWords n
+tableWords n = 4 + entryWords n
 
 abbrev pub maxTableWords : ℕ
-maxTableWords = 1021
+maxTableWords = 1024
 
 -- The words of the symbols in a sheet.
 abbrev pub symbolsWords : List Symbol → List ℕ

@@ -16,12 +16,12 @@ use crate::weight;
 use crate::wide;
 
 // How many words a symbol table may have.
-pub const TABLE_WORDS: usize = 1 + 4 * format::MAX_SYMBOLS;
+pub const TABLE_WORDS: usize = 4 + 4 * format::MAX_SYMBOLS;
 
 // How many words the entries of so many symbols take.
 pub fn entry_words(symbols: usize) -> usize
     requires { ⌜ symbols < 256 ⌝ }
-    ensures { λ r. ⌜ (r ≡ entryWords symbols) × (r < maxTableWords) ⌝ }
+    ensures { λ r. ⌜ (r ≡ entryWords symbols) × (r + 4 ≤ maxTableWords) ⌝ }
 {
     4 * symbols
 }
@@ -31,7 +31,7 @@ pub fn front(symbols: usize) -> usize
     requires { ⌜ symbols < 256 ⌝ }
     ensures { λ r. ⌜ (r ≡ tableWords symbols) × (r ≤ maxTableWords) ⌝ }
 {
-    1 + entry_words(symbols)
+    4 + entry_words(symbols)
 }
 
 // How many symbols a table has.
@@ -39,16 +39,19 @@ pub fn count(table: &[u16]) -> usize
     requires { ⌜ length (now table) ≤ maxTableWords ⌝ }
     ensures { λ r. ⌜ (r ≡ length (signatureOf (now (table .entry)) .symbols)) × (r < 256) ⌝ }
 {
-    (table.len() + 2) / 4
+    if table.len() == 0 {
+        return 0;
+    }
+    (table.len() - 1) / 4
 }
 
 // Stores the weight of a variable.
 pub fn put_variable_weight(table: &mut [u16], w0: u16)
-    requires { ⌜ 0 < length (now table) ⌝ }
+    requires { ⌜ 2 < length (now table) ⌝ }
     ensures { λ _. ⌜ weightOf (now (table .exit)) ≡ w0 ⌝ }
     ensures { λ _. ⌜ ((n : ℕ) → symbolsAt (now (table .exit)) 0 n ≡ symbolsAt (now (table .entry)) 0 n) ⌝ }
 {
-    table[0] = w0;
+    table[2] = w0;
 }
 
 // Stores the entry of the symbol of that number, after those before it.

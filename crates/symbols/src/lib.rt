@@ -2,11 +2,12 @@
 ghost use mathlib.Core.Path.{_≡_};
 ghost use mathlib.Core.Bool.{_||_};
 ghost use Prim.Native.Nat.{_+_, _*_, _^_, _≤_, _<_};
-ghost use lib.Dec.{eqb, ltb};
+ghost use lib.Dec.{eqb};
 ghost use lib.ListN.{length, getD};
-ghost use Rattle.terms.specs.Signature.{symbolOf, leastWeight};
+ghost use Rattle.terms.specs.Signature.{Signature, symbolOf, leastWeight};
 ghost use Rattle.symbols.specs.Table.{signatureOf, maxTableWords};
-ghost use Rattle.symbols.specs.Arities.{cellOf, Arities, Between};
+ghost use Rattle.symbols.specs.Arities.{Arities, Between};
+use format::FIRST_VARIABLE;
 use format::NODE_WORDS;
 
 mod entries;
@@ -44,32 +45,32 @@ pub fn word_at(words: &[u16], index: usize) -> u16
 pub fn arity(table: &[u16], f: u16) -> usize
     ensures { λ r. ⌜ (r ≡ symbolOf (signatureOf (now (table .entry))) f .arity) × (r < 65536) ⌝ }
 {
-    wide(word_at(table, 4 * wide(f) + 1))
+    wide(word_at(table, 4 * wide(f) + 4))
 }
 
 pub fn is_ac(table: &[u16], f: u16) -> bool
     ensures { λ r. ⌜ r ≡ symbolOf (signatureOf (now (table .entry))) f .ac ⌝ }
 {
-    word_at(table, 4 * wide(f) + 2) == 1
+    word_at(table, 4 * wide(f) + 5) == 1
 }
 
 pub fn weight(table: &[u16], f: u16) -> u64
     ensures { λ r. ⌜ (r ≡ symbolOf (signatureOf (now (table .entry))) f .weight) × (r < 65536) ⌝ }
 {
-    long(word_at(table, 4 * wide(f) + 3))
+    long(word_at(table, 4 * wide(f) + 6))
 }
 
 pub fn precedence(table: &[u16], f: u16) -> u16
     ensures { λ r. ⌜ r ≡ symbolOf (signatureOf (now (table .entry))) f .precedence ⌝ }
 {
-    word_at(table, 4 * wide(f) + 4)
+    word_at(table, 4 * wide(f) + 7)
 }
 
 // The weight of a variable.
 pub fn variable_weight(table: &[u16]) -> u64
     ensures { λ r. ⌜ (r ≡ signatureOf (now (table .entry)) .w0) × (r < 65536) ⌝ }
 {
-    long(word_at(table, 0))
+    long(word_at(table, 2))
 }
 
 // Whether a symbol that is AC has two arguments: 4 shifted by the arity is odd for two alone. There is no branch on the
@@ -90,49 +91,41 @@ pub fn least_weight(w0: u16, arity: u16) -> u16
     least[wide(arity)]
 }
 
-// Whether the table has a symbol of that number.
-pub fn has_symbol(table: &[u16], f: u16) -> bool
-    ensures { λ r. ⌜ r ≡ ltb f (length (signatureOf (now (table .entry)) .symbols)) ⌝ }
-{
-    4 * wide(f) + 1 < table.len()
-}
-
-// One more than how many arguments a node calls for; 0 for a symbol that the table lacks.
-fn cell(table: &[u16], word: u16) -> u32
-    ensures { λ r. ⌜ r ≡ cellOf (signatureOf (now (table .entry))) word ⌝ }
-{
-    if format::FIRST_VARIABLE <= word {
-        return 1;
-    }
-    if has_symbol(table, word) {
-        return arity(table, word) as u32 + 1;
-    }
-    0
-}
-
-// Writes the cells of the words from one to another.
-fn put_cells(table: &[u16], cells: &mut [u32; NODE_WORDS], from: u16, to: u16)
-    requires { ⌜ (from ≤ to) × (to ≤ 272) × (length (now cells) ≡ 272) ⌝ }
+// Stores the cells of all symbols of a table, one more than how many arguments each calls for.
+fn put_symbol_cells(table: &[u16], cells: &mut [u32; NODE_WORDS], count: usize)
+    requires { ⌜ (count ≡ length (signatureOf (now table) .symbols)) × (count ≤ 256) × (length (now cells) ≡ 272) ⌝ }
     ensures { λ _. ⌜
-        Between (signatureOf (now (table .entry))) from to (now (cells .entry)) (now (cells .exit))
+        Between (signatureOf (now (table .entry))) 0 count (now (cells .entry)) (now (cells .exit))
         ⌝ }
     ensures { λ _. ⌜ length (now (cells .exit)) ≡ 272 ⌝ }
 {
-    let mut word = from;
-    while word < to {
-        cells[wide(word)] = cell(table, word);
+    let mut f = 0;
+    while f < count {
+        cells[f] = wide(table[4 * f + 4]) as u32 + 1;
+        f += 1;
+    }
+}
+
+// Stores the cells of the variables, which call for none.
+fn put_variable_cells(cells: &mut [u32; NODE_WORDS])
+    requires { ⌜ length (now cells) ≡ 272 ⌝ }
+    ensures { λ _. ⌜ ((σ : Signature) → Between σ 256 272 (now (cells .entry)) (now (cells .exit))) ⌝ }
+{
+    let mut word = FIRST_VARIABLE as usize;
+    while word < NODE_WORDS {
+        cells[word] = 1;
         word += 1;
     }
 }
 
-// The cells of all node words.
+// The cells of all node words; 0 for a symbol that the table lacks.
 pub fn arities(table: &[u16]) -> [u32; NODE_WORDS]
     requires { ⌜ length (now table) ≤ maxTableWords ⌝ }
     ensures { λ r. ⌜ Arities (signatureOf (now (table .entry))) r ⌝ }
 {
     let mut cells = [0u32; NODE_WORDS];
-    put_cells(table, &mut cells, 0, count(table) as u16);
-    put_cells(table, &mut cells, format::FIRST_VARIABLE, NODE_WORDS as u16);
+    put_symbol_cells(table, &mut cells, count(table));
+    put_variable_cells(&mut cells);
     cells
 }
 

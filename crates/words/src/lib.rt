@@ -72,8 +72,8 @@ fn node_error(arities: &[u32; NODE_WORDS], lowest: usize, word: u16) -> u8
 
 // Reads as many terms as are owed from an offset on, where the word of the lowest unused variable is given, and moves
 // both past them. It reads a node and calls itself for what is then owed. Nodes are allowed up to the limit; it stops
-// there or where the words end, so that one test serves both. The answer is an error's code, 0 where it is none, and not
-// an enum, so that this call in last place is a jump.
+// there or where the words end, so that one test serves both. The answer is an error's code, 0 where it is none, and no
+// enum, so that this call in last place is a jump.
 fn terms(
     words: &&[u16],
     arities: &[u32; NODE_WORDS],

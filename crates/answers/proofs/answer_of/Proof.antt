@@ -1,6 +1,5 @@
 -- The test of the code is the definition's.
 use borrow.Author.Tests.{eq-eqb, ne-eqb}
-use borrow.Author.Needs.{needs}
 use Rattle.answers.proofs.answer_of.Statement.{statement}
 use Rattle.answers.proofs.answer_of.Tie as tie
 

@@ -5,7 +5,6 @@ use Rattle.sides.proofs.SideLaws.{left-fault, right-stored, within-wide
 use borrow.Author.Needs.{needs}
 use Rattle.sides.proofs.read_rule_into.Statement.{statement}
 use Rattle.sides.proofs.read_rule_into.Tie as tie
-use Rattle.sides.proofs.read_side_into.Reads as read-side-into-reads
 
 read-side-into-requires-2 : tie.Need-read-side-into-requires-2
 read-side-into-requires-2 c κs =

@@ -9,8 +9,6 @@ use Rattle.sides.proofs.SideLaws.{side-read}
 use borrow.Author.Needs.{needs}
 use Rattle.sides.proofs.read_side.Statement.{statement}
 use Rattle.sides.proofs.read_side.Tie as tie
-use Rattle.answers.proofs.answer_of.Reads as answer-of-reads
-use Rattle.sides.proofs.read_terms.Reads as read-terms-reads
 
 sub-unused : tie.Need-sub-unused
 sub-unused c = c .read-terms .ensures .1 .1 .1

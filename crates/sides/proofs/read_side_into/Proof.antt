@@ -7,13 +7,12 @@ use Rattle.sides.proofs.SideLaws.{side-stored}
 use borrow.Author.Needs.{needs}
 use Rattle.sides.proofs.read_side_into.Statement.{statement}
 use Rattle.sides.proofs.read_side_into.Tie as tie
-use Rattle.sides.proofs.put_words.Reads as put-words-reads
-use Rattle.sides.proofs.read_side.Reads as read-side-reads
 
 array-share-prefix-side : tie.Need-array-share-prefix-side
 array-share-prefix-side c =
     let c4 = c .before .before .before .before in
-    omega (arith, rw (c .before .before .value .given .1) at (c4 .read-side .ensures .1 .0), c4 .read-side .ensures .1 .1)
+    let within = rw (c .before .before .value .given .1) at (c4 .read-side .ensures .1 .0) in
+    omega (arith, within, c4 .read-side .ensures .1 .1)
 
 slice-aggregate-put-words : tie.Need-slice-aggregate-put-words
 slice-aggregate-put-words c =

@@ -11,11 +11,11 @@ returns c =
     let c3 = c .before .before .before in
     let c6 = c3 .before .before .before in
     let σ = signatureOf (c6 .args .table .now) in
-    cells-all σ _ _ (omega (arith, c3 .count .ensures)) (rw (c3 .count .ensures .0) at (c .before .before .put-cells
-    .ensures .0))
-    (c .put-cells2 .ensures .0)
+    cells-all σ _ _ (omega (arith, c3 .count .ensures))
+    (rw (c3 .count .ensures .0) at (c .before .before .put-symbol-cells .ensures .0))
+    (c .put-variable-cells .ensures σ)
 
 pub arities-spec : {M : Type 1} → statement M
 arities-spec =
-    tie.close (tie.spec (λ c κs. search needs) (λ c. search needs) (λ c κs. search needs) (λ c. search needs)
-    (λ c κs. search needs) returns)
+    tie.close
+    (tie.spec (λ c κs. search needs) (λ c κs. search needs) (λ c κs. search needs) returns)

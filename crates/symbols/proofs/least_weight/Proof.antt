@@ -1,8 +1,7 @@
 -- The list has the least weights by the arity.
 use mathlib.Core.Path.{_≡_, refl, ap, _∙_}
-use mathlib.Core.List.{List, [], _∷_}
-use Prim.Native.Nat.{ℕ, suc, zero, _<_}
-use native.Mathlib.Omega.{arith}
+use mathlib.Core.List.{[], _∷_}
+use Prim.Native.Nat.{ℕ, suc, zero}
 use lib.ListN.{getD}
 use Rattle.terms.specs.Signature.{leastWeight}
 use borrow.Author.Needs.{needs}

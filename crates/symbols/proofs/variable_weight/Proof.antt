@@ -1,4 +1,4 @@
--- w0 is the first word.
+-- w0 is the third word.
 use native.Mathlib.Omega.{arith}
 use mathlib.Core.Path.{_∙_}
 use Rattle.symbols.specs.Table.{signatureOf}

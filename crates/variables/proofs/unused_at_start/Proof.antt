@@ -1,7 +1,6 @@
 -- The test is the definition's.
 use native.Mathlib.Omega.{arith}
 use borrow.Author.Tests.{eq-eqb, ne-eqb}
-use borrow.Author.Needs.{needs}
 use Rattle.format.specs.Layout.{firstForm}
 use Rattle.variables.proofs.unused_at_start.Statement.{statement}
 use Rattle.variables.proofs.unused_at_start.Tie as tie

@@ -5,9 +5,6 @@ use Rattle.words.proofs.TermLaws.{all-allowed}
 use borrow.Author.Needs.{needs}
 use Rattle.words.proofs.term.Statement.{statement}
 use Rattle.words.proofs.term.Tie as tie
-use Rattle.answers.proofs.answer_of.Reads as answer-of-reads
-use Rattle.words.proofs.lesser.Reads as lesser-reads
-use Rattle.words.proofs.terms.Reads as terms-reads
 
 terms-requires : tie.Need-terms-requires
 terms-requires c κs =

@@ -7,8 +7,6 @@ use Rattle.marking.proofs.SideLaws.{side-term, right-marked}
 use borrow.Author.Needs.{needs}
 use Rattle.marking.proofs.rule.mark_right.Statement.{statement}
 use Rattle.marking.proofs.rule.mark_right.Tie as tie
-use Rattle.marking.proofs.rule.mark_sides.Reads as mark-sides-reads
-use Rattle.sides.proofs.read_side.Reads as read-side-reads
 
 array-share-prefix-right : tie.Need-array-share-prefix-right
 array-share-prefix-right c =

@@ -10,9 +10,6 @@ use Rattle.marking.proofs.SideLaws.{side-term, left-unread, rule-marked
 use borrow.Author.Needs.{needs}
 use Rattle.marking.proofs.rule.mark_rule.Statement.{statement}
 use Rattle.marking.proofs.rule.mark_rule.Tie as tie
-use Rattle.marking.proofs.rule.mark_right.Reads as mark-right-reads
-use Rattle.sides.proofs.read_side.Reads as read-side-reads
-use Rattle.variables.proofs.unused_at_start.Reads as unused-at-start-reads
 
 read-side-requires : tie.Need-read-side-requires
 read-side-requires c κs =

@@ -15,18 +15,14 @@ front-requires : tie.Need-front-requires
 unfolding Reached
 front-requires c κs =
     let c4 = c .before .before .before .before in
-    (rw (c .before .symbols .given .1) at (c4 .read-head .ensures)) .1 .fewSymbols
+    (rw (c .before .value .given .1) at (c4 .read-head .ensures)) .1 .fewSymbols
 
 slice-aggregate-mark-under : tie.Need-slice-aggregate-mark-under
 unfolding Reached
 slice-aggregate-mark-under c =
     let c6 = c .before .before .before .before .before .before in
-    sym (length-take-le _ (c6 .read-head .last .1 .1 .1 .1 .0) (omega (
-      arith,
-      c .before .front .ensures .1,
-      c6 .read-head
-          .kept .1 .1 .1 .1 .0,
-    )))
+    sym (length-take-le _ (c6 .read-head .last .1 .1 .1 .1 .0)
+    (omega (arith, c .before .front .ensures .1, c6 .read-head .kept .1 .1 .1 .1 .0)))
 
 mark-under-requires : tie.Need-mark-under-requires
 unfolding Reached
@@ -34,14 +30,14 @@ mark-under-requires c κs =
     let c3 = c .before .before .before in
     let c5 = c3 .before .before in
     let c8 = c5 .before .before .before in
-    let c13 = c8 .before .before .before .before .before in
-    let head = rw (c5 .symbols .given .1) at (c8 .read-head .ensures) in (
+    let c14 = c8 .before .before .before .before .before .before in
+    let head = rw (c5 .value .given .1) at (c8 .read-head .ensures) in (
       (head .1 .short, head .1 .within),
       (
         rw (c3 .front .ensures .0)
-            (is-table (c13 .args .book .now) _ _ _ _ (sym (c8 .read-head .kept .1 .1 .1 .1 .0)) (head .1)),
+            (is-table (c14 .args .book .now) _ _ _ _ (sym (c8 .read-head .kept .1 .1 .1 .1 .0)) (head .1)),
         head .1 .fewRules,
-        c13 .pre,
+        c14 .pre,
       ),
     )
 
@@ -49,8 +45,9 @@ returns : tie.Need-returns
 unfolding Reached
 returns c =
     let c4 = c .before .before .before .before in
-    let c9 = c4 .before .before .before .before .before in
-    sym (read-packed formNumber (c9 .args .book .now) []) ∙ rw (c .before .code .given .1) at (c4 .read-head .ensures)
+    let c10 = c4 .before .before .before .before .before .before in
+    sym (read-packed formNumber (c10 .args .book .now) [])
+    ∙ rw (c .before .offset .given .1) at (c4 .read-head .ensures)
 
 returns-2 : tie.Need-returns-2
 unfolding Reached
@@ -59,13 +56,25 @@ returns-2 c =
     let c7 = c3 .before .before .before .before in
     let c9 = c7 .before .before in
     let c12 = c9 .before .before .before in
-    let c17 = c12 .before .before .before .before .before in
-    let head = rw (c9 .symbols .given .1) at (c12 .read-head .ensures) in
-    rw (sym (read-packed formNumber (c17 .args .book .now) []) ∙ head .0) (rw (c7 .front .ensures .0) at (c3 .mark-under
-    .ensures))
+    let c18 = c12 .before .before .before .before .before .before in
+    let head = rw (c9 .value .given .1) at (c12 .read-head .ensures) in
+    rw (sym (read-packed formNumber (c18 .args .book .now) []) ∙ head .0)
+    (rw (c7 .front .ensures .0) at (c3 .mark-under .ensures))
 
 pub mark-file-spec : {M : Type 1} → statement M
 mark-file-spec =
-    tie.close (tie.spec (λ c. search needs) (λ c. search needs) (λ c κs. search needs) (λ c. search needs)
-    (λ c. search needs) front-requires (λ c. search needs) slice-aggregate-mark-under mark-under-requires
-    returns (λ c. search needs) (λ c. search needs) returns-2)
+    tie.close
+    (tie.spec
+    (λ c. search needs)
+    (λ c. search needs)
+    (λ c κs. search needs)
+    (λ c. search needs)
+    (λ c. search needs)
+    front-requires
+    (λ c. search needs)
+    slice-aggregate-mark-under
+    mark-under-requires
+    returns
+    (λ c. search needs)
+    (λ c. search needs)
+    returns-2)

@@ -9,9 +9,6 @@ use Rattle.reader.proofs.FileLaws.{read-parts}
 use borrow.Author.Needs.{needs}
 use Rattle.reader.proofs.file.read_head.Statement.{statement}
 use Rattle.reader.proofs.file.read_head.Tie as tie
-use Rattle.reader.proofs.field.field.Reads as field-reads
-use Rattle.reader.proofs.file.form_error.Reads as form-error-reads
-use Rattle.reader.proofs.file.read_counts.Reads as read-counts-reads
 
 returns : tie.Need-returns
 unfolding readSource
@@ -23,54 +20,53 @@ returns-2 : tie.Need-returns-2
 unfolding readSource
 returns-2 c =
     let c3 = c .before .before .before in
+    let c7 = c3 .before .before .before .before in
+    let a = c7 .args in
+    let short = le-leb (length (a .book .now)) maxBytes (c3 .if1 .left) in
+    let form = sym (rw (c .enum-told .given .1) at (c .before .before .field .ensures .0)) in
+    rw (c .enum-told .given .1, short) (read-parts (a .form) (a .packed) (a .book .now) (a .sheet .now) ∙ rw form)
+
+returns-3 : tie.Need-returns-3
+unfolding readSource
+returns-3 c =
+    let c3 = c .before .before .before in
     let c5 = c3 .before .before in
     let c6 = c5 .before in
     let c10 = c6 .before .before .before .before in
     let a = c10 .args in
     let short = le-leb (length (a .book .now)) maxBytes (c6 .if1 .left) in
-    let form = sym (rw (c3 .value .given .1) at (c5 .field .ensures .0)) in
+    let form = sym (rw (c3 .read .given .1) at (c5 .field .ensures .0)) in
     rw short (read-parts (a .form) (a .packed) (a .book .now) (a .sheet .now)
     ∙ rw (form, ne-eqb _ _ (c .before .if2 .taken), c .form-error .ensures))
 
 read-counts-requires : tie.Need-read-counts-requires
 unfolding readSource
 read-counts-requires c κs =
-    let c3 = c .before .before .before in
-    let c5 = c3 .before .before in
-    let c6 = c5 .before in
-    let c10 = c6 .before .before .before .before in
-    let a = c10 .args in
-    let form = sym (rw (c3 .value .given .1) at (c5 .field .ensures .0)) in
+    let c4 = c .before .before .before .before in
+    let c6 = c4 .before .before in
+    let c7 = c6 .before in
+    let c11 = c7 .before .before .before .before in
+    let a = c11 .args in
+    let form = sym (rw (c4 .read .given .1) at (c6 .field .ensures .0)) in
     let start = reached-start (a .packed) (a .book .now) (a .sheet .now) in
-    ((c6 .if1 .left, reached-field (a .packed) (a .book .now) (a .sheet .now) 0 4 _ _ _ start form), c10 .pre)
-
-returns-3 : tie.Need-returns-3
-unfolding readSource
-returns-3 c =
-    let c3 = c .before .before .before in
-    let c4 = c3 .before in
-    let c8 = c4 .before .before .before .before in
-    let a = c8 .args in
-    let short = le-leb (length (a .book .now)) maxBytes (c4 .if1 .left) in
-    let form = sym (rw (c .before .offset .given .1) at (c3 .field .ensures .0)) in
-    rw short (read-parts (a .form) (a .packed) (a .book .now) (a .sheet .now) ∙ rw form)
+    ((c7 .if1 .left, reached-field (a .packed) (a .book .now) (a .sheet .now) 0 4 _ _ _ start form), c11 .pre)
 
 returns-4 : tie.Need-returns-4
 unfolding readSource
 returns-4 c =
-    let c4 = c .before .before .before .before in
-    let c6 = c4 .before .before in
-    let c8 = c6 .before .before in
-    let c9 = c8 .before in
-    let c13 = c9 .before .before .before .before in
-    let a = c13 .args in
-    let short = le-leb (length (a .book .now)) maxBytes (c9 .if1 .left) in
-    let form = sym (rw (c6 .value .given .1) at (c8 .field .ensures .0)) in
+    let c5 = c .before .before .before .before .before in
+    let c7 = c5 .before .before in
+    let c9 = c7 .before .before in
+    let c10 = c9 .before in
+    let c14 = c10 .before .before .before .before in
+    let a = c14 .args in
+    let short = le-leb (length (a .book .now)) maxBytes (c10 .if1 .left) in
+    let form = sym (rw (c7 .read .given .1) at (c9 .field .ensures .0)) in
     rw (
       short,
       read-parts (a .form) (a .packed) (a .book .now) (a .sheet .now),
       form,
-      eq-eqb _ _ (c4 .if2 .left),
+      eq-eqb _ _ (c5 .if2 .left),
     ) (c .before .before .read-counts .ensures (a .form))
 
 pub read-head-spec : {M : Type 1} → statement M
@@ -81,9 +77,9 @@ read-head-spec =
     (λ c κs. search needs)
     (λ c. search needs)
     (λ c. search needs)
-    (λ c κs. search needs)
     returns-2
-    read-counts-requires
+    (λ c κs. search needs)
     returns-3
+    read-counts-requires
     (λ c. search needs)
     returns-4)

@@ -1,57 +1,98 @@
 -- Each branch is the rules of its source; of those among words nothing is stored.
+use mathlib.Core.Path.{sym}
 use native.Mathlib.Omega.{arith}
+use lib.ListN.{take}
+use lib.Seq.{length-take-le}
 use Rattle.format.specs.Reading.{wordSource}
 use Rattle.format.specs.Format.{unusedOf, rulesReader}
 use Rattle.symbols.specs.Table.{signatureOf}
+use Rattle.symbols.proofs.EntryLaws.{table-le}
 use Rattle.reader.specs.Source.{sourceOf, Reached}
 use Rattle.reader.specs.File.{storedWords}
 use Rattle.reader.proofs.RuleLaws.{words-kept}
 use borrow.Author.Needs.{needs}
 use Rattle.reader.proofs.rule.read_rules.Statement.{statement}
 use Rattle.reader.proofs.rule.read_rules.Tie as tie
-use Rattle.reader.proofs.rule.read_packed_rules.Reads as read-packed-rules-reads
-use Rattle.reader.proofs.rule.read_word_rules.Reads as read-word-rules-reads
-use Rattle.symbols.proofs.arities.Reads as arities-reads
-use Rattle.variables.proofs.unused_at_start.Reads as unused-at-start-reads
+
+slice-aggregate-arities : tie.Need-slice-aggregate-arities
+unfolding sourceOf storedWords Reached
+slice-aggregate-arities c =
+    let c7 = c .before .before .before .before .before .before .before in
+    let room = rw (c .before .if1 .taken) at (c7 .pre .1 .1) in
+    let front = c .before .before .front in
+    sym (length-take-le (front .result) (c7 .args .table .now) (omega (arith, room, front .ensures .0)))
+
+arities-requires : tie.Need-arities-requires
+unfolding sourceOf storedWords Reached
+arities-requires c κs =
+    let c7 = c .before .before .before .before .before .before .before in
+    let room = rw (c .before .if1 .taken) at (c7 .pre .1 .1) in
+    let front = c .before .before .front in
+    let long = length-take-le (front .result) (c7 .args .table .now) (omega (arith, room, front .ensures .0)) in
+    omega (arith, long, front .ensures .1)
 
 read-packed-rules-requires : tie.Need-read-packed-rules-requires
 unfolding sourceOf storedWords Reached
 read-packed-rules-requires c κs =
-    let c3 = c .before .before .before in
-    let c8 = c3 .before .before .before .before .before in
-    let (fields, few, reached) = c8 .pre .1 in
-    (c8 .pre .0 .0, rw (c3 .if1 .taken) at reached, c8 .pre .0 .2)
+    let c4 = c .before .before .before .before in
+    let c10 = c4 .before .before .before .before .before .before in
+    (c10 .pre .0 .0, rw (c4 .if1 .taken) at (c10 .pre .1 .0), c10 .pre .0 .2)
 
 returns : tie.Need-returns
 unfolding sourceOf storedWords Reached
 returns c =
     let c5 = c .before .before .before .before .before in
-    let c6 = c5 .before in
-    rw (c6 .if1 .taken) (c .before .before .read-packed-rules .ensures _ (c5 .arities .ensures))
+    let c7 = c5 .before .before in
+    let c8 = c7 .before in
+    rw (c7 .if1 .taken, ← c8 .front .ensures .0)
+    (c .before .before .read-packed-rules .ensures _ (c5 .arities .ensures))
+
+slice-aggregate-arities-2 : tie.Need-slice-aggregate-arities-2
+unfolding sourceOf storedWords Reached
+slice-aggregate-arities-2 c =
+    let c7 = c .before .before .before .before .before .before .before in
+    let (at, within) = rw (c .before .if1 .left) at (c7 .pre .1 .0) in
+    let front = c .before .before .front in
+    sym (length-take-le (front .result) (c7 .args .sheet .now) (omega (arith, at, within, front .ensures .0)))
+
+arities-requires-2 : tie.Need-arities-requires-2
+unfolding sourceOf storedWords Reached
+arities-requires-2 c κs =
+    let c7 = c .before .before .before .before .before .before .before in
+    let (at, within) = rw (c .before .if1 .left) at (c7 .pre .1 .0) in
+    let front = c .before .before .front in
+    let long = length-take-le (front .result) (c7 .args .sheet .now) (omega (arith, at, within, front .ensures .0)) in
+    omega (arith, long, front .ensures .1)
 
 read-word-rules-requires : tie.Need-read-word-rules-requires
 unfolding sourceOf storedWords Reached
 read-word-rules-requires c κs =
-    let c3 = c .before .before .before in
-    let c8 = c3 .before .before .before .before .before in
-    let (fields, few, reached) = c8 .pre .1 in
-    let at = rw (c3 .if1 .left) at reached in (
-      (omega (arith, at .0, few), c8 .pre .0 .2, c .before .before .unused-at-start .ensures .1),
-      (signatureOf (c8 .args .table .now), c .before .arities2 .ensures),
+    let c4 = c .before .before .before .before in
+    let c5 = c4 .before in
+    let c10 = c5 .before .before .before .before .before in
+    let (at, within) = rw (c4 .if1 .left) at (c10 .pre .1 .0) in (
+      (
+        omega (arith, at, table-le (c10 .args .symbols) (c10 .pre .0 .1)),
+        c10 .pre .0 .2,
+        c .before .unused-at-start .ensures .1,
+      ),
+      (signatureOf (take (c5 .front .result) (c10 .args .sheet .now)), c .before .before .arities3 .ensures),
     )
 
 returns-2 : tie.Need-returns-2
 unfolding sourceOf storedWords Reached
 returns-2 c =
     let c3 = c .before .before .before in
-    let c4 = c3 .before in
-    let c9 = c4 .before .before .before .before .before in
-    let a = c9 .args in
-    let σ = signatureOf (a .table .now) in
+    let c5 = c3 .before .before in
+    let c6 = c5 .before in
+    let c11 = c6 .before .before .before .before .before in
+    let a = c11 .args in
+    let σ = signatureOf (take (c6 .front .result) (a .sheet .now)) in
     rw (
-      c4 .if1 .left,
-      c .read-word-rules .ensures σ (c .before .before .arities2 .ensures),
-      c3 .unused-at-start .ensures .0,
+      c5 .if1 .left,
+      ← c6 .front .ensures .0,
+      c .read-word-rules .ensures σ (c3 .arities3 .ensures),
+      c .before .before .unused-at-start .ensures .0,
     )
     (words-kept (rulesReader (wordSource (a .sheet .now)) (unusedOf (a .form)) σ (a .count) (a .at)) (a .words .now))
 
@@ -60,10 +101,13 @@ read-rules-spec =
     tie.close
     (tie.spec
     (λ c κs. search needs)
+    slice-aggregate-arities
+    arities-requires
     read-packed-rules-requires
     (λ c. search needs)
     returns
-    (λ c κs. search needs)
+    slice-aggregate-arities-2
+    arities-requires-2
     (λ c κs. search needs)
     read-word-rules-requires
     returns-2)

@@ -8,7 +8,6 @@ use Rattle.reader.proofs.RuleLaws.{rule-unread, rule-half, rule-whole}
 use borrow.Author.Needs.{needs}
 use Rattle.reader.proofs.rule.read_word_rule.Statement.{statement}
 use Rattle.reader.proofs.rule.read_word_rule.Tie as tie
-use Rattle.words.proofs.term.Reads as term-reads
 
 term-requires-2 : tie.Need-term-requires-2
 term-requires-2 c κs =

@@ -1,14 +1,15 @@
 -- The four fields are read and tested in the order of the definition; the entry is stored after the earlier ones.
-use mathlib.Core.Path.{_≡_, refl, sym, ap, _∙_}
-use mathlib.Core.List.{List}
+use mathlib.Core.Path.{_≡_, refl, sym, _∙_}
 use mathlib.Core.Bool.{Bool, true, false, not}
-use Prim.Native.Nat.{ℕ}
 use native.Mathlib.Omega.{arith}
 use lib.Dec.{eqb}
 use lib.ListN.{length-set}
 use Rattle.terms.specs.Signature.{Symbol}
 use Rattle.symbols.specs.Table.{symbolsAt}
-use Rattle.reader.specs.Source.{sourceOf}
+use Rattle.format.specs.Errors.{weightInadmissible, rankTaken}
+use Rattle.format.specs.Layout.{weightWidth, rankWidth}
+use Rattle.reader.specs.Source.{sourceOf, tableOf}
+use Rattle.reader.proofs.SourceLaws.{tested-field, entry-stands, reached-entry}
 use Rattle.reader.proofs.SymbolLaws.{symbol-parts, taken-put}
 use borrow.Author.Needs.{needs}
 use Rattle.reader.proofs.symbol.read_symbol.Statement.{statement}
@@ -26,10 +27,10 @@ returns : tie.Need-returns
 returns c =
     let c6 = c .before .before .before .before .before .before in
     let a = c6 .args in
+    let earlier = symbolsAt (tableOf (a .packed) (a .sheet .now) (a .table .now)) 0 (a .number) in
     let arity = sym (rw (c .enum-told .given .1) at (c .before .before .field .ensures .0)) in
-    let parts = symbol-parts (sourceOf (a .packed) (a .book .now) (a .sheet .now)) (a .w0) (symbolsAt (a .table .now)
-    0 (a .number)) (a .at) in
-    (rw (c .enum-told .given .1) (parts ∙ rw arity), c6 .pre .1 .1)
+    let parts = symbol-parts (sourceOf (a .packed) (a .book .now) (a .sheet .now)) (a .w0) earlier (a .at) in
+    (rw (c .enum-told .given .1) (parts ∙ rw arity), c6 .pre .1 .1 .1)
 
 cast-arity : tie.Need-cast-arity
 cast-arity c =
@@ -42,11 +43,11 @@ returns-2 c =
     let c6 = c4 .before .before in
     let c10 = c6 .before .before .before .before in
     let a = c10 .args in
+    let earlier = symbolsAt (tableOf (a .packed) (a .sheet .now) (a .table .now)) 0 (a .number) in
     let arity = sym (rw (c4 .read .given .1) at (c6 .field .ensures .0)) in
     let ac = sym (rw (c .enum-told2 .given .1) at (c .before .before .field2 .ensures .0)) in
-    let parts = symbol-parts (sourceOf (a .packed) (a .book .now) (a .sheet .now)) (a .w0) (symbolsAt (a .table .now)
-    0 (a .number)) (a .at) in
-    (rw (c .enum-told2 .given .1) (parts ∙ rw (arity, ac)), c10 .pre .1 .1)
+    let parts = symbol-parts (sourceOf (a .packed) (a .book .now) (a .sheet .now)) (a .w0) earlier (a .at) in
+    (rw (c .enum-told2 .given .1) (parts ∙ rw (arity, ac)), c10 .pre .1 .1 .1)
 
 cast-ac : tie.Need-cast-ac
 cast-ac c =
@@ -68,11 +69,11 @@ returns-3 c =
     let c9 = c7 .before .before in
     let c13 = c9 .before .before .before .before in
     let a = c13 .args in
+    let earlier = symbolsAt (tableOf (a .packed) (a .sheet .now) (a .table .now)) 0 (a .number) in
     let arity = sym (rw (c7 .read .given .1) at (c9 .field .ensures .0)) in
     let ac = sym (rw (c3 .read2 .given .1) at (c5 .field2 .ensures .0)) in
-    let parts = symbol-parts (sourceOf (a .packed) (a .book .now) (a .sheet .now)) (a .w0) (symbolsAt (a .table .now)
-    0 (a .number)) (a .at) in
-    (parts ∙ rw (arity, ac, sym (c .before .binary-if-ac .ensures) ∙ not-true _ (c .if1 .taken)), c13 .pre .1 .1)
+    let parts = symbol-parts (sourceOf (a .packed) (a .book .now) (a .sheet .now)) (a .w0) earlier (a .at) in
+    (parts ∙ rw (arity, ac, sym (c .before .binary-if-ac .ensures) ∙ not-true _ (c .if1 .taken)), c13 .pre .1 .1 .1)
 
 least-weight-requires : tie.Need-least-weight-requires
 least-weight-requires c κs =
@@ -92,14 +93,14 @@ returns-4 c =
     let c14 = c12 .before .before in
     let c18 = c14 .before .before .before .before in
     let a = c18 .args in
+    let earlier = symbolsAt (tableOf (a .packed) (a .sheet .now) (a .table .now)) 0 (a .number) in
     let arity = sym (rw (c12 .read .given .1) at (c14 .field .ensures .0)) in
     let ac = sym (rw (c8 .read2 .given .1) at (c10 .field2 .ensures .0)) in
     let binary = sym (c6 .binary-if-ac .ensures) ∙ not-false _ (c5 .if1 .left) in
     let least = c3 .wide .ensures .0 ∙ c4 .least-weight .ensures in
     let weight = sym (rw (c .enum-told3 .given .1, least) at (c .before .before .field-at-least .ensures .0)) in
-    let parts = symbol-parts (sourceOf (a .packed) (a .book .now) (a .sheet .now)) (a .w0) (symbolsAt (a .table .now)
-    0 (a .number)) (a .at) in
-    (rw (c .enum-told3 .given .1) (parts ∙ rw (arity, ac, binary, weight)), c18 .pre .1 .1)
+    let parts = symbol-parts (sourceOf (a .packed) (a .book .now) (a .sheet .now)) (a .w0) earlier (a .at) in
+    (rw (c .enum-told3 .given .1) (parts ∙ rw (arity, ac, binary, weight)), c18 .pre .1 .1 .1)
 
 cast-weight : tie.Need-cast-weight
 cast-weight c =
@@ -126,24 +127,24 @@ returns-5 c =
     let c19 = c17 .before .before in
     let c23 = c19 .before .before .before .before in
     let a = c23 .args in
+    let earlier = symbolsAt (tableOf (a .packed) (a .sheet .now) (a .table .now)) 0 (a .number) in
     let arity = sym (rw (c17 .read .given .1) at (c19 .field .ensures .0)) in
     let ac = sym (rw (c13 .read2 .given .1) at (c15 .field2 .ensures .0)) in
     let binary = sym (c11 .binary-if-ac .ensures) ∙ not-false _ (c10 .if1 .left) in
     let least = c8 .wide .ensures .0 ∙ c9 .least-weight .ensures in
     let weight = sym (rw (c5 .read3 .given .1, least) at (c7 .field-at-least .ensures .0)) in
-    let rank = sym (rw (c .enum-told4 .given .1) at (c .before .before .read-rank .ensures .0 (symbolsAt (a .table
-    .now) 0 (a .number)) (c23 .pre .1 .0))) in
-    let parts = symbol-parts (sourceOf (a .packed) (a .book .now) (a .sheet .now)) (a .w0) (symbolsAt (a .table .now)
-    0 (a .number)) (a .at) in
-    (rw (c .enum-told4 .given .1) (parts ∙ rw (arity, ac, binary, weight, rank)), c23 .pre .1 .1)
+    let rank = sym (rw (c .enum-told4 .given .1)
+    at (c .before .before .read-rank .ensures .0 earlier (c23 .pre .1 .1 .0))) in
+    let parts = symbol-parts (sourceOf (a .packed) (a .book .now) (a .sheet .now)) (a .w0) earlier (a .at) in
+    (rw (c .enum-told4 .given .1) (parts ∙ rw (arity, ac, binary, weight, rank)), c23 .pre .1 .1 .1)
 
-cast-put-symbol : tie.Need-cast-put-symbol
-cast-put-symbol c =
+cast-put-entry : tie.Need-cast-put-entry
+cast-put-entry c =
     let c4 = c .before .before .before .before in
     omega (arith, rw (c .before .before .read4 .given .1) at (c4 .read-rank .ensures .1))
 
-put-symbol-requires : tie.Need-put-symbol-requires
-put-symbol-requires c κs =
+put-entry-requires : tie.Need-put-entry-requires
+put-entry-requires c κs =
     let c25 = c .before .before .before .before .before .before .before .before .before .before .before .before
     .before .before .before .before .before .before .before .before .before .before .before .before .before in
     (c25 .pre .0 .1, c25 .pre .0 .2)
@@ -170,13 +171,13 @@ returns-6 c =
     let c24 = c22 .before .before in
     let c28 = c24 .before .before .before .before in
     let a = c28 .args in
-    let earlier = symbolsAt (a .table .now) 0 (a .number) in
+    let earlier = symbolsAt (tableOf (a .packed) (a .sheet .now) (a .table .now)) 0 (a .number) in
     let arity = sym (rw (c22 .read .given .1) at (c24 .field .ensures .0)) in
     let ac = sym (rw (c18 .read2 .given .1) at (c20 .field2 .ensures .0)) in
     let binary = sym (c16 .binary-if-ac .ensures) ∙ not-false _ (c15 .if1 .left) in
     let least = c13 .wide .ensures .0 ∙ c14 .least-weight .ensures in
     let weight = sym (rw (c10 .read3 .given .1, least) at (c12 .field-at-least .ensures .0)) in
-    let rank = sym (rw (c5 .read4 .given .1) at (c7 .read-rank .ensures .0 earlier (c28 .pre .1 .0))) in
+    let rank = sym (rw (c5 .read4 .given .1) at (c7 .read-rank .ensures .0 earlier (c28 .pre .1 .1 .0))) in
     let small = rw (c5 .read4 .given .1) at (c7 .read-rank .ensures .1) in
     let parts = symbol-parts (sourceOf (a .packed) (a .book .now) (a .sheet .now)) (a .w0) earlier (a .at) in
     let s : Symbol = record {
@@ -184,15 +185,21 @@ returns-6 c =
       ac = eqb (c18 .read2 .given .0 .0) 1;
       weight = c10 .read3 .given .0 .0;
       precedence = c5 .read4 .given .0 .0;
-    } in (
+    } in
+    let source = sourceOf (a .packed) (a .book .now) (a .sheet .now) in
+    let weighed = tested-field source weightWidth _ weightInadmissible _ _ _ weight .0 in
+    let ranked = tested-field source rankWidth _ rankTaken _ _ _ rank .0 in
+    let stored = c .before .before .put-entry .ensures (a .sheet .now) s refl (entry-stands (a .packed) (a .book .now)
+    (a .sheet .now) (a .number) (a .at) _ _ _ _ _ _ _ _ (c28 .pre .1 .0) arity ac weighed ranked) in (
       (
         s,
         parts ∙ rw (arity, ac, binary, weight, rank),
-        c .before .before .put-symbol .ensures,
-        rw (c .before .before .put-symbol .ensures) (taken-put earlier s (a .taken .now) (c28 .pre .1 .1) small (c28
-            .pre .1 .0)),
+        stored,
+        rw stored (taken-put earlier s (a .taken .now) (c28 .pre .1 .1 .1) small (c28 .pre .1 .1 .0)),
+        reached-entry (a .packed) (a .book .now) (a .sheet .now) (a .number) (a .at) _ _ _ _ _ _ _ _ (c28 .pre .1 .0)
+            arity ac weighed ranked,
       ),
-      simp length-set (c28 .pre .1 .1),
+      simp length-set (c28 .pre .1 .1 .1),
     )
 
 pub read-symbol-spec : {M : Type 1} → statement M
@@ -201,4 +208,4 @@ read-symbol-spec =
     (λ c κs. search needs) (λ c. search needs) (λ c. search needs) returns-2 cast-ac binary-if-ac-requires
     returns-3 least-weight-requires (λ c κs. search needs) (λ c κs. search needs) (λ c. search needs)
     (λ c. search needs) returns-4 cast-weight read-rank-requires (λ c. search needs) (λ c. search needs)
-    returns-5 cast-put-symbol put-symbol-requires element-write-taken (λ c. search needs) returns-6)
+    returns-5 cast-put-entry put-entry-requires element-write-taken (λ c. search needs) returns-6)

@@ -1,42 +1,53 @@
 -- The loop keeps: the symbols so far stand in the table, their ranks are marked, and the others are read from here on.
+use borrow.Author.Needs.{needs}
 use native.Mathlib.Omega.{arith}
 use mathlib.Core.Path.{_≡_, refl, sym, ap, _∙_}
 use mathlib.Core.List.{List, []}
 use Rattle.terms.specs.Signature.{Symbol}
-use Prim.Native.Nat.{ℕ, _+_, _-_, _<_, _≤_}
+use Prim.Native.Nat.{_+_, _-_, _≤_}
 use native.Mathlib.Nat.{sub-zero}
 use lib.ListN.{length}
-use Rattle.format.specs.Reading.Reading.{got}
 use Rattle.format.specs.Format.{symbolsReader}
-use Rattle.symbols.specs.Table.{symbolsAt}
-use Rattle.symbols.proofs.EntryLaws.{table-more, table-some}
-use Rattle.reader.specs.Source.{sourceOf}
+use Rattle.symbols.specs.Table.{symbolsAt, tableWords}
+use Rattle.symbols.proofs.TableLaws.{length-symbols}
+use Rattle.symbols.proofs.EntryLaws.{table-more, table-start}
+use Rattle.reader.specs.Source.{sourceOf, Reached, tableOf}
 use Rattle.reader.specs.Symbol.{TakenBy}
+use Rattle.reader.proofs.SourceLaws.{room-le, room-same}
 use Rattle.reader.proofs.SymbolLaws.{taken-none, symbols-fault, symbols-past, symbols-done}
-use borrow.Author.Needs.{needs}
 use Rattle.reader.proofs.symbol.read_symbols_from.Statement.{statement}
 use Rattle.reader.proofs.symbol.read_symbols_from.Tie as tie
 
 abbrev Inv-loop : tie.InvT-loop
 Inv-loop book sheet packed table₀ w0 count at taken₀ here₀ number₀ table taken here number =
     (number ≤ count) × (length table ≡ length table₀) × (length taken ≡ 256) ×
-    TakenBy (symbolsAt table 0 number) taken ×
+    TakenBy (symbolsAt (tableOf packed sheet table) 0 number) taken ×
     (symbolsReader (sourceOf packed book sheet) w0 count [] at ≡
-    symbolsReader (sourceOf packed book sheet) w0 (count - number) (symbolsAt table 0 number) here)
+    symbolsReader (sourceOf packed book sheet) w0 (count - number) (symbolsAt (tableOf packed sheet table) 0 number)
+    here) × Reached packed book sheet (tableWords number) here
 
 abbrev μ-loop : tie.MeasureT-loop
 μ-loop book sheet packed table₀ w0 count at taken₀ here₀ number₀ table taken here number = count - number
 
 loop-holds : tie.Need-loop-holds Inv-loop μ-loop
-loop-holds c = (omega arith, refl, refl, taken-none, rw sub-zero)
+loop-holds c =
+    let c3 = c .before .before .before in
+    (omega arith, refl, refl, taken-none, rw sub-zero, rw table-start (c3 .pre .1))
 
 read-symbol-requires : tie.Need-read-symbol-requires Inv-loop μ-loop
 read-symbol-requires c κs =
     let c3 = c .before .before .before in
     let c7 = c3 .before .before .before .before in
     let v = c3 .loop .inv in
-    let more = table-more (c3 .loop .number) (c7 .args .count) (omega arith) in
-    ((c7 .pre .0, omega arith, omega (arith, more, c7 .pre .2, v .1)), (v .3, v .2))
+    let a = c7 .args in
+    let more = table-more (c3 .loop .number) (a .count) (omega arith) in (
+      (
+        c7 .pre .0 .0,
+        omega arith,
+        room-le (a .packed) _ _ _ more (room-same (a .packed) _ (a .table .now) _ (v .1) (c7 .pre .0 .2)),
+      ),
+      (v .5, (v .3, v .2)),
+    )
 
 same-length : tie.Need-same-length Inv-loop μ-loop
 same-length c =
@@ -52,7 +63,8 @@ returns c =
     let a = c13 .args in
     let v = c9 .loop .inv in
     v .4 ∙ symbols-fault (sourceOf (a .packed) (a .book .now) (a .sheet .now)) (a .w0) (a .count) (c9 .loop .number)
-    (omega arith) (symbolsAt (c9 .loop .table) 0 (c9 .loop .number)) (c9 .loop .here) _ _
+    (omega arith) (symbolsAt (tableOf (a .packed) (a .sheet .now) (c9 .loop .table)) 0 (c9 .loop .number))
+    (c9 .loop .here) _ _
     (rw (c .before .offset .given .1) at (c5 .read-symbol .ensures .0))
 
 loop-again : tie.Need-loop-again Inv-loop μ-loop
@@ -62,44 +74,50 @@ loop-again c =
     let c13 = c9 .before .before .before .before in
     let a = c13 .args in
     let v = c9 .loop .inv in
-    let (s, read, stored, taken) = rw (c .before .value .given .1) at (c5 .read-symbol .ensures .0) in (
+    let (s, read, stored, taken, reached) = rw (c .before .value .given .1) at (c5 .read-symbol .ensures .0) in (
       omega arith,
       c5 .read-symbol .kept .1 .1 .1 .0 ∙ v .1,
       c5 .read-symbol .ensures .1,
       taken,
       v .4 ∙ symbols-past (sourceOf (a .packed) (a .book .now) (a .sheet .now)) (a .w0) (a .count) (c9 .loop .number)
-          (omega arith) (symbolsAt (c9 .loop .table) 0 (c9 .loop .number)) (c9 .loop .here) s _ read ∙
+          (omega arith) (symbolsAt (tableOf (a .packed) (a .sheet .now) (c9 .loop .table)) 0 (c9 .loop .number))
+          (c9 .loop .here) s _ read ∙
           ap (λ (ss : List Symbol). symbolsReader (sourceOf (a .packed) (a .book .now) (a .sheet .now)) (a .w0)
           (a .count - (c9 .loop .number + 1)) ss (c .before .value .given .0 .1 .0)) (sym stored),
+      reached,
     )
 
-put-variable-weight-requires : tie.Need-put-variable-weight-requires Inv-loop μ-loop
-put-variable-weight-requires c κs =
-    let c6 = c .before .before .before .before .before .before in
-    omega (arith, table-some (c6 .args .count), c6 .pre .2, c .before .before .loop .inv .1)
-
 same-length-2 : tie.Need-same-length-2 Inv-loop μ-loop
-same-length-2 c =
-    let c5 = c .before .before .before .before .before in
-    c .before .before .put-variable-weight .kept .0 ∙ c5 .loop .inv .1
+same-length-2 c = c .before .loop .inv .1
 
 returns-2 : tie.Need-returns-2 Inv-loop μ-loop
 returns-2 c =
     let c5 = c .before .before .before .before .before in
-    let c9 = c5 .before .before .before .before in
-    let a = c9 .args in
-    let v = c5 .loop .inv in
-    let number = c5 .loop .number in
+    let a = c5 .args in
+    let v = c .before .loop .inv in
+    let number = c .before .loop .number in
     let e : number ≡ a .count = omega arith in
     let z : a .count - number ≡ 0 = omega arith in (
       v .4 ∙ symbols-done (sourceOf (a .packed) (a .book .now) (a .sheet .now)) (a .w0) (a .count - number)
-          (symbolsAt (c5 .loop .table) 0 number) (c5 .loop .here) z ∙
-          rw (c .before .before .put-variable-weight .ensures .1 (a .count), e),
-      c .before .before .put-variable-weight .ensures .0,
+          (symbolsAt (tableOf (a .packed) (a .sheet .now) (c .before .loop .table)) 0 number)
+          (c .before .loop .here) z ∙ rw e,
+      sym (length-symbols _ 0 (a .count)),
     )
 
 pub read-symbols-from-spec : {M : Type 1} → statement M
 read-symbols-from-spec =
-    tie.close (tie.spec Inv-loop μ-loop loop-holds read-symbol-requires (λ c. search needs) same-length returns
-    (λ c. search needs) (λ c. search needs) (λ c. search needs) loop-again put-variable-weight-requires
-    same-length-2 returns-2)
+    tie.close
+    (tie.spec
+    Inv-loop
+    μ-loop
+    loop-holds
+    read-symbol-requires
+    (λ c. search needs)
+    same-length
+    returns
+    (λ c. search needs)
+    (λ c. search needs)
+    (λ c. search needs)
+    loop-again
+    same-length-2
+    returns-2)

@@ -7,7 +7,10 @@ use Rattle.symbols.proofs.entries.count.Statement.{statement}
 use Rattle.symbols.proofs.entries.count.Tie as tie
 
 returns : tie.Need-returns
-returns c = (sym (symbol-count (c .args .table .now)), omega arith)
+returns c = (omega (arith, symbol-count (c .before .args .table .now), c .if1 .taken), omega arith)
+
+returns-2 : tie.Need-returns-2
+returns-2 c = (sym (symbol-count (c .before .args .table .now)), omega arith)
 
 pub count-spec : {M : Type 1} → statement M
-count-spec = tie.close (tie.spec (λ c. search needs) returns)
+count-spec = tie.close (tie.spec returns (λ c. search needs) returns-2)

@@ -162,10 +162,15 @@ pub fn read_rules(
 {
     let front = symbols::front(symbols);
     if packed {
-        let arities = symbols::arities(&table[..front]);
-        return read_packed_rules(book, &arities, words, form, count, at);
+        return read_packed_rules(
+            book,
+            &symbols::arities(&table[..front]),
+            words,
+            form,
+            count,
+            at,
+        );
     }
-    let arities = symbols::arities(&sheet[..front]);
     let unused = variables::unused_at_start(form);
-    read_word_rules(&arities, sheet, unused, count, at)
+    read_word_rules(&symbols::arities(&sheet[..front]), sheet, unused, count, at)
 }

@@ -50,40 +50,43 @@ returns c =
 slice-aggregate-arities-2 : tie.Need-slice-aggregate-arities-2
 unfolding sourceOf storedWords Reached
 slice-aggregate-arities-2 c =
-    let c7 = c .before .before .before .before .before .before .before in
-    let (at, within) = rw (c .before .if1 .left) at (c7 .pre .1 .0) in
-    let front = c .before .before .front in
-    sym (length-take-le (front .result) (c7 .args .sheet .now) (omega (arith, at, within, front .ensures .0)))
+    let c3 = c .before .before .before in
+    let c8 = c3 .before .before .before .before .before in
+    let (at, within) = rw (c .before .before .if1 .left) at (c8 .pre .1 .0) in
+    let front = c3 .front in
+    sym (length-take-le (front .result) (c8 .args .sheet .now) (omega (arith, at, within, front .ensures .0)))
 
 arities-requires-2 : tie.Need-arities-requires-2
 unfolding sourceOf storedWords Reached
 arities-requires-2 c κs =
-    let c7 = c .before .before .before .before .before .before .before in
-    let (at, within) = rw (c .before .if1 .left) at (c7 .pre .1 .0) in
-    let front = c .before .before .front in
-    let long = length-take-le (front .result) (c7 .args .sheet .now) (omega (arith, at, within, front .ensures .0)) in
+    let c3 = c .before .before .before in
+    let c8 = c3 .before .before .before .before .before in
+    let (at, within) = rw (c .before .before .if1 .left) at (c8 .pre .1 .0) in
+    let front = c3 .front in
+    let long = length-take-le (front .result) (c8 .args .sheet .now) (omega (arith, at, within, front .ensures .0)) in
     omega (arith, long, front .ensures .1)
 
 read-word-rules-requires : tie.Need-read-word-rules-requires
 unfolding sourceOf storedWords Reached
 read-word-rules-requires c κs =
-    let c4 = c .before .before .before .before in
+    let c3 = c .before .before .before in
+    let c4 = c3 .before in
     let c5 = c4 .before in
     let c10 = c5 .before .before .before .before .before in
     let (at, within) = rw (c4 .if1 .left) at (c10 .pre .1 .0) in (
       (
         omega (arith, at, table-le (c10 .args .symbols) (c10 .pre .0 .1)),
         c10 .pre .0 .2,
-        c .before .unused-at-start .ensures .1,
+        c3 .unused-at-start .ensures .1,
       ),
-      (signatureOf (take (c5 .front .result) (c10 .args .sheet .now)), c .before .before .arities3 .ensures),
+      (signatureOf (take (c5 .front .result) (c10 .args .sheet .now)), c .before .arities2 .ensures),
     )
 
 returns-2 : tie.Need-returns-2
 unfolding sourceOf storedWords Reached
 returns-2 c =
-    let c3 = c .before .before .before in
-    let c5 = c3 .before .before in
+    let c4 = c .before .before .before .before in
+    let c5 = c4 .before in
     let c6 = c5 .before in
     let c11 = c6 .before .before .before .before .before in
     let a = c11 .args in
@@ -91,8 +94,8 @@ returns-2 c =
     rw (
       c5 .if1 .left,
       ← c6 .front .ensures .0,
-      c .read-word-rules .ensures σ (c3 .arities3 .ensures),
-      c .before .before .unused-at-start .ensures .0,
+      c .read-word-rules .ensures σ (c .before .before .arities2 .ensures),
+      c4 .unused-at-start .ensures .0,
     )
     (words-kept (rulesReader (wordSource (a .sheet .now)) (unusedOf (a .form)) σ (a .count) (a .at)) (a .words .now))
 
@@ -106,8 +109,8 @@ read-rules-spec =
     read-packed-rules-requires
     (λ c. search needs)
     returns
+    (λ c κs. search needs)
     slice-aggregate-arities-2
     arities-requires-2
-    (λ c κs. search needs)
     read-word-rules-requires
     returns-2)

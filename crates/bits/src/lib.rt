@@ -83,12 +83,10 @@ impl BitCursor {
         ensures { λ r. ⌜ Fits (2 ^ width) r ⌝ }
     {
         let at = self.at;
+        let code = FIELD_MISSING;
         let index = at / 8;
         if book.len() < index + (at % 8 + width + 7) / 8 {
-            return Answer::Fault {
-                code: FIELD_MISSING,
-                offset: at,
-            };
+            return Answer::Fault { code, offset: at };
         }
         field_of(gather(book, index), at, width)
     }
@@ -114,19 +112,15 @@ impl BitCursor {
         ensures { λ r. ⌜ Fits nodeWords r ⌝ }
     {
         let at = self.at;
+        let code = FIELD_MISSING;
         let end = 8 * book.len();
         if end <= at {
-            return Answer::Fault {
-                code: FIELD_MISSING,
-                offset: at,
-            };
+            return Answer::Fault { code, offset: at };
         }
         let nine = ((byte_at(book, at / 8) * 256) >> (7 - at % 8)) % 512;
         if end - at < node_width(nine) {
-            return Answer::Fault {
-                code: FIELD_MISSING,
-                offset: at + 1,
-            };
+            let offset = at + 1;
+            return Answer::Fault { code, offset };
         }
         node_of(nine, nine / 256, at)
     }

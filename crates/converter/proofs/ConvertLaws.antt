@@ -1,9 +1,8 @@
 -- What the code that converts has to show.
 --     convert-fault, convert-short, convert-written     the reply and the output afterwards
---     sheet-short, sheet-front, sheet-packed, sheet-bits     the sheet of the converted file, and its bits
+--     sheet-short, sheet-begin, sheet-front, sheet-packed, sheet-bits     the sheet of the converted file, and its bits
 use mathlib.Core.Path.{_≡_, ap, _∙_}
 use mathlib.Core.List.{List, [], _++_, flatMap}
-use mathlib.Core.Bool.{true}
 use Prim.Native.Nat.{ℕ, _+_, _*_, _≤_, _<_}
 use native.Mathlib.Omega.{arith}
 use native.Mathlib.Nat.{zero-add}
@@ -22,10 +21,9 @@ use Rattle.format.proofs.FileLaws.{bytes-length}
 use Rattle.format.proofs.ConversionLaws.{converted-length}
 use Rattle.operations.specs.Replies.Reply.{accepted, refused}
 use Rattle.operations.specs.Converting.{converted}
-use Rattle.symbols.specs.Table.{entryWords}
-use Rattle.symbols.proofs.EntryLaws.{entry-lt}
-use Rattle.reader.specs.File.{FileParts}
-use Rattle.decoder.proofs.DecodeLaws.{symbol-count, word-count, nodes-few}
+use Rattle.symbols.specs.Table.{tableWords, maxTableWords}
+use Rattle.sides.proofs.UnpackedLaws.{unpacked-length}
+use Rattle.decoder.specs.Sheet.{SheetAt}
 use Rattle.encoder.specs.Items.{bitsTo}
 use Rattle.encoder.proofs.ItemsLaws.{file-items}
 
@@ -62,40 +60,32 @@ module _ (bytes output : List ℕ) where
 
 -- ---- the sheet of the converted file
 
-module _ (bytes table before after : List ℕ) (file : RuleFile) (symbols rules nodes offset : ℕ)
-    (parts : FileParts firstForm true bytes [] table before after file symbols rules nodes offset)
-    (room : length bytes ≤ maxBytes → 8 * length bytes ≤ 5 * length before) where
-  abbrev total : ℕ
-  total = 4 + entryWords symbols + nodes
+module _ (bytes sheet stored : List ℕ) (file : RuleFile) (total front : ℕ)
+    (parts : SheetAt firstForm bytes sheet stored file total front)
+    (room : length bytes ≤ maxBytes → 5 * maxTableWords + 8 * length bytes ≤ 5 * length sheet) where
+  pub sheet-short : total ≤ length sheet
+  sheet-short = omega (arith, parts .few, room (parts .short))
 
-  count : total ≡ length (unpacked (convertedFile file))
-  count = word-count firstForm bytes table before after file symbols rules nodes offset parts
+  pub sheet-begin : ((symbols : ℕ) × (front ≡ 4 + 4 * symbols)) × (front ≤ total)
+  unfolding tableWords
+  sheet-begin =
+      ((_, parts .begin), omega (arith, parts .begin, parts .size, unpacked-length (convertedFile file)))
 
-  pub sheet-short : total ≤ 1024 + length before
-  sheet-short =
-      omega (
-        arith,
-        nodes-few firstForm bytes table before after file symbols rules nodes offset parts room,
-        entry-lt symbols (parts .head .fewSymbols),
-      )
+  pub sheet-front : take total stored ≡ unpacked (convertedFile file)
+  sheet-front =
+      let words = unpacked (convertedFile file) in
+      rw (parts .stored sheet-short, parts .size, sets-eq words sheet 0 (omega (arith, parts .size, sheet-short)))
+      (take-append-seam words (drop (0 + length words) sheet))
 
-  module _ (sheet stored : List ℕ) (long : 1024 + length before ≤ length sheet)
-      (put : stored ≡ sets sheet 0 (unpacked (convertedFile file))) where
-    pub sheet-front : take total stored ≡ unpacked (convertedFile file)
-    sheet-front =
-        let words = unpacked (convertedFile file) in
-        rw (put, count, sets-eq words sheet 0 (omega (arith, count, sheet-short)))
-        (take-append-seam words (drop (0 + length words) sheet))
+  abbrev bits : List ℕ
+  bits = bitsTo (take total stored) front (length (take total stored))
 
-    abbrev bits : List ℕ
-    bits = bitsTo (take total stored) (4 + entryWords symbols) (length (take total stored))
+  pub sheet-packed : bytesOf bits ≡ packed (convertedFile file)
+  unfolding packedIn tableWords
+  sheet-packed =
+      rw (sheet-front, parts .begin)
+      (ap (λ (is : List Item). bytesOf (flatMap itemBits is)) (file-items (convertedFile file)))
 
-    pub sheet-packed : bytesOf bits ≡ packed (convertedFile file)
-    unfolding packedIn
-    sheet-packed =
-        let k = symbol-count firstForm bytes table before after file symbols rules nodes offset parts in
-        rw (sheet-front, k) (ap (λ (is : List Item). bytesOf (flatMap itemBits is)) (file-items (convertedFile file)))
-
-    pub sheet-bits : (end : ℕ) → readBytesIn firstForm bytes ≡ got file end → length bits ≤ 8 * length bytes
-    sheet-bits end e =
-        omega (arith, as-long bytes [] file end e, ap length sheet-packed, length-bytesOf bits)
+  pub sheet-bits : (end : ℕ) → readBytesIn firstForm bytes ≡ got file end → length bits ≤ 8 * length bytes
+  sheet-bits end e =
+      omega (arith, as-long bytes [] file end e, ap length sheet-packed, length-bytesOf bits)

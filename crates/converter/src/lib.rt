@@ -5,44 +5,27 @@ ghost use lib.ListN.{length};
 ghost use Rattle.format.specs.Layout.{maxBytes};
 ghost use Rattle.operations.specs.Converting.{converted};
 ghost use Rattle.operations.specs.Enums.{numberReply};
-use decoder::HEADER_WORDS;
+ghost use Rattle.symbols.specs.Table.{maxTableWords};
+use answers::Answer;
+use answers::refusal;
 use operations::NumberReply;
 
-// Converts a packed file into the front of the output, by way of its sheet. Reading the old form stores the nodes with
-// the variables in order of first use; nothing is written until no fault is left to find.
-fn convert_through(book: &[u8], out: &mut [u8], nodes: &mut [u16], sheet: &mut [u16]) -> NumberReply
-    requires { ⌜ (length (now book) ≤ maxBytes → 8 * length (now book) ≤ 5 * length (now nodes)) ⌝ }
-    requires { ⌜ 1024 + length (now nodes) ≤ length (now sheet) ⌝ }
+// Converts a packed file into the front of the output, by way of its sheet, in which the variables are in order of
+// first use; nothing is written until no fault is left to find.
+fn convert_through(book: &[u8], out: &mut [u8], sheet: &mut [u16]) -> NumberReply
+    requires { ⌜
+        (length (now book) ≤ maxBytes → 5 * maxTableWords + 8 * length (now book) ≤ 5 * length (now sheet))
+        ⌝ }
     ensures { λ r. ⌜ numberReply r ≡ converted (now (book .entry)) (now (out .entry)) .reply ⌝ }
     ensures { λ r. ⌜ now (out .exit) ≡ converted (now (book .entry)) (now (out .entry)) .output ⌝ }
 {
-    let mut table = [0u16; symbols::TABLE_WORDS];
-    match reader::read_file(
-        book,
-        &[0u16; 0],
-        true,
-        format::FIRST_FORM,
-        &mut table,
-        nodes,
-    ) {
-        reader::File::Fault { code, offset } => NumberReply::Refused(answers::refusal(
-            code,
-            0,
-            offset,
-        )),
-        reader::File::Read {
-            symbols,
-            rules,
-            nodes: count,
-            start,
-        } => {
+    match decoder::unpack(book, format::FIRST_FORM, sheet) {
+        Answer::Fault { code, offset } => NumberReply::Refused(refusal(code, 0, offset)),
+        Answer::Got { value, next } => {
             if out.len() < book.len() {
-                return NumberReply::Refused(answers::refusal(format::BYTES_TOO_SHORT, 1, 0));
+                return NumberReply::Refused(refusal(format::BYTES_TOO_SHORT, 1, 0));
             }
-            let front = symbols::front(symbols);
-            decoder::put_file(&table[..front], sheet, rules, &nodes[..count]);
-            let begin = HEADER_WORDS + symbols::entry_words(symbols);
-            encoder::write_items(&sheet[..begin + count], begin, out);
+            encoder::write_items(&sheet[..value], next, out);
             NumberReply::Accepted(book.len())
         }
     }
@@ -54,11 +37,9 @@ pub fn convert(book: &[u8], out: &mut [u8]) -> NumberReply
     ensures { λ r. ⌜ now (out .exit) ≡ converted (now (book .entry)) (now (out .entry)) .output ⌝ }
 {
     if book.len() <= 2048 {
-        let mut nodes = decoder::small_room();
         let mut sheet = [0u16; 4301];
-        return convert_through(book, out, &mut nodes, &mut sheet);
+        return convert_through(book, out, &mut sheet);
     }
-    let mut nodes = decoder::large_room();
     let mut sheet = [0u16; 53453];
-    convert_through(book, out, &mut nodes, &mut sheet)
+    convert_through(book, out, &mut sheet)
 }

@@ -1,51 +1,116 @@
 -- What the code that decodes has to show.
---     stored-file          the words of a file, stored in three parts
---     decode-fault, decode-short, decode-written   the reply and the words afterwards
---     symbol-count, rule-count, word-count, nodes-few, nodes-front   a file whose nodes were stored elsewhere
+--     word-count, words-few, both-fit, sheet-words      a file whose words were stored in two parts
+--     sheet-unstored, sheet-stored                      its sheet, where there is no room, and where there is
+--     decode-fault, decode-short, decode-written        the reply and the words afterwards
 use mathlib.Core.Path.{_≡_, refl, sym, ap, _∙_}
-use mathlib.Core.List.{List, [], _∷_, _++_, map}
-use mathlib.Core.Bool.{true}
+use mathlib.Core.List.{List, _++_}
 use Prim.Native.Nat.{ℕ, _+_, _*_, _≤_, _<_}
 use native.Mathlib.Omega.{arith}
 use native.Mathlib.Nat.{zero-add}
 use borrow.Author.Tests.{lt-leb, le-leb}
 use lib.Dec.{eqb}
-use lib.ListN.{length, length-append, length-map, take, drop}
-use lib.Seq.{sets, sets-eq, take-append-seam}
+use lib.ListN.{length, length-map, take, drop}
+use lib.Seq.{sets, sets-eq, take-append-seam, length-take-le}
 use Rattle.multisets.proofs.Relations.{byTest}
 use Rattle.multisets.proofs.ListLaws.{sets-append}
-use Rattle.terms.specs.Signature.{Signature}
 use Rattle.format.specs.Errors.{wordsTooShort}
-use Rattle.format.specs.Layout.{firstForm, formNumber, maxBytes}
+use Rattle.format.specs.Layout.{firstForm, maxBytes}
+use Rattle.format.specs.Reading.{Reading}
 use Rattle.format.specs.Reading.Reading.{got, fault}
-use Rattle.format.specs.Format.{Sides, RuleFile, unusedOf}
-use Rattle.format.specs.Conversion.{convertedSides}
-use Rattle.format.proofs.ConversionLaws.{converted-words}
+use Rattle.format.specs.Format.{Sides, RuleFile}
 use Rattle.format.specs.Files.{readBytes}
 use Rattle.format.specs.Packing.{unpacked}
 use Rattle.operations.specs.Replies.Reply.{accepted, refused}
 use Rattle.operations.specs.Coding.{decoded}
-use Rattle.symbols.specs.Table.{entryWords, symbolsWords}
-use Rattle.symbols.proofs.EntryLaws.{length-symbolsWords}
-use Rattle.sides.specs.Side.{sideWords, rulesWords}
+use Rattle.symbols.specs.Table.{tableWords, maxTableWords}
+use Rattle.symbols.proofs.EntryLaws.{table-entries}
+use Rattle.answers.specs.declared.Answer.the-variants.{Got}
+use Rattle.sides.specs.Side.{rulesWords}
 use Rattle.sides.proofs.UnpackedLaws.{unpacked-parts, unpacked-length}
-use Rattle.reader.specs.Source.{sourceOf, Reached}
-use Rattle.reader.specs.File.{FileParts, rulesIn, storedWords}
-use Rattle.decoder.proofs.NodesLaws.{nodes-fit}
+use Rattle.reader.specs.File.{PackedParts, rulesIn}
+use Rattle.decoder.specs.Sheet.{fileIn, Unpacked}
 
--- The header, the symbols and the rules, stored one after the other.
-pub stored-file : (l l₁ l₂ l₃ : List ℕ) (σ : Signature) (rules : List Sides) (symbolCount ruleCount : ℕ) →
-    l₁ ≡ sets l 0 (formNumber ∷ symbolCount ∷ σ .w0 ∷ ruleCount ∷ []) → l₂ ≡ sets l₁ 4 (symbolsWords (σ .symbols)) →
-    l₃ ≡ sets l₂ (4 + entryWords symbolCount) (rulesWords rules) → symbolCount ≡ length (σ .symbols) →
-    ruleCount ≡ length rules
-    →
-    l₃ ≡ sets l 0 (unpacked (record { signature = σ; rules = rules }))
-stored-file l l₁ l₂ l₃ σ rules symbolCount ruleCount h₁ h₂ h₃ k n =
-    let file : RuleFile = record { signature = σ; rules = rules } in
-    let i : 4 + length (symbolsWords (σ .symbols)) ≡ 4 + entryWords symbolCount =
-    ap (λ (m : ℕ). 4 + m) (length-symbolsWords (σ .symbols) ∙ ap entryWords (sym k)) in
-    let all = sets-append l₁ 4 (symbolsWords (σ .symbols)) (rulesWords rules) in
-    h₃ ∙ rw (h₂, ← i, ← all, h₁, unpacked-parts file, k, n)
+-- ---- a file whose words were stored in two parts
+
+as-many : (form : ℕ) (rules : List Sides) → length (rulesIn form rules) ≡ length rules
+as-many form rules = byTest (eqb form firstForm) (λ e. rw e (length-map rules _)) λ e. rw e
+
+module _ (form : ℕ) (bytes table before after : List ℕ) (file : RuleFile) (nodes front : ℕ)
+    (parts : PackedParts form bytes table before after file nodes front) where
+  word-count : front + nodes ≡ length (unpacked (fileIn form file))
+  word-count =
+      omega (
+        arith,
+        parts .size,
+        table-entries (length (file .signature .symbols)),
+        parts .nodeCount,
+        unpacked-length (fileIn form file),
+      )
+
+  words-few : 5 * (front + nodes) ≤ 5 * maxTableWords + 8 * length bytes
+  words-few = omega (arith, parts .narrow, parts .few)
+
+  -- The words were not stored, for want of room.
+  pub sheet-unstored : (words : List ℕ) (end : ℕ) (reading : Reading RuleFile) → reading ≡ got file end →
+      length words < front + nodes → Unpacked form bytes reading (Got (front + nodes) front) words words
+  sheet-unstored words end reading read short = (
+    file,
+    end,
+    read,
+    record {
+      size = word-count;
+      begin = parts .size;
+      short = parts .short;
+      few = words-few;
+      stored = λ h. absurd (omega arith);
+      kept = λ h. refl;
+    },
+  )
+
+  module _ (room : length bytes ≤ maxBytes → 8 * length bytes ≤ 5 * length before) where
+    nodes-few : nodes ≤ length before
+    nodes-few = omega (arith, parts .narrow, room (parts .short))
+
+    -- Both parts stand where they are kept.
+    pub both-fit : maxTableWords ≤ length table → length after ≡ length before → (front ≤ length table)
+        × (nodes ≤ length after) × (length (take front table) ≡ front) × (length (take nodes after) ≡ nodes)
+        × (front ≤ maxTableWords) × (nodes ≤ length before)
+    both-fit long same =
+        let few : front ≤ length table = omega (arith, parts .few) in
+        let some : nodes ≤ length after = omega (arith, nodes-few) in
+        (few, some, length-take-le front table few, length-take-le nodes after some, parts .few, nodes-few)
+
+    nodes-front : take nodes after ≡ rulesWords (rulesIn form (file .rules))
+    nodes-front =
+        let l = rulesWords (rulesIn form (file .rules)) in
+        rw (parts .stored nodes-few, parts .nodeCount, sets-eq l before 0 (omega (arith, nodes-few, parts .nodeCount)))
+        (take-append-seam l (drop (0 + length l) before))
+
+    sheet-words : take front table ++ take nodes after ≡ unpacked (fileIn form file)
+    sheet-words = rw (parts .words, nodes-front, unpacked-parts (fileIn form file), as-many form (file .rules))
+
+    -- They were stored one after the other.
+    pub sheet-stored : (words half whole : List ℕ) (end : ℕ) (reading : Reading RuleFile) → reading ≡ got file end →
+        front ≤ length table → front + nodes ≤ length words → half ≡ sets words 0 (take front table) →
+        whole ≡ sets half front (take nodes after) →
+        Unpacked form bytes reading (Got (front + nodes) front) words whole
+    sheet-stored words half whole end reading read room fits first second =
+        let n : front ≡ 0 + length (take front table) = omega (arith, length-take-le front table room) in
+        let all : whole ≡ sets words 0 (take front table ++ take nodes after) =
+        second ∙ ap (λ (i : ℕ). sets half i (take nodes after)) n
+        ∙ rw first (sym (sets-append words 0 (take front table) (take nodes after))) in (
+          file,
+          end,
+          read,
+          record {
+            size = word-count;
+            begin = parts .size;
+            short = parts .short;
+            few = words-few;
+            stored = λ h. all ∙ rw sheet-words;
+            kept = λ h. absurd (omega arith);
+          },
+        )
 
 -- ---- the reply and the words afterwards
 
@@ -74,54 +139,3 @@ module _ (bytes words : List ℕ) where
         let front : sets words 0 (unpacked file) ≡ unpacked file ++ drop (length (unpacked file)) words =
         sets-eq (unpacked file) words 0 (omega arith) ∙ rw zero-add in
         (rw (e, fits), rw (e, fits) front)
-
--- ---- a file whose nodes were stored elsewhere
-
--- A file of that form with its variables in order of first use.
-abbrev pub fileIn : ℕ → RuleFile → RuleFile
-fileIn form file = record { signature = file .signature; rules = rulesIn form (file .rules) }
-
-as-many : (form : ℕ) (rules : List Sides) → length (rulesIn form rules) ≡ length rules
-as-many form rules = byTest (eqb form firstForm) (λ e. rw e (length-map rules _)) λ e. rw e
-
-same-words : (rules : List Sides) → length (rulesWords (map convertedSides rules)) ≡ length (rulesWords rules)
-same-words [] = refl
-same-words (r ∷ rules) =
-    omega (
-      arith,
-      length-append (sideWords (convertedSides r)) (rulesWords (map convertedSides rules)),
-      length-append (sideWords r) (rulesWords rules),
-      ap length (converted-words r) ∙ length-map (sideWords r) _,
-      same-words rules,
-    )
-
-as-long : (form : ℕ) (rules : List Sides) → length (rulesWords (rulesIn form rules)) ≡ length (rulesWords rules)
-as-long form rules = byTest (eqb form firstForm) (λ e. rw e (same-words rules)) λ e. rw e
-
-module _ (form : ℕ) (bytes table before after : List ℕ) (file : RuleFile) (symbols rules nodes offset : ℕ)
-    (parts : FileParts form true bytes [] table before after file symbols rules nodes offset) where
-  pub symbol-count : symbols ≡ length (file .signature .symbols)
-  symbol-count = parts .head .symbolCount ∙ ap (λ (σ : Signature). length (σ .symbols)) (parts .signature)
-
-  pub rule-count : rules ≡ length (rulesIn form (file .rules))
-  rule-count = parts .ruleCount ∙ sym (as-many form (file .rules))
-
-  pub word-count : 4 + entryWords symbols + nodes ≡ length (unpacked (fileIn form file))
-  unfolding storedWords
-  word-count =
-      omega (arith, ap entryWords symbol-count, parts .nodeCount, unpacked-length (fileIn form file))
-
-  module _ (room : length bytes ≤ maxBytes → 8 * length bytes ≤ 5 * length before) where
-    pub nodes-few : nodes ≤ length before
-    unfolding sourceOf Reached storedWords
-    nodes-few =
-        rw (parts .nodeCount, as-long form (file .rules))
-        (nodes-fit bytes (unusedOf form) (file .signature) rules offset (file .rules) (parts .end) (length before)
-        (parts .rulesRead) (parts .head .within) (room (parts .head .short)))
-
-    pub nodes-front : take nodes after ≡ rulesWords (rulesIn form (file .rules))
-    unfolding storedWords
-    nodes-front =
-        let l = rulesWords (rulesIn form (file .rules)) in
-        rw (parts .stored nodes-few, parts .nodeCount, sets-eq l before 0 (omega (arith, nodes-few, parts .nodeCount)))
-        (take-append-seam l (drop (0 + length l) before))

@@ -1,3 +1,2 @@
 -- What the code of the decoder cites.
-mod NodesLaws
 pub mod DecodeLaws

@@ -1,86 +1,58 @@
 // Decoding: a packed file as words, a word for each field.
 ghost use mathlib.Core.Path.{_≡_};
-ghost use mathlib.Core.List.{List};
-ghost use Prim.Native.Nat.{_+_, _*_, _≤_, _<_};
+ghost use Prim.Native.Nat.{_*_, _≤_};
 ghost use lib.ListN.{length};
-ghost use lib.Seq.{sets};
 ghost use Rattle.format.specs.Layout.{maxBytes};
-ghost use Rattle.format.specs.Format.{Sides};
-ghost use Rattle.format.specs.Packing.{unpacked};
+ghost use Rattle.format.specs.Files.{readBytesIn};
 ghost use Rattle.operations.specs.Coding.{decoded};
 ghost use Rattle.operations.specs.Enums.{numberReply};
-ghost use Rattle.symbols.specs.Table.{signatureOf, entryWords, maxTableWords};
-ghost use Rattle.sides.specs.Side.{rulesWords};
+ghost use Rattle.decoder.specs.Sheet.{Unpacked};
+use answers::Answer;
+use answers::refusal;
 use operations::NumberReply;
-use symbols::put_word;
+use sides::put_words;
 
-pub const HEADER_WORDS: usize = 4;
-
-// Stores the words of a file: the header, the symbols, and those of the rules.
-pub fn put_file(table: &[u16], words: &mut [u16], rules: usize, nodes: &[u16])
-    requires { ⌜ (length (now table) ≤ maxTableWords) × (rules < 1024) ⌝ }
-    requires { ⌜
-        4 + entryWords (length (signatureOf (now table) .symbols)) + length (now nodes) ≤ length (now words)
-        ⌝ }
-    ensures { λ r. ⌜
-        ((read : List Sides) → now (nodes .entry) ≡ rulesWords read → rules ≡ length read →
-        now (words .exit)
-        ≡ sets (now (words .entry)) 0
-        (unpacked (record { signature = signatureOf (now (table .entry)); rules = read })))
-        ⌝ }
-{
-    let count = symbols::count(table);
-    put_word(words, 0, format::FORM);
-    put_word(words, 1, count as u16);
-    put_word(words, 2, symbols::variable_weight(table) as u16);
-    put_word(words, 3, rules as u16);
-    symbols::write_symbols(table, words, HEADER_WORDS);
-    sides::put_words(words, HEADER_WORDS + symbols::entry_words(count), nodes);
-}
-
-// Decodes a packed file into the front of the words. Its nodes are kept elsewhere until no fault is
-// left to find.
-fn decode_through(book: &[u8], words: &mut [u16], nodes: &mut [u16]) -> NumberReply
+// Reads a packed file of that form, and stores its sheet at the front of the words, where there is room for it. The
+// nodes are kept elsewhere until no fault is left to find. The value is how many words the sheet has, and in place of
+// an offset how many stand before its rules.
+fn unpack_through(book: &[u8], form: u16, nodes: &mut [u16], words: &mut [u16]) -> Answer
     requires { ⌜ (length (now book) ≤ maxBytes → 8 * length (now book) ≤ 5 * length (now nodes)) ⌝ }
-    ensures { λ r. ⌜ numberReply r ≡ decoded (now (book .entry)) (now (words .entry)) .reply ⌝ }
-    ensures { λ r. ⌜ now (words .exit) ≡ decoded (now (book .entry)) (now (words .entry)) .output ⌝ }
+    ensures { λ r. ⌜
+        Unpacked form (now (book .entry)) (readBytesIn form (now (book .entry))) r (now (words .entry))
+        (now (words .exit))
+        ⌝ }
 {
     let mut table = [0u16; symbols::TABLE_WORDS];
-    match reader::read_file(book, &[0u16; 0], true, format::FORM, &mut table, nodes) {
-        reader::File::Fault { code, offset } => NumberReply::Refused(answers::refusal(
-            code,
-            0,
-            offset,
-        )),
-        reader::File::Read {
-            symbols,
-            rules,
-            nodes: count,
-            start,
-        } => {
-            let total = HEADER_WORDS + symbols::entry_words(symbols) + count;
-            if words.len() < total {
-                return NumberReply::Refused(answers::refusal(format::WORDS_TOO_SHORT, 1, 0));
-            }
-            let front = symbols::front(symbols);
-            put_file(&table[..front], words, rules, &nodes[..count]);
-            NumberReply::Accepted(total)
-        }
+    let read = reader::read_packed(book, form, &mut table, nodes);
+    let Answer::Got { value, next } = read else {
+        return read;
+    };
+    let total = next + value;
+    if words.len() < total {
+        return Answer::Got { value: total, next };
     }
+    put_words(words, 0, &table[..next]);
+    put_words(words, next, &nodes[..value]);
+    Answer::Got { value: total, next }
 }
 
-// Room for the nodes of a file of at most 2,048 bytes: a node takes five bits or more.
-pub fn small_room() -> [u16; 3277]
-    ensures { λ r. ⌜ 3277 ≡ length r ⌝ }
+// The same, with room for the nodes by the length of the file: a node takes five bits or more.
+pub fn unpack(book: &[u8], form: u16, words: &mut [u16]) -> Answer
+    ensures { λ r. ⌜
+        Unpacked form (now (book .entry)) (readBytesIn form (now (book .entry))) r (now (words .entry))
+        (now (words .exit))
+        ⌝ }
 {
-    [0; 3277]
-}
-
-// Room for the nodes of any file.
-pub fn large_room() -> [u16; 52429]
-    ensures { λ r. ⌜ 52429 ≡ length r ⌝ }
-{
-    [0; 52429]
+    if book.len() <= 256 {
+        let mut nodes = [0u16; 410];
+        return unpack_through(book, form, &mut nodes, words);
+    }
+    if book.len() <= 2048 {
+        let mut nodes = [0u16; 3277];
+        return unpack_through(book, form, &mut nodes, words);
+    }
+    let mut nodes = [0u16; 52429];
+    unpack_through(book, form, &mut nodes, words)
 }
 
 // Decodes a packed file into the front of the words.
@@ -88,10 +60,13 @@ pub fn decode(book: &[u8], words: &mut [u16]) -> NumberReply
     ensures { λ r. ⌜ numberReply r ≡ decoded (now (book .entry)) (now (words .entry)) .reply ⌝ }
     ensures { λ r. ⌜ now (words .exit) ≡ decoded (now (book .entry)) (now (words .entry)) .output ⌝ }
 {
-    if book.len() <= 2048 {
-        let mut nodes = small_room();
-        return decode_through(book, words, &mut nodes);
+    match unpack(book, format::FORM, words) {
+        Answer::Fault { code, offset } => NumberReply::Refused(refusal(code, 0, offset)),
+        Answer::Got { value, next: _ } => {
+            if words.len() < value {
+                return NumberReply::Refused(refusal(format::WORDS_TOO_SHORT, 1, 0));
+            }
+            NumberReply::Accepted(value)
+        }
     }
-    let mut nodes = large_room();
-    decode_through(book, words, &mut nodes)
 }

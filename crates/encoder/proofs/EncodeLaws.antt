@@ -3,94 +3,43 @@
 --     encode-fault, encode-long, encode-short, encode-done     what encoding gives back, by the file
 use mathlib.Core.List.{List, [], _++_, flatMap}
 use mathlib.Core.Path.{_≡_, refl, sym, ap, _∙_}
-use mathlib.Core.Bool.{false}
 use Prim.Native.Nat.{ℕ, suc, zero, _+_, _*_, _/_, _≤_, _<_}
 use native.Mathlib.Nat.{zero-add}
 use native.Mathlib.Omega.{arith}
 use lib.ListN.{length, length-append, drop}
 use lib.Seq.{sets, sets-eq}
 use borrow.Author.Tests.{le-leb, lt-leb}
-use Rattle.terms.specs.Signature.{Signature}
-use Rattle.terms.specs.FirstUse.{unusedAfterAll}
-use Rattle.format.specs.Layout.{formNumber, maxNodes}
-use Rattle.format.specs.Reading.{Source}
 use Rattle.format.specs.Reading.Reading.{got, fault}
-use Rattle.format.specs.Format.{RuleFile, unusedOf, forestReader, ruleReader, rulesReader}
+use Rattle.format.specs.Format.{RuleFile}
 use Rattle.format.specs.Files.{readWords}
 use Rattle.format.specs.Packing.{Item, items, itemBits, bytesOf, packedIn, packed}
-use Rattle.format.proofs.ReadingLaws.{HoldsOf, holds-got, holds-then}
-use Rattle.format.proofs.SideLaws.{forest-short}
 use Rattle.format.proofs.FileLaws.{words-unpacked}
 use Rattle.format.proofs.PackingLaws.{length-bytesOf}
 use Rattle.operations.specs.Replies.{Reply}
 use Rattle.operations.specs.Replies.Reply.{accepted, refused}
 use Rattle.operations.specs.Coding.{encoded}
-use Rattle.symbols.specs.Table.{entryWords}
-use Rattle.symbols.proofs.EntryLaws.{entry-lt}
-use Rattle.sides.specs.Side.{sideWords, rulesWords}
-use Rattle.sides.proofs.UnpackedLaws.{unpacked-length}
-use Rattle.reader.specs.Source.{sourceOf, Reached}
-use Rattle.reader.specs.File.{FileParts}
+use Rattle.symbols.specs.Table.{tableWords}
+use Rattle.reader.specs.File.{SheetParts}
 use Rattle.encoder.specs.Items.{itemsFrom, bitsTo}
 use Rattle.encoder.proofs.ItemsLaws.{file-items}
-
--- A rule has at most 256 nodes.
-module _ (source : Source) (unused : ℕ) (σ : Signature) where
-  rule-short : (at : ℕ) → HoldsOf (λ r end. length (sideWords r) ≤ 256) (ruleReader source unused σ at)
-  unfolding ruleReader HoldsOf
-  rule-short at =
-      holds-then _ (forestReader source unused σ maxNodes 1 at) _ λ left mid e.
-      holds-then _ (forestReader source (unusedAfterAll unused left) σ maxNodes 1 mid) _ λ right end f.
-      simp length-append
-      (omega (
-        arith,
-        forest-short source unused σ maxNodes 1 at left mid e,
-        forest-short source (unusedAfterAll unused left) σ maxNodes 1 mid right end f,
-      ))
-
-  rules-short : (n at : ℕ) → HoldsOf (λ rs end. length (rulesWords rs) ≤ 256 * n) (rulesReader source unused σ n at)
-  unfolding rulesReader HoldsOf
-  rules-short zero at = omega arith
-  rules-short (suc n) at =
-      holds-then _ (ruleReader source unused σ at) _ λ r mid e.
-      holds-then _ (rulesReader source unused σ n mid) _ λ rs end f.
-      let one = holds-got _ _ r mid (rule-short at) e in
-      let others = holds-got _ _ rs end (rules-short n mid) f in
-      rw (length-append (sideWords r) (rulesWords rs)) (omega arith)
 
 -- The items of a file are those of the words, where the nodes begin after the symbols; neither is large.
 pub record Listed (words : List ℕ) (file : RuleFile) (symbols start : ℕ) : Type 0 where
   pub all : items file ≡ itemsFrom words start 0 (length words)
-  pub begin : start ≡ 4 + entryWords symbols
+  pub begin : start ≡ 4 + 4 * symbols
   pub within : start ≤ length words
   pub short : length words ≤ 263000
 
-pub file-listed : (words table before after : List ℕ) (file : RuleFile) (end symbols rules nodes start : ℕ) →
-    readWords words ≡ got file end →
-    FileParts formNumber false [] words table before after file symbols rules nodes start →
-    Listed words file symbols start
-unfolding sourceOf Reached
-file-listed words table before after file end symbols rules nodes start read parts =
-    let same = words-unpacked words file end read in
-    let count : symbols ≡ length (file .signature .symbols) =
-    parts .head .symbolCount ∙ ap (λ (σ : Signature). length (σ .symbols)) (parts .signature) in
-    let begin : start ≡ 4 + entryWords (length (file .signature .symbols)) =
-    parts .head .within .0 ∙ ap (λ (n : ℕ). 4 + entryWords n) count in
-    let few = holds-got _ _ (file .rules) (parts .end)
-    (rules-short _ (unusedOf formNumber) (file .signature) rules start) (parts .rulesRead) in
+pub file-listed : (words : List ℕ) (file : RuleFile) (end symbols start : ℕ) → readWords words ≡ got file end →
+    SheetParts words file symbols start → Listed words file symbols start
+unfolding tableWords
+file-listed words file end symbols start read parts =
+    let begin : start ≡ 4 + 4 * length (file .signature .symbols) = omega (arith, parts .begin, parts .symbolCount) in
     record {
-      all = sym (file-items file) ∙ rw (same, begin);
-      begin = parts .head .within .0;
-      within = parts .head .within .1;
-      short = omega (
-        arith,
-        ap length same,
-        unpacked-length file,
-        few,
-        entry-lt symbols (parts .head .fewSymbols),
-        ap entryWords count,
-        parts .head .fewRules,
-      );
+      all = sym (file-items file) ∙ rw (words-unpacked words file end read, begin);
+      begin = parts .begin;
+      within = parts .within;
+      short = parts .short;
     }
 
 -- ---- what encoding gives back

@@ -16,7 +16,7 @@ use Rattle.format.specs.Layout.{formNumber}
 use Rattle.format.specs.Format.{RuleFile}
 use Rattle.format.specs.Packing.{Item, itemWord, symbolItems, itemsIn, items, unpacked}
 use Rattle.format.specs.Packing.Item.{field, node}
-use Rattle.symbols.specs.Table.{entryWords, symbolsWords}
+use Rattle.symbols.specs.Table.{symbolsWords}
 use Rattle.symbols.proofs.EntryLaws.{length-symbolsWords}
 use Rattle.sides.specs.Side.{rulesWords}
 use Rattle.sides.proofs.UnpackedLaws.{rules-items, unpacked-parts}
@@ -106,7 +106,7 @@ module _ (file : RuleFile) where
   begin = 4 + 4 * length ss
 
   whole-items : itemsFrom whole begin 0 (length whole) ≡ items file
-  unfolding itemsIn entryWords
+  unfolding itemsIn
   whole-items =
       let from = itemsFrom whole begin in
       let n = length (rulesWords (file .rules)) in
@@ -135,6 +135,5 @@ module _ (file : RuleFile) where
       ∙ ap (λ (is : List Item). header ++ (is ++ later)) second
       ∙ ap (λ (is : List Item). header ++ (flatMap symbolItems ss ++ is)) (third ∙ sym (rules-items (file .rules)))
 
-  pub file-items : itemsFrom (unpacked file) (4 + entryWords (length ss)) 0 (length (unpacked file)) ≡ items file
-  unfolding entryWords
+  pub file-items : itemsFrom (unpacked file) (4 + 4 * length ss) 0 (length (unpacked file)) ≡ items file
   file-items = rw (unpacked-parts file) whole-items

@@ -170,6 +170,6 @@ pub fn fingerprint(book: &[u8], term: &[u16]) -> NumberReply
     let mut table = [0u16; symbols::TABLE_WORDS];
     match inputs::read_book(book, &mut table) {
         Answer::Fault { code, offset } => NumberReply::Refused(answers::refusal(code, 0, offset)),
-        Answer::Got { value, next: _ } => fingerprint_under(&table[..value], term),
+        Answer::Got { value: _, next } => fingerprint_under(&table[..next], term),
     }
 }

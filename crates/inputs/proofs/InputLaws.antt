@@ -1,7 +1,7 @@
 -- The ends of reading a file and two terms.
 --     end-fault, end-got, term-read          a term, by the end that is told
 --     left-fault, right-fault, terms-read    two terms
---     book-fault, book-read                  the file, and then the terms
+--     book-answer, book-fault, book-read     the file, and then the terms
 use mathlib.Core.List.{List}
 use mathlib.Core.Path.{_≡_, refl, sym, ap, _∙_}
 use mathlib.Core.Bool.{Bool, true, false}
@@ -10,6 +10,7 @@ use native.Mathlib.Omega.{arith}
 use lib.ListN.{length, take}
 use lib.Seq.{length-take-le, take-all}
 use Rattle.terms.specs.Signature.{Signature, Admissible}
+use Rattle.format.specs.Layout.{formNumber}
 use Rattle.format.specs.Reading.{Reading}
 use Rattle.format.specs.Reading.Reading.{got, fault}
 use Rattle.format.specs.Format.{RuleFile}
@@ -20,12 +21,14 @@ use Rattle.operations.specs.Replies.{Reply}
 use Rattle.operations.specs.Replies.Reply.{refused}
 use Rattle.operations.specs.Inputs.{Inputs, readTerms, readInputs}
 use Rattle.symbols.specs.Table.{signatureOf, maxTableWords}
+use Rattle.answers.specs.declared.Answer.{Answer}
 use Rattle.answers.specs.declared.Answer.the-variants.{Got, Fault}
 use Rattle.answers.specs.Answer.{endOf}
 use Rattle.words.specs.Terms.{readerOf}
+use Rattle.reader.specs.File.{PackedRead}
 use Rattle.inputs.specs.declared.Ends.{Ends}
 use Rattle.inputs.specs.declared.Ends.the-variants.{Read, Refused}
-use Rattle.inputs.specs.Inputs.{TermsAt, TermsRead, BookAt, InputsRead}
+use Rattle.inputs.specs.Inputs.{TermsAt, TermsRead, BookAt, BookRead, InputsRead}
 
 -- ---- a term
 
@@ -90,6 +93,19 @@ module _ (whole : Bool) (σ : Signature) (left right : List ℕ) where
         }
 
 -- ---- the file, and then the terms
+
+pub book-answer : (bytes table before after : List ℕ) (reading : Reading RuleFile) (r : Answer) →
+    maxTableWords ≤ length table → PackedRead formNumber bytes reading r table before after → BookRead table reading r
+book-answer bytes table before after reading (Got nodes front) room (file, end, read, parts) = record {
+  file = file;
+  end = end;
+  read = read;
+  signature = parts .signature;
+  admissible = rw (parts .signature) (parts .admissible);
+  room = omega (arith, parts .few);
+  few = parts .few;
+}
+book-answer bytes table before after reading (Fault offset code) room e = e
 
 module _ (whole : Bool) (bytes left right : List ℕ) where
   pub book-fault : (code offset : ℕ) → readBytes bytes ≡ fault code offset →

@@ -47,7 +47,7 @@ pub record BookAt (table : List ℕ) (reading : Reading RuleFile) (front : ℕ) 
 
 -- What is read of a file, and the answer.
 abbrev pub BookRead : List ℕ → Reading RuleFile → Answer → Type 0
-BookRead table reading (Got front next) = BookAt table reading front
+BookRead table reading (Got nodes front) = BookAt table reading front
 BookRead table reading (Fault offset code) = reading ≡ fault code offset
 
 -- What is read of a file and two terms, and the answer.

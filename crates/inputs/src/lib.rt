@@ -8,9 +8,8 @@ ghost use Rattle.symbols.specs.Table.{signatureOf, maxTableWords};
 ghost use Rattle.words.specs.Terms.{readerOf};
 ghost use Rattle.inputs.specs.Inputs.{TermsRead, BookRead, InputsRead};
 use answers::Answer;
+use answers::refusal;
 use operations::Error;
-use reader::File;
-use reader::read_file;
 use words::front_term;
 
 // How many words of the table are its front, and how many words the terms have; or the error.
@@ -34,17 +33,9 @@ fn read_terms(table: &[u16], left: &[u16], right: &[u16], whole: bool) -> Ends
 {
     let arities = symbols::arities(table);
     match front_term(&arities, left, whole) {
-        Answer::Fault { code, offset } => Ends::Refused(Error {
-            code,
-            input: 1,
-            offset,
-        }),
+        Answer::Fault { code, offset } => Ends::Refused(refusal(code, 1, offset)),
         Answer::Got { value: _, next: l } => match front_term(&arities, right, whole) {
-            Answer::Fault { code, offset } => Ends::Refused(Error {
-                code,
-                input: 2,
-                offset,
-            }),
+            Answer::Fault { code, offset } => Ends::Refused(refusal(code, 2, offset)),
             Answer::Got { value: _, next: r } => Ends::Read {
                 front: table.len(),
                 left: l,
@@ -54,24 +45,13 @@ fn read_terms(table: &[u16], left: &[u16], right: &[u16], whole: bool) -> Ends
     }
 }
 
-// Reads a packed rule file, its symbols into the table; the value is how many words of the table are its front.
+// Reads a packed rule file, its symbols into the table; in place of an offset, how many words of it are its front.
 pub fn read_book(book: &[u8], table: &mut [u16]) -> Answer
     requires { ⌜ maxTableWords ≡ length (now table) ⌝ }
     ensures { λ r. ⌜ BookRead (now (table .exit)) (readBytes (now (book .entry))) r ⌝ }
 {
     let mut none = [0u16; 0];
-    match read_file(book, &[0u16; 0], true, format::FORM, table, &mut none) {
-        File::Fault { code, offset } => Answer::Fault { code, offset },
-        File::Read {
-            symbols,
-            rules: _,
-            nodes: _,
-            start,
-        } => Answer::Got {
-            value: symbols::front(symbols),
-            next: start,
-        },
-    }
+    reader::read_packed(book, format::FORM, table, &mut none)
 }
 
 // Reads a packed rule file, its symbols into the table, and then the terms.
@@ -83,11 +63,7 @@ pub fn read_inputs(book: &[u8], left: &[u16], right: &[u16], whole: bool, table:
         ⌝ }
 {
     match read_book(book, table) {
-        Answer::Fault { code, offset } => Ends::Refused(Error {
-            code,
-            input: 0,
-            offset,
-        }),
-        Answer::Got { value, next: _ } => read_terms(&table[..value], left, right, whole),
+        Answer::Fault { code, offset } => Ends::Refused(refusal(code, 0, offset)),
+        Answer::Got { value: _, next } => read_terms(&table[..next], left, right, whole),
     }
 }

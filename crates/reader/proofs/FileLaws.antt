@@ -1,39 +1,43 @@
 -- What the code that reads a whole file has to show at each of its ends.
 --     read-parts                                    the whole file by its form and what follows
---     symbols-fault, head-read, table-of            what follows a header
---     rest-unread, rest-unended, rest-ended, rest-read     what follows the symbols
---     rest-fault, file-read                         the whole
+--     symbols-fault, head-read, head-answer, table-of     what follows a header
+--     rest-unread, rest-unended, rest-ended         what follows the symbols
+--     packed-unread, packed-unended, packed-read    a packed file
+--     sheet-unread, sheet-unended, sheet-read       a sheet
 use mathlib.Core.Path.{_≡_, refl, sym, ap, _∙_}
-use mathlib.Core.List.{List, []}
-use mathlib.Core.Bool.{Bool, true}
+use mathlib.Core.List.{List, [], _∷_}
+use mathlib.Core.Bool.{Bool, true, false, false≢true}
 use Prim.Native.Nat.{ℕ, _≤_, _<_}
 use native.Mathlib.Omega.{arith}
 use lib.Dec.{eqb, leb}
 use lib.ListN.{length, take}
-use lib.Seq.{length-take-le}
+use lib.Seq.{sets, length-take-le}
 use Rattle.terms.specs.Signature.{Symbol, Signature, Admissible}
-use Rattle.format.specs.Errors.{noSymbols, variableWeightless}
-use Rattle.format.specs.Layout.{formWidth, symbolCountWidth, weightWidth, ruleCountWidth, maxBytes}
-use Rattle.format.specs.Reading.{Reading, Reader, andThen, give, require, Source}
+use Rattle.format.specs.Errors.{noSymbols, variableWeightless, badPadding, wordsLeftOver}
+use Rattle.format.specs.Layout.{formNumber, formWidth, symbolCountWidth, weightWidth, ruleCountWidth, maxBytes}
+use Rattle.format.specs.Reading.{Reading, Reader, andThen, give, require, Source, isPadding, bitSource, wordSource}
 use Rattle.format.specs.Reading.Reading.{got, fault}
 use Rattle.format.specs.Format.{Sides, RuleFile, unusedOf, formError, symbolsReader, rulesReader, bodyReader}
 use Rattle.format.specs.Format.{fileReader}
-use Rattle.format.specs.Files.{wholeReader}
+use Rattle.format.specs.Files.{wholeReader, readBytesIn, readWords}
 use Rattle.format.proofs.ReadingLaws.{andThen-assoc, andThen-same, holds-got}
 use Rattle.format.proofs.FormatLaws.{symbols-read, rules-length}
+use Rattle.format.proofs.FileLaws.{words-unpacked}
 use Rattle.format.proofs.SymbolLaws.{admissible-of-symbols}
-use Rattle.symbols.specs.Table.{symbolsAt, signatureOf, weightOf, tableWords, maxTableWords}
+use Rattle.symbols.specs.Table.{symbolsAt, signatureOf, weightOf, tableWords, maxTableWords, symbolsWords, frontWords}
 use Rattle.symbols.proofs.TableLaws.{length-symbols}
-use Rattle.symbols.proofs.EntryLaws.{table-le, table-entries, signature-front}
+use Rattle.symbols.proofs.EntryLaws.{table-le, table-entries, signature-front, front-weight, front-words}
 use Rattle.answers.specs.declared.Answer.{Answer}
 use Rattle.answers.specs.declared.Answer.the-variants.{Got, Fault}
-use Rattle.sides.specs.Side.{WordsRead}
-use Rattle.reader.specs.declared.file.File.the-variants as file
-use Rattle.reader.specs.Source.{sourceOf, Reached, tableOf, Room, tested}
-use Rattle.reader.specs.File.{restReader, tableReader, countsReader, storedWords, HeadParts, HeadRead, RestRead}
-use Rattle.reader.specs.Symbol.{SymbolsPut}
-use Rattle.reader.specs.File.{FileRead}
-use Rattle.reader.proofs.SourceLaws.{tested-then, field-fits, reached-symbols, room-table}
+use Rattle.sides.specs.Side.{WordsRead, rulesWords}
+use Rattle.sides.proofs.UnpackedLaws.{unpacked-length}
+use Rattle.reader.specs.Source.{sourceOf, Reached, tableOf, Room, Stored, tested, readSource}
+use Rattle.reader.specs.File.{restReader, tableReader, countsReader, rulesIn, HeadParts, HeadRead, PackedRead}
+use Rattle.reader.specs.File.{SheetRead}
+use Rattle.reader.specs.Symbol.{SymbolsRead}
+use Rattle.reader.proofs.SourceLaws.{tested-then, field-fits, reached-symbols, room-table, room-same}
+use Rattle.reader.proofs.SourceLaws.{read-packed, read-words}
+use Rattle.reader.proofs.NodesLaws.{nodes-fit, as-long, rules-short}
 
 -- ---- the whole file by its form and what follows
 
@@ -104,6 +108,25 @@ symbols-admissible packed bytes words w0 n at ss end e positive =
     holds-got _ _ ss end (symbols-read (sourceOf packed bytes words) (field-fits packed bytes words) w0 n [] at) e in
     admissible-of-symbols (record { w0 = w0; symbols = ss }) (rw (sym same) at oks) positive
 
+-- The words that were stored before the rules of a packed file, and w0.
+front-of : (w0 symbols rules : ℕ) (before words table : List ℕ) (packed : Bool) →
+    Stored packed 0 (formNumber ∷ symbols ∷ w0 ∷ rules
+    ∷ symbolsWords (symbolsAt (tableOf packed words table) 0 symbols)) before table →
+    Room packed (tableWords symbols) before → (packed ≡ false → weightOf words ≡ w0) →
+    (weightOf (tableOf packed words table) ≡ w0) × (packed ≡ true → take (tableWords symbols) table
+    ≡ frontWords (record { w0 = w0; symbols = symbolsAt (tableOf packed words table) 0 symbols }) rules)
+front-of w0 symbols rules before words table true stored room stands =
+    let ss = symbolsAt table 0 symbols in
+    let σ : Signature = record { w0 = w0; symbols = ss } in
+    let n : length ss ≡ symbols = length-symbols table 0 symbols in
+    let e : table ≡ sets before 0 (frontWords σ rules) =
+    stored ∙ ap (λ (k : ℕ). sets before 0 (formNumber ∷ k ∷ w0 ∷ rules ∷ symbolsWords ss)) (sym n) in
+    let r : tableWords (length ss) ≤ length before = rw n room in (
+      front-weight before table σ rules r e,
+      λ yes. ap (λ (k : ℕ). take (tableWords k) table) (sym n) ∙ front-words before table σ rules r e,
+    )
+front-of w0 symbols rules before words table false stored room stands = (stands refl, λ no. absurd (false≢true no))
+
 module _ (form : ℕ) (packed : Bool) (bytes words : List ℕ) (w0 symbols rules at : ℕ) where
   pub symbols-fault : (code offset : ℕ) →
       symbolsReader (sourceOf packed bytes words) w0 symbols [] at ≡ fault code offset →
@@ -111,43 +134,54 @@ module _ (form : ℕ) (packed : Bool) (bytes words : List ℕ) (w0 symbols rules
   unfolding tableReader
   symbols-fault code offset e = rw e
 
-  pub head-read : (table : List ℕ) (next : ℕ) →
-      symbolsReader (sourceOf packed bytes words) w0 symbols [] at
-      ≡ got (symbolsAt (tableOf packed words table) 0 symbols) next →
-      weightOf (tableOf packed words table) ≡ w0 → Room packed (tableWords symbols) table →
-      Reached packed bytes words 4 at → length bytes ≤ maxBytes → symbols < 256 → rules < 1024 → 0 < w0 →
-      HeadRead form packed bytes words (tableReader form packed bytes words w0 symbols rules at)
-      (Got symbols next) table rules
-  unfolding tableReader
-  head-read table next read weight room start short few some positive =
-      let T = tableOf packed words table in
-      let within = reached-symbols packed bytes words 4 w0 symbols at (symbolsAt T 0 symbols) next start read in
-      let long = room-table packed bytes words table (tableWords symbols) next room
-      (rw (table-entries symbols) within) in
-      let σ : signatureOf (take (tableWords symbols) T) ≡ record { w0 = w0; symbols = symbolsAt T 0 symbols } =
-      signature-front T symbols long ∙ rw weight in (
-        rw (read, σ),
-        record {
-          symbolCount = rw σ (sym (length-symbols T 0 symbols));
-          short = short;
-          fewSymbols = few;
-          fewRules = some;
-          admissible = rw σ (symbols-admissible packed bytes words w0 symbols at (symbolsAt T 0 symbols) next read
-              positive);
-          within = within;
-        },
-      )
+  module _ (before table : List ℕ) where
+    abbrev T : List ℕ
+    T = tableOf packed words table
 
-  -- What the answer to the symbols makes of the head.
-  pub head-answer : (table : List ℕ) (r : Answer) →
-      SymbolsPut w0 symbols (symbolsReader (sourceOf packed bytes words) w0 symbols [] at) r
-      (tableOf packed words table) →
-      Room packed (tableWords symbols) table → Reached packed bytes words 4 at → length bytes ≤ maxBytes →
-      symbols < 256 → rules < 1024 → 0 < w0 →
-      HeadRead form packed bytes words (tableReader form packed bytes words w0 symbols rules at) r table rules
-  head-answer table (Got value next) (read, weight, all) room start short few some positive =
-      rw all (head-read table next read weight room start short few some positive)
-  head-answer table (Fault offset code) read room start short few some positive = symbols-fault code offset read
+    abbrev σ : Signature
+    σ = record { w0 = w0; symbols = symbolsAt T 0 symbols }
+
+    pub head-read : (next : ℕ) → symbolsReader (sourceOf packed bytes words) w0 symbols [] at ≡ got (σ .symbols) next →
+        Stored packed 0 (formNumber ∷ symbols ∷ w0 ∷ rules ∷ symbolsWords (σ .symbols)) before table →
+        (packed ≡ false → weightOf words ≡ w0) → length table ≡ length before →
+        Room packed (tableWords symbols) before → Reached packed bytes words 4 at → length bytes ≤ maxBytes →
+        symbols < 256 → rules < 1024 → 0 < w0 →
+        HeadRead form packed bytes words (tableReader form packed bytes words w0 symbols rules at) (Got symbols next)
+        table rules
+    unfolding tableReader
+    head-read next read stored stands same room start short few some positive =
+        let within = rw (← table-entries symbols) at
+        (reached-symbols packed bytes words 4 w0 symbols at (σ .symbols) next start read) in
+        let long = room-table packed bytes words table (tableWords symbols) next
+        (room-same packed _ before table same room) within in
+        let (weight, front) = front-of w0 symbols rules before words table packed stored room stands in
+        let e : signatureOf (take (tableWords symbols) T) ≡ σ = signature-front T symbols long ∙ rw weight in (
+          rw (read, e),
+          record {
+            symbolCount = rw e (sym (length-symbols T 0 symbols));
+            short = short;
+            fewSymbols = few;
+            fewRules = some;
+            admissible = rw e (symbols-admissible packed bytes words w0 symbols at (σ .symbols) next read positive);
+            within = within;
+            front = rw e front;
+          },
+        )
+
+    -- What the answer to the symbols makes of the head.
+    pub head-answer : (r : Answer) →
+        SymbolsRead (symbolsReader (sourceOf packed bytes words) w0 symbols [] at)
+        (λ (ss : List Symbol). Stored packed 0 (formNumber ∷ symbols ∷ w0 ∷ rules ∷ symbolsWords ss) before table) r
+        (σ .symbols) →
+        (packed ≡ false → weightOf words ≡ w0) → length table ≡ length before →
+        Room packed (tableWords symbols) before → Reached packed bytes words 4 at → length bytes ≤ maxBytes →
+        symbols < 256 → rules < 1024 → 0 < w0 →
+        HeadRead form packed bytes words (tableReader form packed bytes words w0 symbols rules at) r table rules
+    head-answer (Got value next) (read, all, stored) stands same room start short few some positive =
+        rw (all ∙ length-symbols T 0 symbols)
+        (head-read next read stored stands same room start short few some positive)
+    head-answer (Fault offset code) read stands same room start short few some positive =
+        symbols-fault code offset read
 
 -- The table that reading the head of a packed file leaves.
 pub table-of : (bytes words table : List ℕ) (symbols rules offset : ℕ) → maxTableWords ≡ length table →
@@ -179,38 +213,103 @@ module _ (form : ℕ) (packed : Bool) (bytes words : List ℕ) (σ : Signature) 
     unfolding restReader
     rest-ended last f = rw (e, f)
 
-  pub rest-read : (nodes next last : ℕ) (before after : List ℕ) →
-      WordsRead (storedWords form packed) (rulesReader (sourceOf packed bytes words)
-      (unusedOf form) σ count at) 0 before (Got nodes next)
-      after → sourceOf packed bytes words .end next ≡ got tt last →
-      RestRead form packed bytes words σ count at (Got nodes next) before after
-  rest-read nodes next last before after (rules, e, long, stored) f =
-      (rules, last, e, rest-ended rules next e last f, omega (arith, long), stored)
+-- ---- a packed file
 
--- ---- the whole
+module _ (form : ℕ) (bytes table before after : List ℕ) (symbols rules start : ℕ)
+    (read : HeadRead form true bytes [] (readSource form true bytes []) (Got symbols start) table rules) where
+  abbrev τ : Signature
+  τ = signatureOf (take (tableWords symbols) table)
 
-module _ (form : ℕ) (packed : Bool) (bytes words table before after : List ℕ) (reading : Reading RuleFile)
-    (symbols rules start : ℕ) (read : HeadRead form packed bytes words reading (Got symbols start) table rules) where
-  abbrev σ : Signature
-  σ = signatureOf (take (tableWords symbols) (tableOf packed words table))
+  pub packed-unread : (code offset : ℕ) →
+      rulesReader (bitSource bytes) (unusedOf form) τ rules start ≡ fault code offset →
+      readBytesIn form bytes ≡ fault code offset
+  unfolding sourceOf
+  packed-unread code offset e =
+      sym (read-packed form bytes []) ∙ read .0 ∙ rest-unread form true bytes [] τ rules start code offset e
 
-  pub rest-fault : (code offset : ℕ) → RestRead form packed bytes words σ rules start (Fault offset code) before after →
-      FileRead form packed bytes words reading (file.Fault code offset) table before after
-  rest-fault code offset e = read .0 ∙ e
+  module _ (nodes next : ℕ) (stored : WordsRead (λ (rules : List Sides). rulesWords (rulesIn form rules))
+      (rulesReader (bitSource bytes) (unusedOf form) τ rules start) 0 before (Got nodes next) after) where
+    pub packed-unended : isPadding bytes next ≡ false → readBytesIn form bytes ≡ fault badPadding next
+    unfolding sourceOf
+    packed-unended e =
+        sym (read-packed form bytes []) ∙ read .0
+        ∙ rest-unended form true bytes [] τ rules start (stored .0) next (stored .1) badPadding next (rw e)
 
-  pub file-read : (nodes next : ℕ) → RestRead form packed bytes words σ rules start (Got nodes next) before after →
-      FileRead form packed bytes words reading (file.Read symbols rules nodes start) table before after
-  file-read nodes next (rs, last, rulesRead, all, count, stored) = (
-    record { signature = σ; rules = rs },
-    last,
-    read .0 ∙ all,
-    record {
-      head = read .1;
-      signature = refl;
-      ruleCount = sym (rules-length (sourceOf packed bytes words) (unusedOf form) σ rules start rs next rulesRead);
-      nodeCount = count;
-      end = next;
-      rulesRead = rulesRead;
-      stored = stored;
-    },
-  )
+    pub packed-read : (front : ℕ) → front ≡ tableWords symbols → front ≤ maxTableWords → isPadding bytes next ≡ true →
+        PackedRead form bytes (readBytesIn form bytes) (Got nodes front) table before after
+    unfolding sourceOf Reached
+    packed-read front size few e =
+        let (rs, rulesRead, count, put) = stored in
+        let file : RuleFile = record { signature = τ; rules = rs } in
+        let n = rules-length (bitSource bytes) (unusedOf form) τ rules start rs next rulesRead in (
+          file,
+          next,
+          sym (read-packed form bytes []) ∙ read .0
+              ∙ rest-ended form true bytes [] τ rules start rs next rulesRead next (rw e),
+          record {
+            short = read .1 .short;
+            size = size ∙ ap tableWords (read .1 .symbolCount);
+            few = few;
+            words = rw (size, n) (read .1 .front refl);
+            signature = rw size;
+            admissible = read .1 .admissible;
+            narrow = omega (
+              arith,
+              count,
+              as-long form rs,
+              nodes-fit bytes (unusedOf form) τ rules start rs next rulesRead (read .1 .within),
+            );
+            nodeCount = omega (arith, count);
+            stored = put;
+          },
+        )
+
+-- ---- a sheet
+
+module _ (words table : List ℕ) (symbols rules start : ℕ)
+    (read : HeadRead formNumber false [] words (readSource formNumber false [] words) (Got symbols start) table rules)
+  where
+    abbrev υ : Signature
+    υ = signatureOf (take (tableWords symbols) words)
+
+    pub sheet-unread : (code offset : ℕ) →
+        rulesReader (wordSource words) (unusedOf formNumber) υ rules start ≡ fault code offset →
+        readWords words ≡ fault code offset
+    unfolding sourceOf
+    sheet-unread code offset e =
+        sym (read-words words) ∙ read .0 ∙ rest-unread formNumber false [] words υ rules start code offset e
+
+    module _ (rs : List Sides) (next : ℕ)
+        (rulesRead : rulesReader (wordSource words) (unusedOf formNumber) υ rules start ≡ got rs next) where
+      pub sheet-unended : eqb next (length words) ≡ false → readWords words ≡ fault wordsLeftOver next
+      unfolding sourceOf
+      sheet-unended e =
+          sym (read-words words) ∙ read .0
+          ∙ rest-unended formNumber false [] words υ rules start rs next rulesRead wordsLeftOver next (rw e)
+
+      pub sheet-read : eqb next (length words) ≡ true → SheetRead words (readWords words) (Got symbols start)
+      unfolding sourceOf Reached
+      sheet-read e =
+          let file : RuleFile = record { signature = υ; rules = rs } in
+          let whole : readWords words ≡ got file next = sym (read-words words) ∙ read .0
+          ∙ rest-ended formNumber false [] words υ rules start rs next rulesRead next (rw e) in
+          let few = holds-got _ _ rs next (rules-short (wordSource words) (unusedOf formNumber) υ rules start)
+          rulesRead in (
+            file,
+            next,
+            whole,
+            record {
+              symbolCount = read .1 .symbolCount;
+              begin = read .1 .within .0;
+              within = read .1 .within .1;
+              short = omega (
+                arith,
+                ap length (words-unpacked words file next whole),
+                unpacked-length file,
+                few,
+                read .1 .symbolCount,
+                read .1 .fewSymbols,
+                read .1 .fewRules,
+              );
+            },
+          )

@@ -4,7 +4,6 @@
 --     rule-as-read, rule-renumbered              a rule from bits, by its form
 --     end-fault, end-got         a reading whose end is told
 --     rule-unread, rule-half, rule-whole, rule-end    a rule among words
---     words-kept                 rules of which nothing is stored
 use mathlib.Core.Path.{_≡_, refl, sym, ap, _∙_}
 use mathlib.Core.List.{List, [], _∷_, _++_, map, map-append, append-assoc, append-nil}
 use Prim.Native.Nat.{ℕ, suc, _+_, _-_, _≤_, _<_}
@@ -30,7 +29,7 @@ use Rattle.variables.specs.Renumbering.{RuleRenumbered}
 use Rattle.variables.proofs.NodeLaws.{nodes-of-rule}
 use Rattle.answers.specs.declared.Answer.{Answer}
 use Rattle.answers.specs.declared.Answer.the-variants.{Got, Fault}
-use Rattle.answers.specs.Answer.{answered, endOf}
+use Rattle.answers.specs.Answer.{answered}
 use Rattle.words.proofs.TermLaws.{terms-end}
 use Rattle.sides.specs.Side.{WordsRead, sideWords, rulesWords}
 use Rattle.reader.specs.File.{sidesIn, rulesIn}
@@ -238,9 +237,3 @@ module _ (words : List ℕ) (unused : ℕ) (σ : Signature) (at : ℕ) where
       go : (a : Answer) → side unused at ≡ a → end ≤ at + 256
       go (Got used middle) s = ends used middle s (side used middle) refl
       go (Fault offset code) s = let z : _≡_ {A = ℕ} 0 1 = cc (rule-unread code offset s) in absurd (omega arith)
-
--- Nothing is stored of rules among words.
-pub words-kept : (reading : Reading (List Sides)) (words : List ℕ) →
-    WordsRead (λ (rules : List Sides). []) reading 0 words (endOf reading) words
-words-kept (got rules next) words = (rules, refl, omega arith, λ room. refl)
-words-kept (fault code offset) words = refl

@@ -24,7 +24,7 @@ use Rattle.format.proofs.ReadingLaws.{holds-got}
 use Rattle.format.proofs.SpellingLaws.{spells→coded}
 use Rattle.format.proofs.CodingLaws.{word-coding, bit-coding}
 use Rattle.format.proofs.FormatLaws.{symbols-read}
-use Rattle.symbols.specs.Table.{symbolAt, entryWords, tableWords}
+use Rattle.symbols.specs.Table.{symbolAt, tableWords}
 use Rattle.symbols.proofs.EntryLaws.{table-next}
 use Rattle.reader.specs.Source.{sourceOf, Reached, tableOf, Room, tested, readSource}
 
@@ -147,7 +147,7 @@ module _ (packed : Bool) (bytes words : List ℕ) (number at arity n₁ ac n₂ 
 
   pub entry-stands : packed ≡ false →
       symbolAt words number ≡ record { arity = arity; ac = eqb ac 1; weight = weight; precedence = rank }
-  unfolding Reached tableWords entryWords
+  unfolding Reached tableWords
   entry-stands z =
       let a₁ : 4 * number + 4 ≡ at = omega (arith, (rw z at start) .0) in
       let a₂ : 4 * number + 5 ≡ n₁ = omega (arith, (rw z at r₁) .0) in
@@ -183,14 +183,14 @@ room-table false bytes words table n at r h = omega arith
 
 -- A symbol takes four words.
 length-coded : (ss : List Symbol) → length (flatMap (λ i. itemWord i ∷ []) (flatMap symbolItems ss))
-    ≡ entryWords (length ss)
-unfolding flatMap entryWords
+    ≡ 4 * length ss
+unfolding flatMap
 length-coded [] = refl
 length-coded (s ∷ ss) = omega (arith, length-coded ss)
 
 pub reached-symbols : (packed : Bool) (bytes words : List ℕ) (fields w0 n at : ℕ) (ss : List Symbol) (next : ℕ) →
     Reached packed bytes words fields at → symbolsReader (sourceOf packed bytes words) w0 n [] at ≡ got ss next →
-    Reached packed bytes words (fields + entryWords n) next
+    Reached packed bytes words (fields + 4 * n) next
 unfolding sourceOf Reached
 reached-symbols true bytes words fields w0 n at ss next h e =
     let (all, same, count, oks, spelt) =
@@ -200,4 +200,4 @@ reached-symbols false bytes words fields w0 n at ss next h e =
     let (all, same, count, oks, spelt) =
     holds-got _ _ ss next (symbols-read (wordSource words) (field-fits false bytes words) w0 n [] at) e in
     let (fit, ends, last, agree) = spells→coded (word-coding words) spelt (h .1) in
-    (omega (arith, length-coded all, ap entryWords count), last)
+    (omega (arith, length-coded all), last)

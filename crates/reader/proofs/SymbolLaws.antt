@@ -2,30 +2,33 @@
 --     taken-none, taken-put                the marks before the first symbol, and with one rank more
 --     symbol-parts                         a symbol by its four fields, the last two with their tests
 --     symbols-fault, symbols-past          reading some symbols by reading one
---     symbols-done, symbols-weighed        reading so many by a loop, and w0
+--     symbols-done, symbols-headed         reading so many by a loop, and the header
+--     stored-same, stored-more, stored-none   what is stored of a packed file
 use mathlib.Core.Path.{_≡_, refl, sym, _∙_}
-use mathlib.Core.List.{List, [], _∷_, _++_}
+use mathlib.Core.List.{List, [], _∷_, _++_, map}
 use mathlib.Core.Bool.{Bool, true, false, _||_, not}
 use Prim.Native.Nat.{ℕ, suc, _+_, _-_, _<_}
 use native.Mathlib.Omega.{arith}
 use lib.ListN.{length, set, replicate, getD-replicate}
-use lib.Seq.{getD-set-same, getD-set-other}
+use lib.Seq.{sets, getD-set-same, getD-set-other}
 use lib.Dec.{eqb, leb}
 use borrow.Author.Tests.{eqb-true, eqb-false}
 use Rattle.multisets.proofs.Relations.{byTest}
+use Rattle.multisets.proofs.ListLaws.{sets-append}
 use Rattle.terms.specs.Signature.{Symbol, leastWeight}
 use Rattle.format.specs.Errors.{acNotBinary, weightInadmissible, rankTaken}
-use Rattle.format.specs.Layout.{arityWidth, acWidth, weightWidth, rankWidth}
+use Rattle.format.specs.Layout.{formNumber, arityWidth, acWidth, weightWidth, rankWidth}
 use Rattle.format.specs.Reading.{Reading, Reader, _>>=_, _>>_, give, here, require, Source}
 use Rattle.format.specs.Reading.Reading.{got, fault}
 use Rattle.format.specs.Format.{heldBy, symbolReader, symbolsReader}
+use Rattle.format.specs.Packing.{itemWord, symbolItems}
 use Rattle.format.proofs.ReadingLaws.{andThen-same}
-use Rattle.reader.specs.Source.{tested}
-use Rattle.symbols.specs.Table.{weightOf, symbolsAt}
-use Rattle.symbols.proofs.TableLaws.{length-symbols}
+use Rattle.reader.specs.Source.{Stored, tested}
+use Rattle.symbols.specs.Table.{tableWords, symbolsWords}
+use Rattle.symbols.proofs.EntryLaws.{entries-more}
 use Rattle.answers.specs.declared.Answer.{Answer}
 use Rattle.answers.specs.declared.Answer.the-variants.{Got, Fault}
-use Rattle.reader.specs.Symbol.{TakenBy, SymbolsRead, SymbolsPut}
+use Rattle.reader.specs.Symbol.{TakenBy, SymbolsRead}
 use Rattle.reader.proofs.SourceLaws.{tested-then}
 
 -- ---- the marks
@@ -116,10 +119,29 @@ pub symbols-done : (source : Source) (w0 n : ℕ) (ss : List Symbol) (at : ℕ) 
 unfolding symbolsReader
 symbols-done source w0 n ss at e = rw e
 
--- The symbols of a table that has w0, too.
-pub symbols-weighed : (w0 count : ℕ) (reading : Reading (List Symbol)) (r : Answer) (table after : List ℕ) →
-    SymbolsRead reading r (symbolsAt table 0 count) → weightOf after ≡ w0 →
-    symbolsAt after 0 count ≡ symbolsAt table 0 count → SymbolsPut w0 count reading r after
-symbols-weighed w0 count reading (Got value next) table after (read, all) weight same =
-    (read ∙ rw same, weight, all ∙ length-symbols table 0 count)
-symbols-weighed w0 count reading (Fault offset code) table after read weight same = read
+-- The symbols are stored after the header.
+pub symbols-headed : (count w0 rules : ℕ) (reading : Reading (List Symbol)) (r : Answer) (ss : List Symbol)
+    (table headed after : List ℕ) → headed ≡ sets table 0 (formNumber ∷ count ∷ w0 ∷ rules ∷ []) →
+    SymbolsRead reading (λ (ss : List Symbol). Stored true 4 (symbolsWords ss) headed after) r ss →
+    SymbolsRead reading
+    (λ (ss : List Symbol). Stored true 0 (formNumber ∷ count ∷ w0 ∷ rules ∷ symbolsWords ss) table after) r ss
+symbols-headed count w0 rules reading (Got value next) ss table headed after e (read, all, stored) =
+    (read, all, stored ∙ rw e (sym (sets-append table 0 (formNumber ∷ count ∷ w0 ∷ rules ∷ []) (symbolsWords ss))))
+symbols-headed count w0 rules reading (Fault offset code) ss table headed after e read = read
+
+pub stored-same : (packed : Bool) (index : ℕ) (words other before after : List ℕ) → words ≡ other →
+    Stored packed index words before after → Stored packed index other before after
+stored-same true index words other before after e stored = rw e at stored
+stored-same false index words other before after e stored = tt
+
+-- The entries before are stored, and one more.
+pub stored-more : (packed : Bool) (table before after : List ℕ) (n : ℕ) (ss : List Symbol) (s : Symbol) →
+    n ≡ length ss → Stored packed 4 (symbolsWords ss) table before →
+    Stored packed (tableWords n) (map itemWord (symbolItems s)) before after →
+    Stored packed 4 (symbolsWords (ss ++ (s ∷ []))) table after
+stored-more true table before after n ss s e f g = entries-more table before after n ss s e f g
+stored-more false table before after n ss s e f g = tt
+
+pub stored-none : (packed : Bool) (table : List ℕ) → Stored packed 4 (symbolsWords []) table table
+stored-none true table = refl
+stored-none false table = tt

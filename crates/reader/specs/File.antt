@@ -1,8 +1,8 @@
--- What the answer of reading a whole file stands for.
+-- What the answers of reading a whole file stand for.
 use mathlib.Core.Path.{_≡_}
 use mathlib.Core.List.{List, [], map}
-use mathlib.Core.Bool.{Bool, true, false, cond}
-use Prim.Native.Nat.{ℕ, _+_, _≤_, _<_}
+use mathlib.Core.Bool.{Bool, true, cond}
+use Prim.Native.Nat.{ℕ, _*_, _≤_, _<_}
 use lib.ListN.{length, take}
 use lib.Dec.{eqb, leb}
 use lib.Seq.{sets}
@@ -13,12 +13,10 @@ use Rattle.format.specs.Reading.{Reading, Reader, _>>=_, _>>_, give}
 use Rattle.format.specs.Reading.Reading.{got, fault}
 use Rattle.format.specs.Format.{Sides, RuleFile, unusedOf, symbolsReader, rulesReader}
 use Rattle.format.specs.Conversion.{convertedSides}
-use Rattle.symbols.specs.Table.{signatureOf, entryWords, tableWords}
+use Rattle.symbols.specs.Table.{signatureOf, tableWords, maxTableWords, frontWords}
 use Rattle.answers.specs.declared.Answer.{Answer}
-use Rattle.answers.specs.declared.Answer.the-variants as answer
+use Rattle.answers.specs.declared.Answer.the-variants.{Got, Fault}
 use Rattle.sides.specs.Side.{rulesWords}
-use Rattle.reader.specs.declared.file.File.{File}
-use Rattle.reader.specs.declared.file.File.the-variants.{Read, Fault}
 use Rattle.reader.specs.Source.{sourceOf, Reached, tableOf, tested}
 
 module _ (form : ℕ) (packed : Bool) (bytes words : List ℕ) where
@@ -50,56 +48,55 @@ sidesIn form r = cond (eqb form firstForm) (convertedSides r) r
 abbrev pub rulesIn : ℕ → List Sides → List Sides
 rulesIn form rules = cond (eqb form firstForm) (map convertedSides rules) rules
 
--- The words that reading the rules stores: those of a packed file, the variables in order of first use.
-unfoldable pub storedWords : ℕ → Bool → List Sides → List ℕ
-storedWords form true rules = rulesWords (rulesIn form rules)
-storedWords form false rules = []
-
--- A file's counts of symbols and of rules, its signature, and the offset of its rules.
+-- A file's counts of symbols and of rules, its signature, the words before its rules, and their offset.
 pub record HeadParts (packed : Bool) (bytes words table : List ℕ) (symbols rules offset : ℕ) : Type 0 where
   pub symbolCount : symbols ≡ length (signatureOf (take (tableWords symbols) (tableOf packed words table)) .symbols)
   pub short : length bytes ≤ maxBytes
   pub fewSymbols : symbols < 256
   pub fewRules : rules < 1024
   pub admissible : Admissible (signatureOf (take (tableWords symbols) (tableOf packed words table)))
-  pub within : Reached packed bytes words (4 + entryWords symbols) offset
+  pub within : Reached packed bytes words (tableWords symbols) offset
+  pub front : packed ≡ true → take (tableWords symbols) table ≡ frontWords (signatureOf (take (tableWords symbols)
+      (tableOf packed words table))) rules
 
 -- What is read, the answer to the head, which says how many symbols there are, and the table and the count of rules
 -- afterwards.
 abbrev pub HeadRead : ℕ → Bool → List ℕ → List ℕ → Reading RuleFile → Answer → List ℕ → ℕ → Type 0
-HeadRead form packed bytes words reading (answer.Got symbols next) table rules =
+HeadRead form packed bytes words reading (Got symbols next) table rules =
     (reading
     ≡ restReader form packed bytes words (signatureOf (take (tableWords symbols) (tableOf packed words table))) rules
     next) × HeadParts packed bytes words table symbols rules next
-HeadRead form packed bytes words reading (answer.Fault offset code) table rules = reading ≡ fault code offset
+HeadRead form packed bytes words reading (Fault offset code) table rules = reading ≡ fault code offset
 
--- What is read after the symbols, the answer, and the words before and after.
-abbrev pub RestRead : ℕ → Bool → List ℕ → List ℕ → Signature → ℕ → ℕ → Answer → List ℕ → List ℕ → Type 0
-RestRead form packed bytes words σ count at (answer.Got nodes next) before after =
-    (rules : List Sides) × (last : ℕ)
-    × (rulesReader (sourceOf packed bytes words) (unusedOf form) σ count at ≡ got rules next)
-    × (restReader form packed bytes words σ count at ≡ got (record { signature = σ; rules = rules }) last)
-    × (nodes ≡ length (storedWords form packed rules))
-    × (nodes ≤ length before → after ≡ sets before 0 (storedWords form packed rules))
-RestRead form packed bytes words σ count at (answer.Fault offset code) before after =
-    restReader form packed bytes words σ count at ≡ fault code offset
-
--- A file of that form with its head, and its rules as they were read: how many words were stored, and where there is
--- room for all of them, at the front.
-pub record FileParts (form : ℕ) (packed : Bool) (bytes words table before after : List ℕ) (file : RuleFile)
-    (symbols rules nodes offset : ℕ) : Type 0 where
-  pub head : HeadParts packed bytes words table symbols rules offset
-  pub signature : signatureOf (take (tableWords symbols) (tableOf packed words table)) ≡ file .signature
-  pub ruleCount : rules ≡ length (file .rules)
-  pub nodeCount : nodes ≡ length (storedWords form packed (file .rules))
-  pub end : ℕ
-  pub rulesRead : rulesReader (sourceOf packed bytes words) (unusedOf form) (file .signature) rules offset
-      ≡ got (file .rules) end
-  pub stored : nodes ≤ length before → after ≡ sets before 0 (storedWords form packed (file .rules))
+-- A packed file of that form: the front of the table has the words before its rules, and the words those of its rules,
+-- where there is room for all of them.
+pub record PackedParts (form : ℕ) (bytes table before after : List ℕ) (file : RuleFile) (nodes front : ℕ) : Type 0 where
+  pub short : length bytes ≤ maxBytes
+  pub size : front ≡ tableWords (length (file .signature .symbols))
+  pub few : front ≤ maxTableWords
+  pub words : take front table ≡ frontWords (file .signature) (length (file .rules))
+  pub signature : signatureOf (take front table) ≡ file .signature
+  pub admissible : Admissible (file .signature)
+  pub narrow : 5 * nodes ≤ 8 * length bytes
+  pub nodeCount : nodes ≡ length (rulesWords (rulesIn form (file .rules)))
+  pub stored : nodes ≤ length before → after ≡ sets before 0 (rulesWords (rulesIn form (file .rules)))
 
 -- What was read, the answer, the table afterwards, and the words before and after.
-abbrev pub FileRead : ℕ → Bool → List ℕ → List ℕ → Reading RuleFile → File → List ℕ → List ℕ → List ℕ → Type 0
-FileRead form packed bytes words reading (Read symbols rules nodes start) table before after =
+abbrev pub PackedRead : ℕ → List ℕ → Reading RuleFile → Answer → List ℕ → List ℕ → List ℕ → Type 0
+PackedRead form bytes reading (Got nodes front) table before after =
     (file : RuleFile) × (end : ℕ) × (reading ≡ got file end)
-    × FileParts form packed bytes words table before after file symbols rules nodes start
-FileRead form packed bytes words reading (Fault code offset) table before after = reading ≡ fault code offset
+    × PackedParts form bytes table before after file nodes front
+PackedRead form bytes reading (Fault offset code) table before after = reading ≡ fault code offset
+
+-- A file among words: how many symbols it has, where its rules begin, and that the words are not many.
+pub record SheetParts (words : List ℕ) (file : RuleFile) (symbols front : ℕ) : Type 0 where
+  pub symbolCount : symbols ≡ length (file .signature .symbols)
+  pub begin : front ≡ tableWords symbols
+  pub within : front ≤ length words
+  pub short : length words ≤ 263000
+
+-- What was read, and the answer.
+abbrev pub SheetRead : List ℕ → Reading RuleFile → Answer → Type 0
+SheetRead words reading (Got symbols front) =
+    (file : RuleFile) × (end : ℕ) × (reading ≡ got file end) × SheetParts words file symbols front
+SheetRead words reading (Fault offset code) = reading ≡ fault code offset

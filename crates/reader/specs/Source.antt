@@ -5,6 +5,7 @@ use mathlib.Core.Bool.{Bool, true, false, cond}
 use Prim.Native.Nat.{ℕ, _*_, _≤_}
 use lib.ListN.{length}
 use lib.Dec.{leb}
+use lib.Seq.{sets}
 use Rattle.format.specs.Errors.{fileTooLong}
 use Rattle.format.specs.Layout.{maxBytes}
 use Rattle.format.specs.Reading.{Reading, Reader, _>>=_, _>>_, give, here, require, Source, bitSource, wordSource}
@@ -30,6 +31,11 @@ tableOf false words table = words
 abbrev pub Room : Bool → ℕ → List ℕ → Type 0
 Room true n table = n ≤ length table
 Room false n table = Unit {0}
+
+-- Where the file is packed, words were stored in the table from an index on; among words they stand.
+abbrev pub Stored : Bool → ℕ → List ℕ → List ℕ → List ℕ → Type 0
+Stored true index words before after = after ≡ sets before index words
+Stored false index words before after = Unit {0}
 
 -- A field that is to pass a test, with that error where it does not.
 unfoldable pub tested : Source → ℕ → (ℕ → Bool) → ℕ → Reader ℕ

@@ -8,7 +8,6 @@ use Rattle.terms.specs.Signature.{Symbol}
 use Rattle.format.specs.Reading.{Reading}
 use Rattle.format.specs.Reading.Reading.{got, fault}
 use Rattle.format.specs.Format.{heldBy}
-use Rattle.symbols.specs.Table.{weightOf, symbolsAt}
 use Rattle.answers.specs.declared.Answer.{Answer}
 use Rattle.answers.specs.declared.Answer.the-variants.{Got, Fault}
 
@@ -16,19 +15,16 @@ use Rattle.answers.specs.declared.Answer.the-variants.{Got, Fault}
 abbrev pub TakenBy : List Symbol → List Bool → Type 0
 TakenBy symbols taken = (rank : ℕ) → rank < 256 → getD taken rank false ≡ heldBy symbols rank
 
--- What is read after the earlier symbols, where it ends, the answer, and the symbols and the marks afterwards.
-abbrev pub SymbolPut : Reading Symbol → List Symbol → (ℕ → Type 0) → Answer → List Symbol → List Bool → Type 0
-SymbolPut reading earlier End (Got value next) symbols taken =
-    (s : Symbol) × (reading ≡ got s next) × (symbols ≡ earlier ++ (s ∷ [])) × TakenBy symbols taken × End next
-SymbolPut reading earlier End (Fault offset code) symbols taken = reading ≡ fault code offset
+-- What is read after the earlier symbols, where it ends and what is stored of it, the answer, and the symbols and the
+-- marks afterwards.
+abbrev pub SymbolPut : Reading Symbol → List Symbol → (ℕ → Type 0) → (Symbol → Type 0) → Answer → List Symbol →
+    List Bool → Type 0
+SymbolPut reading earlier End Put (Got value next) symbols taken =
+    (s : Symbol) × (reading ≡ got s next) × (symbols ≡ earlier ++ (s ∷ [])) × TakenBy symbols taken × End next × Put s
+SymbolPut reading earlier End Put (Fault offset code) symbols taken = reading ≡ fault code offset
 
--- What is read of so many symbols, the answer, and the symbols afterwards.
-abbrev pub SymbolsRead : Reading (List Symbol) → Answer → List Symbol → Type 0
-SymbolsRead reading (Got value next) symbols = (reading ≡ got symbols next) × (value ≡ length symbols)
-SymbolsRead reading (Fault offset code) symbols = reading ≡ fault code offset
-
--- What is read of so many symbols, the answer, and the table afterwards.
-abbrev pub SymbolsPut : ℕ → ℕ → Reading (List Symbol) → Answer → List ℕ → Type 0
-SymbolsPut w0 count reading (Got value next) table =
-    (reading ≡ got (symbolsAt table 0 count) next) × (weightOf table ≡ w0) × (value ≡ count)
-SymbolsPut w0 count reading (Fault offset code) table = reading ≡ fault code offset
+-- What is read of so many symbols and what is stored of them, the answer, and the symbols afterwards.
+abbrev pub SymbolsRead : Reading (List Symbol) → (List Symbol → Type 0) → Answer → List Symbol → Type 0
+SymbolsRead reading Put (Got value next) symbols =
+    (reading ≡ got symbols next) × (value ≡ length symbols) × Put symbols
+SymbolsRead reading Put (Fault offset code) symbols = reading ≡ fault code offset

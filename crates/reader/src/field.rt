@@ -1,4 +1,4 @@
-// A field of a rule file, from the bits of a packed one or from words, and the end of a file.
+// A field of a rule file, from the bits of a packed one or from words.
 ghost use mathlib.Core.Path.{_≡_};
 ghost use Prim.Native.Nat.{ℕ, _^_, _≤_, _<_};
 ghost use lib.Dec.{leb};
@@ -32,51 +32,21 @@ pub fn field_at_least(
     at: usize,
     width: usize,
     least: usize,
-    error: u8,
+    code: u8,
 ) -> Answer
-    requires { ⌜ (length (now book) ≤ maxBytes) × (width ≤ 16) × (0 < error) × (error < 64) ⌝ }
+    requires { ⌜ (length (now book) ≤ maxBytes) × (width ≤ 16) × (0 < code) × (code < 64) ⌝ }
     ensures { λ r. ⌜
         readingOf (λ (v : ℕ). v) r
-        ≡ tested (sourceOf packed (now (book .entry)) (now (sheet .entry))) width (leb least) error at
+        ≡ tested (sourceOf packed (now (book .entry)) (now (sheet .entry))) width (leb least) code at
         ⌝ }
     ensures { λ r. ⌜ Fits (2 ^ width) r ⌝ }
 {
-    match field(book, sheet, packed, at, width) {
-        Answer::Fault { code, offset } => Answer::Fault { code, offset },
-        Answer::Got { value, next } => {
-            if value < least {
-                return Answer::Fault {
-                    code: error,
-                    offset: at,
-                };
-            }
-            Answer::Got { value, next }
-        }
+    let read = field(book, sheet, packed, at, width);
+    let Answer::Got { value, next: _ } = read else {
+        return read;
+    };
+    if value < least {
+        return Answer::Fault { code, offset: at };
     }
-}
-
-// Whether a file may end at an offset.
-pub fn end(book: &[u8], sheet: &[u16], packed: bool, at: usize) -> Answer
-    requires { ⌜ length (now book) ≤ maxBytes ⌝ }
-    ensures { λ r. ⌜
-        readingOf (λ (_ : ℕ). tt) r ≡ sourceOf packed (now (book .entry)) (now (sheet .entry)) .end at
-        ⌝ }
-{
-    if packed {
-        let cursor = BitCursor { at };
-        if cursor.is_padding(book) {
-            return Answer::Got { value: 0, next: at };
-        }
-        return Answer::Fault {
-            code: format::BAD_PADDING,
-            offset: at,
-        };
-    }
-    if at == sheet.len() {
-        return Answer::Got { value: 0, next: at };
-    }
-    Answer::Fault {
-        code: format::WORDS_LEFT_OVER,
-        offset: at,
-    }
+    read
 }

@@ -1,32 +1,20 @@
-// Reading a whole file: its symbol table, its counts and its rules, or its first fault.
+// Reading a whole file, packed or a sheet: what stands before its rules, and its rules, or its first fault.
 ghost use mathlib.Core.Path.{_≡_};
-ghost use Prim.Native.Nat.{ℕ, _≤_, _<_};
-ghost use lib.ListN.{length, take};
+ghost use Prim.Native.Nat.{ℕ, _≤_};
+ghost use lib.ListN.{length};
 ghost use Rattle.format.specs.Layout.{maxBytes};
 ghost use Rattle.format.specs.Format.{formError};
-ghost use Rattle.symbols.specs.Table.{signatureOf, tableWords, maxTableWords};
-ghost use Rattle.reader.specs.Source.{Reached, tableOf, Room, readSource};
-ghost use Rattle.reader.specs.File.{countsReader, HeadRead, RestRead, FileRead};
+ghost use Rattle.format.specs.Files.{readBytesIn, readWords};
+ghost use Rattle.symbols.specs.Table.{maxTableWords};
+ghost use Rattle.reader.specs.Source.{Reached, Room, readSource};
+ghost use Rattle.reader.specs.File.{countsReader, HeadRead, PackedRead, SheetRead};
 use crate::field::field;
 use crate::field::field_at_least;
+use crate::rule::read_packed_rules;
+use crate::rule::read_word_rules;
 use answers::Answer;
 use format::NO_SYMBOLS;
 use format::SYMBOL_COUNT_WIDTH;
-
-// A file's counts of symbols and of rules, how many words of rules were stored, and the offset of its rules, or an
-// error's code and offset.
-pub enum File {
-    Read {
-        symbols: usize,
-        rules: usize,
-        nodes: usize,
-        start: usize,
-    },
-    Fault {
-        code: u8,
-        offset: usize,
-    },
-}
 
 // Reads the counts that follow a form, and the symbols; the value is how many symbols there are.
 fn read_counts(
@@ -61,7 +49,7 @@ fn read_counts(
         return read;
     };
     *rules = value;
-    crate::symbol::read_symbols(book, sheet, packed, table, w0, symbols, next)
+    crate::symbol::read_symbols(book, sheet, packed, table, w0, symbols, value, next)
 }
 
 // The error of a form that is not the one that is read.
@@ -91,100 +79,68 @@ pub fn read_head(
         ⌝ }
 {
     if format::MAX_BYTES < book.len() {
-        return Answer::Fault {
-            code: format::FILE_TOO_LONG,
-            offset: 0,
-        };
+        let code = format::FILE_TOO_LONG;
+        return Answer::Fault { code, offset: 0 };
     }
     let read = field(book, sheet, packed, 0, format::FORM_WIDTH);
     let Answer::Got { value, next } = read else {
         return read;
     };
     if value != form as usize {
-        return Answer::Fault {
-            code: form_error(value),
-            offset: 0,
-        };
+        let code = form_error(value);
+        return Answer::Fault { code, offset: 0 };
     }
     read_counts(book, sheet, packed, table, rules, next)
 }
 
-// Reads the rules under a table of so many symbols and what follows them, their words stored at the front.
-fn read_rest(
-    book: &[u8],
-    sheet: &[u16],
-    packed: bool,
-    form: u16,
-    table: &[u16],
-    symbols: usize,
-    words: &mut [u16],
-    count: usize,
-    at: usize,
-) -> Answer
-    requires { ⌜ (length (now book) ≤ maxBytes) × (symbols < 256) × (count < 1024) ⌝ }
-    requires { ⌜
-        Reached packed (now book) (now sheet) (tableWords symbols) at × Room packed (tableWords symbols) (now table)
-        ⌝ }
+// Reads a packed file of that form, the words before its rules into the table and those of its rules to the front of
+// the words, the variables in order of first use. The value is how many words the rules have, and in place of an offset
+// how many stand in the table.
+pub fn read_packed(book: &[u8], form: u16, table: &mut [u16], words: &mut [u16]) -> Answer
+    requires { ⌜ maxTableWords ≤ length (now table) ⌝ }
     ensures { λ r. ⌜
-        RestRead form packed (now (book .entry)) (now (sheet .entry))
-        (signatureOf (take (tableWords symbols) (tableOf packed (now (sheet .entry)) (now (table .entry))))) count at r
-        (now (words .entry)) (now (words .exit))
-        ⌝ }
-{
-    match crate::rule::read_rules(book, sheet, packed, form, table, symbols, words, count, at) {
-        Answer::Fault { code, offset } => Answer::Fault { code, offset },
-        Answer::Got { value, next } => match crate::field::end(book, sheet, packed, next) {
-            Answer::Fault { code, offset } => Answer::Fault { code, offset },
-            Answer::Got {
-                value: none,
-                next: last,
-            } => Answer::Got { value, next },
-        },
-    }
-}
-
-// Reads a file of that form, the symbols and the rules of a packed one into the table and the front of the words.
-pub fn read_file(
-    book: &[u8],
-    sheet: &[u16],
-    packed: bool,
-    form: u16,
-    table: &mut [u16],
-    words: &mut [u16],
-) -> File
-    requires { ⌜ Room packed maxTableWords (now table) ⌝ }
-    ensures { λ r. ⌜
-        FileRead form packed (now (book .entry)) (now (sheet .entry))
-        (readSource form packed (now (book .entry)) (now (sheet .entry))) r (now (table .exit))
+        PackedRead form (now (book .entry)) (readBytesIn form (now (book .entry))) r (now (table .exit))
         (now (words .entry)) (now (words .exit))
         ⌝ }
 {
     let mut rules = 0;
-    match read_head(book, sheet, packed, form, table, &mut rules) {
-        Answer::Fault { code, offset } => File::Fault { code, offset },
-        Answer::Got {
-            value: symbols,
-            next,
-        } => {
-            match read_rest(
-                book,
-                sheet,
-                packed,
-                form,
-                table,
-                symbols,
-                words,
-                rules,
-                next,
-            ) {
-                Answer::Fault { code, offset } => File::Fault { code, offset },
-                Answer::Got { value, next: last } => File::Read {
-                    symbols,
-                    rules,
-                    nodes: value,
-                    start: next,
-                },
-            }
-        }
+    let read = read_head(book, &[0u16; 0], true, form, table, &mut rules);
+    let Answer::Got { value, next } = read else {
+        return read;
+    };
+    let front = symbols::front(value);
+    let arities = &symbols::arities(&table[..front]);
+    let read = read_packed_rules(book, arities, words, form, rules, next);
+    let Answer::Got { value, next } = read else {
+        return read;
+    };
+    let cursor = bits::BitCursor { at: next };
+    if cursor.is_padding(book) {
+        return Answer::Got { value, next: front };
     }
+    let code = format::BAD_PADDING;
+    Answer::Fault { code, offset: next }
+}
+
+// Reads a sheet. The value is how many symbols it has, and in place of an offset how many words stand before its rules.
+pub fn read_sheet(sheet: &[u16]) -> Answer
+    ensures { λ r. ⌜ SheetRead (now (sheet .entry)) (readWords (now (sheet .entry))) r ⌝ }
+{
+    let mut none = [0u16; 0];
+    let mut rules = 0;
+    let head = read_head(&[0u8; 0], sheet, false, format::FORM, &mut none, &mut rules);
+    let Answer::Got { value: _, next } = head else {
+        return head;
+    };
+    let unused = variables::unused_at_start(format::FORM);
+    let arities = &symbols::arities(&sheet[..next]);
+    let read = read_word_rules(arities, sheet, unused, rules, next);
+    let Answer::Got { value: _, next } = read else {
+        return read;
+    };
+    if next == sheet.len() {
+        return head;
+    }
+    let code = format::WORDS_LEFT_OVER;
+    Answer::Fault { code, offset: next }
 }

@@ -2,17 +2,15 @@
 ghost use mathlib.Core.Path.{_≡_};
 ghost use mathlib.Core.List.{List};
 ghost use Prim.Native.Nat.{_+_, _*_, _^_, _≤_, _<_};
-ghost use lib.ListN.{length, take};
+ghost use lib.ListN.{length};
 ghost use Rattle.terms.specs.Signature.{Signature};
 ghost use Rattle.format.specs.Layout.{maxBytes, maxNodes};
 ghost use Rattle.format.specs.Reading.{bitSource, wordSource};
 ghost use Rattle.format.specs.Format.{Sides, unusedOf, ruleReader, rulesReader};
-ghost use Rattle.symbols.specs.Table.{signatureOf, tableWords};
 ghost use Rattle.symbols.specs.Arities.{Arities};
 ghost use Rattle.answers.specs.Answer.{endOf, Within};
 ghost use Rattle.sides.specs.Side.{WordsRead, sideWords, rulesWords};
-ghost use Rattle.reader.specs.Source.{sourceOf, Reached, tableOf, Room};
-ghost use Rattle.reader.specs.File.{sidesIn, rulesIn, storedWords};
+ghost use Rattle.reader.specs.File.{sidesIn, rulesIn};
 use answers::Answer;
 use format::NODE_WORDS;
 
@@ -48,7 +46,7 @@ fn read_packed_rule(
 }
 
 // Reads that many rules from bits, their words stored at the front; the value is how many words there are.
-fn read_packed_rules(
+pub fn read_packed_rules(
     book: &[u8],
     arities: &[u32; NODE_WORDS],
     words: &mut [u16],
@@ -92,23 +90,19 @@ fn read_word_rule(arities: &[u32; NODE_WORDS], sheet: &[u16], unused: usize, at:
         r ≡ endOf (ruleReader (wordSource (now (sheet .entry))) unused σ at))
         ⌝ }
 {
-    match words::term(arities, sheet, unused, at) {
-        Answer::Fault { code, offset } => Answer::Fault { code, offset },
-        Answer::Got { value, next } => match words::term(arities, sheet, value, next) {
-            Answer::Fault { code, offset } => Answer::Fault { code, offset },
-            Answer::Got {
-                value: after,
-                next: end,
-            } => Answer::Got {
-                value: 0,
-                next: end,
-            },
-        },
-    }
+    let read = words::term(arities, sheet, unused, at);
+    let Answer::Got { value, next } = read else {
+        return read;
+    };
+    let read = words::term(arities, sheet, value, next);
+    let Answer::Got { value: _, next } = read else {
+        return read;
+    };
+    Answer::Got { value: 0, next }
 }
 
 // Reads that many rules from words.
-fn read_word_rules(
+pub fn read_word_rules(
     arities: &[u32; NODE_WORDS],
     sheet: &[u16],
     unused: usize,
@@ -135,42 +129,4 @@ fn read_word_rules(
         value: 0,
         next: here,
     }
-}
-
-// Reads that many rules of that form under a table of so many symbols; the value is how many words are stored.
-pub fn read_rules(
-    book: &[u8],
-    sheet: &[u16],
-    packed: bool,
-    form: u16,
-    table: &[u16],
-    symbols: usize,
-    words: &mut [u16],
-    count: usize,
-    at: usize,
-) -> Answer
-    requires { ⌜ (length (now book) ≤ maxBytes) × (symbols < 256) × (count < 1024) ⌝ }
-    requires { ⌜
-        Reached packed (now book) (now sheet) (tableWords symbols) at × Room packed (tableWords symbols) (now table)
-        ⌝ }
-    ensures { λ r. ⌜
-        WordsRead (storedWords form packed)
-        (rulesReader (sourceOf packed (now (book .entry)) (now (sheet .entry))) (unusedOf form)
-        (signatureOf (take (tableWords symbols) (tableOf packed (now (sheet .entry)) (now (table .entry))))) count at)
-        0 (now (words .entry)) r (now (words .exit))
-        ⌝ }
-{
-    let front = symbols::front(symbols);
-    if packed {
-        return read_packed_rules(
-            book,
-            &symbols::arities(&table[..front]),
-            words,
-            form,
-            count,
-            at,
-        );
-    }
-    let unused = variables::unused_at_start(form);
-    read_word_rules(&symbols::arities(&sheet[..front]), sheet, unused, count, at)
 }

@@ -1,18 +1,19 @@
 // The symbol table of a rule file: a symbol's entry, and all of them into a table.
 ghost use mathlib.Core.Path.{_≡_};
-ghost use mathlib.Core.List.{List, [], _∷_, _++_};
+ghost use mathlib.Core.List.{List, [], _∷_, _++_, map};
 ghost use mathlib.Core.Bool.{false, not};
 ghost use Prim.Native.Nat.{ℕ, _+_, _≤_, _<_};
 ghost use lib.Dec.{eqb};
-ghost use lib.ListN.{length, getD};
+ghost use lib.ListN.{length};
 ghost use Rattle.terms.specs.Signature.{Symbol};
 ghost use Rattle.format.specs.Errors.{rankTaken};
-ghost use Rattle.format.specs.Layout.{maxBytes, rankWidth};
+ghost use Rattle.format.specs.Layout.{formNumber, maxBytes, rankWidth};
 ghost use Rattle.format.specs.Format.{heldBy, symbolReader, symbolsReader};
-ghost use Rattle.symbols.specs.Table.{symbolAt, symbolsAt, tableWords};
+ghost use Rattle.format.specs.Packing.{itemWord, symbolItems};
+ghost use Rattle.symbols.specs.Table.{symbolAt, symbolsAt, tableWords, symbolsWords};
 ghost use Rattle.answers.specs.Answer.{readingOf, Fits};
-ghost use Rattle.reader.specs.Source.{sourceOf, Reached, tableOf, Room, tested};
-ghost use Rattle.reader.specs.Symbol.{TakenBy, SymbolPut, SymbolsRead, SymbolsPut};
+ghost use Rattle.reader.specs.Source.{sourceOf, Reached, tableOf, Room, Stored, tested};
+ghost use Rattle.reader.specs.Symbol.{TakenBy, SymbolPut, SymbolsRead};
 use crate::field::field;
 use answers::Answer;
 use format::RANKS;
@@ -28,18 +29,15 @@ fn read_rank(book: &[u8], sheet: &[u16], packed: bool, taken: &[bool; RANKS], at
         ⌝ }
     ensures { λ r. ⌜ Fits 256 r ⌝ }
 {
-    match field(book, sheet, packed, at, format::RANK_WIDTH) {
-        Answer::Fault { code, offset } => Answer::Fault { code, offset },
-        Answer::Got { value, next } => {
-            if taken[value] {
-                return Answer::Fault {
-                    code: format::RANK_TAKEN,
-                    offset: at,
-                };
-            }
-            Answer::Got { value, next }
-        }
+    let read = field(book, sheet, packed, at, format::RANK_WIDTH);
+    let Answer::Got { value, next: _ } = read else {
+        return read;
+    };
+    if taken[value] {
+        let code = format::RANK_TAKEN;
+        return Answer::Fault { code, offset: at };
     }
+    read
 }
 
 // Stores the entry of the symbol of that number where the file is packed; among words it stands.
@@ -59,6 +57,9 @@ fn put_entry(
         (packed ≡ false → symbolAt words number ≡ s) →
         symbolsAt (tableOf packed words (now (table .exit))) 0 (number + 1)
         ≡ symbolsAt (tableOf packed words (now (table .entry))) 0 number ++ (s ∷ []))
+        ⌝ }
+    ensures { λ _. ⌜
+        Stored packed (tableWords number) (arity ∷ ac ∷ weight ∷ rank ∷ []) (now (table .entry)) (now (table .exit))
         ⌝ }
 {
     if packed {
@@ -87,7 +88,9 @@ fn read_symbol(
         (symbolReader (sourceOf packed (now (book .entry)) (now (sheet .entry))) w0
         (symbolsAt (tableOf packed (now (sheet .entry)) (now (table .entry))) 0 number) at)
         (symbolsAt (tableOf packed (now (sheet .entry)) (now (table .entry))) 0 number)
-        (Reached packed (now (book .entry)) (now (sheet .entry)) (tableWords (number + 1))) r
+        (Reached packed (now (book .entry)) (now (sheet .entry)) (tableWords (number + 1)))
+        (λ (s : Symbol). Stored packed (tableWords number) (map itemWord (symbolItems s)) (now (table .entry))
+        (now (table .exit))) r
         (symbolsAt (tableOf packed (now (sheet .entry)) (now (table .exit))) 0 (number + 1)) (now (taken .exit))
         ⌝ }
     ensures { λ r. ⌜ length (now (taken .exit)) ≡ 256 ⌝ }
@@ -103,10 +106,8 @@ fn read_symbol(
     };
     let ac = value as u16;
     if !symbols::binary_if_ac(arity, ac) {
-        return Answer::Fault {
-            code: format::AC_NOT_BINARY,
-            offset: at,
-        };
+        let code = format::AC_NOT_BINARY;
+        return Answer::Fault { code, offset: at };
     }
     let least = symbols::wide(symbols::least_weight(w0, arity));
     let read = crate::field::field_at_least(
@@ -144,7 +145,8 @@ fn read_symbols_from(
     requires { ⌜ (length (now book) ≤ maxBytes) × (count < 256) × Room packed (tableWords count) (now table) ⌝ }
     requires { ⌜ Reached packed (now book) (now sheet) 4 at ⌝ }
     ensures { λ r. ⌜
-        SymbolsRead (symbolsReader (sourceOf packed (now (book .entry)) (now (sheet .entry))) w0 count [] at) r
+        SymbolsRead (symbolsReader (sourceOf packed (now (book .entry)) (now (sheet .entry))) w0 count [] at)
+        (λ (ss : List Symbol). Stored packed 4 (symbolsWords ss) (now (table .entry)) (now (table .exit))) r
         (symbolsAt (tableOf packed (now (sheet .entry)) (now (table .exit))) 0 count)
         ⌝ }
 {
@@ -164,7 +166,8 @@ fn read_symbols_from(
     }
 }
 
-// The same with w0, by one branch on the source, so that the compiler makes a loop for each.
+// The same, the header of a packed file stored too, by one branch on the source, so that the compiler makes a loop for
+// each.
 pub fn read_symbols(
     book: &[u8],
     sheet: &[u16],
@@ -172,20 +175,21 @@ pub fn read_symbols(
     table: &mut [u16],
     w0: u16,
     count: usize,
+    rules: usize,
     at: usize,
 ) -> Answer
     requires { ⌜ (length (now book) ≤ maxBytes) × (count < 256) × Room packed (tableWords count) (now table) ⌝ }
-    requires { ⌜ Reached packed (now book) (now sheet) 4 at × (packed ≡ false → getD (now sheet) 2 0 ≡ w0) ⌝ }
+    requires { ⌜ Reached packed (now book) (now sheet) 4 at × (rules < 1024) ⌝ }
     ensures { λ r. ⌜
-        SymbolsPut w0 count
-        (symbolsReader (sourceOf packed (now (book .entry)) (now (sheet .entry))) w0 count [] at) r
-        (tableOf packed (now (sheet .entry)) (now (table .exit)))
+        SymbolsRead (symbolsReader (sourceOf packed (now (book .entry)) (now (sheet .entry))) w0 count [] at)
+        (λ (ss : List Symbol). Stored packed 0 (formNumber ∷ count ∷ w0 ∷ rules ∷ symbolsWords ss)
+        (now (table .entry)) (now (table .exit))) r
+        (symbolsAt (tableOf packed (now (sheet .entry)) (now (table .exit))) 0 count)
         ⌝ }
 {
     if packed {
-        let read = read_symbols_from(book, sheet, true, table, w0, count, at);
-        symbols::put_variable_weight(table, w0);
-        return read;
+        symbols::put_header(table, count as u16, w0, rules as u16);
+        return read_symbols_from(book, sheet, true, table, w0, count, at);
     }
     read_symbols_from(book, sheet, false, table, w0, count, at)
 }

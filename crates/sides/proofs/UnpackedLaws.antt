@@ -3,7 +3,7 @@
 --     unpacked-parts, unpacked-length     the header, the symbols and the rules, and how many words they are
 use mathlib.Core.Path.{_≡_, refl, ap, _∙_}
 use mathlib.Core.List.{List, [], _∷_, _++_, map, flatMap, map-append}
-use Prim.Native.Nat.{ℕ, _+_}
+use Prim.Native.Nat.{ℕ, _+_, _*_}
 use native.Mathlib.Omega.{arith}
 use lib.ListN.{length, length-append}
 use Rattle.terms.specs.Signature.{Symbol}
@@ -11,7 +11,7 @@ use Rattle.format.specs.Layout.{formNumber}
 use Rattle.format.specs.Format.{Sides, RuleFile}
 use Rattle.format.specs.Packing.{itemWord, symbolItems, ruleItems, itemsIn, items, unpacked}
 use Rattle.format.specs.Packing.Item.{node}
-use Rattle.symbols.specs.Table.{entryWords, symbolsWords}
+use Rattle.symbols.specs.Table.{symbolsWords}
 use Rattle.symbols.proofs.EntryLaws.{length-symbolsWords}
 use Rattle.sides.specs.Side.{sideWords, rulesWords}
 
@@ -42,7 +42,7 @@ unpacked-parts file =
     )
 
 pub unpacked-length : (file : RuleFile) →
-    length (unpacked file) ≡ 4 + entryWords (length (file .signature .symbols)) + length (rulesWords (file .rules))
+    length (unpacked file) ≡ 4 + 4 * length (file .signature .symbols) + length (rulesWords (file .rules))
 unpacked-length file =
     ap length (unpacked-parts file)
     ∙ omega (

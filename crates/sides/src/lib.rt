@@ -159,16 +159,13 @@ fn read_side_into(
     ensures { λ _. ⌜ now (unused .exit) ≤ 16 ⌝ }
 {
     let mut side = [0u16; MAX_NODES];
-    match read_side(book, arities, &mut side, unused, at) {
-        Answer::Fault { code, offset } => Answer::Fault { code, offset },
-        Answer::Got { value, next } => {
-            put_words(words, index, &side[..value]);
-            Answer::Got {
-                value: index + value,
-                next,
-            }
-        }
-    }
+    let read = read_side(book, arities, &mut side, unused, at);
+    let Answer::Got { value, next } = read else {
+        return read;
+    };
+    put_words(words, index, &side[..value]);
+    let end = index + value;
+    Answer::Got { value: end, next }
 }
 
 // Reads a rule's two sides, where the variables from a number on are unused, their words stored from an index on; the
@@ -191,10 +188,9 @@ pub fn read_rule_into(
     ensures { λ r. ⌜ Within (index + 2 * maxNodes) (8 * length (now (book .entry))) r ⌝ }
 {
     let mut lowest = unused;
-    match read_side_into(book, arities, words, &mut lowest, index, at) {
-        Answer::Fault { code, offset } => Answer::Fault { code, offset },
-        Answer::Got { value, next } => {
-            read_side_into(book, arities, words, &mut lowest, value, next)
-        }
-    }
+    let read = read_side_into(book, arities, words, &mut lowest, index, at);
+    let Answer::Got { value, next } = read else {
+        return read;
+    };
+    read_side_into(book, arities, words, &mut lowest, value, next)
 }

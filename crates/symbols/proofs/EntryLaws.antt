@@ -1,24 +1,25 @@
 -- The words of entries in a table, and in a sheet.
 --     stored-four                        four stores one after the other
---     table-le, entry-lt, table-more, table-next, table-start, table-entries, table-some     how many words a table has
---     symbols-stand                      one symbol more that stands
---     symbols-put, symbols-kept          the symbols of a table after an entry, and after w0, was stored
+--     table-le, table-more, table-next, table-start, table-entries, table-some     how many words a table has
+--     symbols-stand, symbols-put         one symbol more that stands, or was stored
 --     signature-front                    the signature of a table's front part
---     length-symbolsWords, symbols-more  how many words the symbols take in a sheet; one symbol more
+--     length-symbolsWords, entry-words   how many words the symbols take in a sheet, and those of an entry
+--     entries-more                       the entries stored one by one
+--     front-weight, front-words          w0, and all words, of a table where a sheet's front was stored
 use mathlib.Core.Path.{_≡_, refl, sym, ap, _∙_}
 use mathlib.Core.List.{List, [], _∷_, _++_, map}
-use mathlib.Core.Bool.{false}
 use Prim.Native.Nat.{ℕ, suc, zero, _+_, _-_, _*_, _/_, _≤_, _<_}
 use native.Mathlib.Nat.{add-zero}
 use native.Mathlib.Numerals.{add-one}
 use native.Mathlib.Omega.{arith}
 use lib.ListN.{length, length-append, getD, take, drop, set, List·getD-append}
-use lib.Seq.{sets, sets-eq, getD-take, getD-append-add, getD-set-other, take-suc, length-take-le}
+use lib.Dec.{eqb}
+use lib.Seq.{sets, sets-eq, getD-take, getD-append-add, length-take-le, take-append-seam}
 use Rattle.multisets.proofs.ListLaws.{sets-append}
-use Rattle.terms.specs.Signature.{Symbol, Signature, symbolOf}
+use Rattle.terms.specs.Signature.{Symbol, Signature}
 use Rattle.format.specs.Packing.{itemWord, symbolItems}
-use Rattle.symbols.specs.Table.{symbolAt, symbolsAt, signatureOf, weightOf, entryWords, tableWords, maxTableWords}
-use Rattle.symbols.specs.Table.{symbolsWords}
+use Rattle.symbols.specs.Table.{symbolAt, symbolsAt, signatureOf, weightOf, tableWords, maxTableWords}
+use Rattle.symbols.specs.Table.{symbolsWords, frontWords}
 
 pub stored-four : (l l₁ l₂ l₃ l₄ : List ℕ) (i a b c d : ℕ) → l₁ ≡ set l i a → l₂ ≡ set l₁ (i + 1) b →
     l₃ ≡ set l₂ (i + 2) c → l₄ ≡ set l₃ (i + 3) d → l₄ ≡ sets l i (a ∷ b ∷ c ∷ d ∷ [])
@@ -31,30 +32,26 @@ stored-four l l₁ l₂ l₃ l₄ i a b c d h₁ h₂ h₃ h₄ =
 -- ---- in a table
 
 pub table-le : (n : ℕ) → n < 256 → tableWords n ≤ maxTableWords
-unfolding tableWords entryWords
+unfolding tableWords
 table-le n h = omega arith
 
-pub entry-lt : (n : ℕ) → n < 256 → entryWords n + 3 < maxTableWords
-unfolding entryWords
-entry-lt n h = omega arith
-
 pub table-more : (m n : ℕ) → m < n → tableWords (m + 1) ≤ tableWords n
-unfolding tableWords entryWords
+unfolding tableWords
 table-more m n h = omega arith
 
 pub table-next : (n : ℕ) → tableWords (n + 1) ≡ tableWords n + 1 + 1 + 1 + 1
-unfolding tableWords entryWords
+unfolding tableWords
 table-next n = omega arith
 
 pub table-start : tableWords 0 ≡ 4
-unfolding tableWords entryWords
+unfolding tableWords
 table-start = refl
 
-pub table-entries : (n : ℕ) → tableWords n ≡ 4 + entryWords n
+pub table-entries : (n : ℕ) → tableWords n ≡ 4 + 4 * n
 unfolding tableWords
 table-entries n = refl
 
-pub table-some : (n : ℕ) → 2 < tableWords n
+pub table-some : (n : ℕ) → 4 ≤ tableWords n
 unfolding tableWords
 table-some n = omega arith
 
@@ -103,7 +100,7 @@ module _ (l : List ℕ) (i : ℕ) (vs : List ℕ) (h : i + length vs ≤ length 
 pub symbols-put : (table : List ℕ) (f arity ac weight rank : ℕ) → tableWords (f + 1) ≤ length table →
     symbolsAt (sets table (tableWords f) (arity ∷ ac ∷ weight ∷ rank ∷ [])) 0 (f + 1) ≡ symbolsAt table 0 f ++
     (symbolAt (0 ∷ 0 ∷ 0 ∷ 0 ∷ arity ∷ ac ∷ weight ∷ rank ∷ []) 0 ∷ [])
-unfolding tableWords entryWords
+unfolding tableWords
 symbols-put table f arity ac weight rank h =
     let vs : List ℕ = arity ∷ ac ∷ weight ∷ rank ∷ [] in
     let put : List ℕ = sets table (4 + 4 * f) vs in
@@ -123,13 +120,9 @@ symbols-put table f arity ac weight rank h =
       at (4 * f + 7) 3 (omega arith) (omega arith),
     ))
 
-pub symbols-kept : (table : List ℕ) (w0 n : ℕ) → symbolsAt (set table 2 w0) 0 n ≡ symbolsAt table 0 n
-symbols-kept table w0 n =
-    symbols-same (set table 2 w0) table n 0 (λ j a b. getD-set-other table 2 j w0 0 (λ e. omega arith))
-
 pub signature-front : (table : List ℕ) (n : ℕ) → tableWords n ≤ length table →
     signatureOf (take (tableWords n) table) ≡ record { w0 = weightOf table; symbols = symbolsAt table 0 n }
-unfolding signatureOf tableWords entryWords
+unfolding signatureOf tableWords
 signature-front table n h =
     let front : List ℕ = take (4 + 4 * n) table in
     let count : (length front - 1) / 4 ≡ n = omega (arith, length-take-le (4 + 4 * n) table h) in
@@ -139,8 +132,7 @@ signature-front table n h =
 
 -- ---- in a sheet
 
-pub length-symbolsWords : (ss : List Symbol) → length (symbolsWords ss) ≡ entryWords (length ss)
-unfolding entryWords
+pub length-symbolsWords : (ss : List Symbol) → length (symbolsWords ss) ≡ 4 * length ss
 length-symbolsWords [] = refl
 length-symbolsWords (s ∷ ss) = omega (arith, length-symbolsWords ss)
 
@@ -149,18 +141,35 @@ symbolsWords-snoc : (ss : List Symbol) (s : Symbol) →
 symbolsWords-snoc [] s = refl
 symbolsWords-snoc (t ∷ ss) s = ap (λ (ws : List ℕ). map itemWord (symbolItems t) ++ ws) (symbolsWords-snoc ss s)
 
-abbrev none : Symbol
-none = record { arity = 0; ac = false; weight = 0; precedence = 0 }
+pub entry-words : (arity ac weight rank : ℕ) → ac < 2 → arity ∷ ac ∷ weight ∷ rank ∷ [] ≡
+    map itemWord (symbolItems (record { arity = arity; ac = eqb ac 1; weight = weight; precedence = rank }))
+entry-words arity zero weight rank h = refl
+entry-words arity (suc zero) weight rank h = refl
+entry-words arity (suc (suc n)) weight rank h = absurd (omega arith)
 
-pub symbols-more : (σ : Signature) (words : List ℕ) (i n : ℕ) → n < length (σ .symbols) →
-    sets (sets words i (symbolsWords (take n (σ .symbols)))) (i + entryWords n) (map itemWord (symbolItems (symbolOf σ
-    n)))
-    ≡ sets words i (symbolsWords (take (n + 1) (σ .symbols)))
-symbols-more σ words i n h =
-    let ss = σ .symbols in
-    let put = map itemWord (symbolItems (symbolOf σ n)) in
-    let e : length (symbolsWords (take n ss)) ≡ entryWords n =
-    length-symbolsWords (take n ss) ∙ ap entryWords (length-take-le n ss (omega arith)) in
-    let s : symbolsWords (take (n + 1) ss) ≡ symbolsWords (take n ss) ++ put =
-    rw (add-one n, take-suc ss n none h) (symbolsWords-snoc (take n ss) (symbolOf σ n)) in
-    rw s (sym (sets-append words i (symbolsWords (take n ss)) put ∙ rw e))
+-- ---- a sheet's front in a table
+
+pub entries-more : (table before after : List ℕ) (n : ℕ) (ss : List Symbol) (s : Symbol) → n ≡ length ss →
+    before ≡ sets table 4 (symbolsWords ss) → after ≡ sets before (tableWords n) (map itemWord (symbolItems s)) →
+    after ≡ sets table 4 (symbolsWords (ss ++ (s ∷ [])))
+unfolding tableWords
+entries-more table before after n ss s e f g =
+    let put = map itemWord (symbolItems s) in
+    let i : 4 + 4 * n ≡ 4 + length (symbolsWords ss) = omega (arith, length-symbolsWords ss) in
+    g ∙ rw (f, i, symbolsWords-snoc ss s) (sym (sets-append table 4 (symbolsWords ss) put))
+
+module _ (table after : List ℕ) (σ : Signature) (rules : ℕ) (room : tableWords (length (σ .symbols)) ≤ length table)
+    (e : after ≡ sets table 0 (frontWords σ rules)) where
+  fits : 0 + length (frontWords σ rules) ≤ length table
+  unfolding tableWords
+  fits = omega (arith, length-symbolsWords (σ .symbols))
+
+  pub front-weight : weightOf after ≡ σ .w0
+  front-weight = rw e (sets-at table 0 (frontWords σ rules) fits 2 2 refl (omega arith))
+
+  pub front-words : take (tableWords (length (σ .symbols))) after ≡ frontWords σ rules
+  unfolding tableWords
+  front-words =
+      let n : 4 + 4 * length (σ .symbols) ≡ length (frontWords σ rules) =
+      omega (arith, length-symbolsWords (σ .symbols)) in
+      rw (e, sets-eq (frontWords σ rules) table 0 fits, n) (take-append-seam (frontWords σ rules) _)

@@ -5,6 +5,7 @@ use Prim.Native.Nat.{ℕ, suc, zero, _+_, _-_, _*_, _/_}
 use lib.Dec.{eqb}
 use lib.ListN.{length, getD}
 use Rattle.terms.specs.Signature.{Symbol, Signature}
+use Rattle.format.specs.Layout.{formNumber}
 use Rattle.format.specs.Packing.{itemWord, symbolItems}
 
 -- The symbol of number f; words past the end are zeros.
@@ -29,18 +30,17 @@ weightOf table = getD table 2 0
 unfoldable pub signatureOf : List ℕ → Signature
 signatureOf table = record { w0 = weightOf table; symbols = symbolsAt table 0 ((length table - 1) / 4) }
 
--- How many words the entries of so many symbols take.
-unfoldable pub entryWords : ℕ → ℕ
-entryWords n = 4 * n
-
 -- How many words a table of so many symbols has, and how many one may have.
 unfoldable pub tableWords : ℕ → ℕ
-tableWords n = 4 + entryWords n
+tableWords n = 4 + 4 * n
 
 abbrev pub maxTableWords : ℕ
 maxTableWords = 1024
 
--- The words of the symbols in a sheet.
+-- The words of the symbols in a sheet, and all words before the rules.
 abbrev pub symbolsWords : List Symbol → List ℕ
 symbolsWords [] = []
 symbolsWords (s ∷ ss) = map itemWord (symbolItems s) ++ symbolsWords ss
+
+abbrev pub frontWords : Signature → ℕ → List ℕ
+frontWords σ rules = formNumber ∷ length (σ .symbols) ∷ σ .w0 ∷ rules ∷ symbolsWords (σ .symbols)

@@ -1,37 +1,21 @@
-// The words of a symbol table: storing them, how many there are, and writing them into a sheet.
+// The words of a symbol table: how many there are, and storing them.
 ghost use mathlib.Core.Path.{_≡_};
-ghost use mathlib.Core.List.{[], _∷_, _++_, map};
-ghost use mathlib.Core.Bool.{cond};
-ghost use Prim.Native.Nat.{ℕ, _+_, _≤_, _<_};
-ghost use lib.Dec.{eqb};
-ghost use lib.ListN.{length, set};
+ghost use mathlib.Core.List.{[], _∷_};
+ghost use Prim.Native.Nat.{_+_, _≤_, _<_};
+ghost use lib.ListN.{length};
 ghost use lib.Seq.{sets};
-ghost use Rattle.terms.specs.Signature.{symbolOf};
-ghost use Rattle.format.specs.Packing.{itemWord, symbolItems};
-ghost use Rattle.symbols.specs.Table.{weightOf, symbolsAt, signatureOf, entryWords, tableWords, maxTableWords};
-ghost use Rattle.symbols.specs.Table.{symbolsWords};
-use crate::arity;
-use crate::precedence;
-use crate::weight;
-use crate::wide;
+ghost use Rattle.format.specs.Layout.{formNumber};
+ghost use Rattle.symbols.specs.Table.{signatureOf, tableWords, maxTableWords};
 
 // How many words a symbol table may have.
 pub const TABLE_WORDS: usize = 4 + 4 * format::MAX_SYMBOLS;
-
-// How many words the entries of so many symbols take.
-pub fn entry_words(symbols: usize) -> usize
-    requires { ⌜ symbols < 256 ⌝ }
-    ensures { λ r. ⌜ (r ≡ entryWords symbols) × (r + 4 ≤ maxTableWords) ⌝ }
-{
-    4 * symbols
-}
 
 // How many words of a table so many symbols take.
 pub fn front(symbols: usize) -> usize
     requires { ⌜ symbols < 256 ⌝ }
     ensures { λ r. ⌜ (r ≡ tableWords symbols) × (r ≤ maxTableWords) ⌝ }
 {
-    4 + entry_words(symbols)
+    4 + 4 * symbols
 }
 
 // How many symbols a table has.
@@ -45,73 +29,33 @@ pub fn count(table: &[u16]) -> usize
     (table.len() - 1) / 4
 }
 
-// Stores the weight of a variable.
-pub fn put_variable_weight(table: &mut [u16], w0: u16)
-    requires { ⌜ 2 < length (now table) ⌝ }
-    ensures { λ _. ⌜ weightOf (now (table .exit)) ≡ w0 ⌝ }
-    ensures { λ _. ⌜ ((n : ℕ) → symbolsAt (now (table .exit)) 0 n ≡ symbolsAt (now (table .entry)) 0 n) ⌝ }
+// Stores four words from an index on.
+fn put_four(table: &mut [u16], index: usize, a: u16, b: u16, c: u16, d: u16)
+    requires { ⌜ index + 4 ≤ length (now table) ⌝ }
+    ensures { λ _. ⌜ now (table .exit) ≡ sets (now (table .entry)) index (a ∷ b ∷ c ∷ d ∷ []) ⌝ }
 {
-    table[2] = w0;
+    table[index] = a;
+    table[index + 1] = b;
+    table[index + 2] = c;
+    table[index + 3] = d;
+}
+
+// Stores the header's words: the form, the count of symbols, the weight of a variable, the count of rules.
+pub fn put_header(table: &mut [u16], symbols: u16, w0: u16, rules: u16)
+    requires { ⌜ 4 ≤ length (now table) ⌝ }
+    ensures { λ _. ⌜
+        now (table .exit) ≡ sets (now (table .entry)) 0 (formNumber ∷ symbols ∷ w0 ∷ rules ∷ [])
+        ⌝ }
+{
+    put_four(table, 0, format::FORM, symbols, w0, rules);
 }
 
 // Stores the entry of the symbol of that number, after those before it.
 pub fn put_symbol(table: &mut [u16], number: usize, arity: u16, ac: u16, weight: u16, rank: u16)
     requires { ⌜ (number < 256) × (tableWords (number + 1) ≤ length (now table)) ⌝ }
     ensures { λ _. ⌜
-        symbolsAt (now (table .exit)) 0 (number + 1)
-        ≡ symbolsAt (now (table .entry)) 0 number
-        ++ (record { arity = arity; ac = eqb ac 1; weight = weight; precedence = rank } ∷ [])
+        now (table .exit) ≡ sets (now (table .entry)) (tableWords number) (arity ∷ ac ∷ weight ∷ rank ∷ [])
         ⌝ }
 {
-    let index = front(number);
-    table[index] = arity;
-    table[index + 1] = ac;
-    table[index + 2] = weight;
-    table[index + 3] = rank;
-}
-
-// Stores a word, where there is room for it.
-pub fn put_word(words: &mut [u16], index: usize, word: u16)
-    ensures { λ r. ⌜ now (words .exit) ≡ set (now (words .entry)) index word ⌝ }
-{
-    if index < words.len() {
-        words[index] = word;
-    }
-}
-
-fn ac_word(table: &[u16], symbol: u16) -> u16
-    ensures { λ r. ⌜ r ≡ cond (symbolOf (signatureOf (now (table .entry))) symbol .ac) 1 0 ⌝ }
-{
-    if crate::is_ac(table, symbol) { 1 } else { 0 }
-}
-
-// Writes the words of a symbol into a sheet from an index on.
-fn write_symbol(table: &[u16], symbol: u16, words: &mut [u16], index: usize)
-    requires { ⌜ index < 65536 ⌝ }
-    ensures { λ r. ⌜
-        now (words .exit)
-        ≡ sets (now (words .entry)) index
-        (map itemWord (symbolItems (symbolOf (signatureOf (now (table .entry))) symbol)))
-        ⌝ }
-{
-    put_word(words, index, arity(table, symbol) as u16);
-    put_word(words, index + 1, ac_word(table, symbol));
-    put_word(words, index + 2, weight(table, symbol) as u16);
-    put_word(words, index + 3, precedence(table, symbol));
-}
-
-// Writes the words of all symbols into a sheet from an index on.
-pub fn write_symbols(table: &[u16], words: &mut [u16], index: usize)
-    requires { ⌜ (length (now table) ≤ maxTableWords) × (index < 256) ⌝ }
-    ensures { λ r. ⌜
-        now (words .exit)
-        ≡ sets (now (words .entry)) index (symbolsWords (signatureOf (now (table .entry)) .symbols))
-        ⌝ }
-{
-    let count = count(table) as u16;
-    let mut symbol = 0;
-    while symbol < count {
-        write_symbol(table, symbol, words, index + entry_words(wide(symbol)));
-        symbol += 1;
-    }
+    put_four(table, front(number), arity, ac, weight, rank);
 }

@@ -14,12 +14,9 @@ mod entries;
 
 pub use crate::entries::TABLE_WORDS;
 pub use crate::entries::count;
-pub use crate::entries::entry_words;
 pub use crate::entries::front;
+pub use crate::entries::put_header;
 pub use crate::entries::put_symbol;
-pub use crate::entries::put_variable_weight;
-pub use crate::entries::put_word;
-pub use crate::entries::write_symbols;
 
 // The word as an index.
 pub fn wide(word: u16) -> usize

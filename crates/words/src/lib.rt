@@ -24,17 +24,13 @@ pub fn word_below(words: &[u16], at: usize, bound: usize) -> Answer
     ensures { λ r. ⌜ Fits bound r ⌝ }
 {
     if words.len() <= at {
-        return Answer::Fault {
-            code: format::FIELD_MISSING,
-            offset: at,
-        };
+        let code = format::FIELD_MISSING;
+        return Answer::Fault { code, offset: at };
     }
     let word = symbols::wide(words[at]);
     if bound <= word {
-        return Answer::Fault {
-            code: format::WORD_TOO_WIDE,
-            offset: at,
-        };
+        let code = format::WORD_TOO_WIDE;
+        return Answer::Fault { code, offset: at };
     }
     Answer::Got {
         value: word,
@@ -152,18 +148,15 @@ pub fn front_term(arities: &[u32; NODE_WORDS], words: &[u16], whole: bool) -> An
         ((σ : Signature) → Arities σ (now (arities .entry)) → r ≡ endOf (readerOf whole σ (now (words .entry))))
         ⌝ }
 {
-    match term(arities, words, format::VARIABLES, 0) {
-        Answer::Fault { code, offset } => Answer::Fault { code, offset },
-        Answer::Got { value, next } => {
-            if whole {
-                if next != words.len() {
-                    return Answer::Fault {
-                        code: format::WORDS_LEFT_OVER,
-                        offset: next,
-                    };
-                }
-            }
-            Answer::Got { value: 0, next }
+    let read = term(arities, words, format::VARIABLES, 0);
+    let Answer::Got { value: _, next } = read else {
+        return read;
+    };
+    if whole {
+        if next != words.len() {
+            let code = format::WORDS_LEFT_OVER;
+            return Answer::Fault { code, offset: next };
         }
     }
+    Answer::Got { value: 0, next }
 }

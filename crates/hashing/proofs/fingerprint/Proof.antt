@@ -11,19 +11,19 @@ use Rattle.hashing.proofs.fingerprint.Tie as tie
 array-share-prefix-table : tie.Need-array-share-prefix-table
 array-share-prefix-table c =
     let c4 = c .before .before .before .before in
-    let b = rw (c .before .value .given .1) at (c4 .read-book .ensures) in
+    let b = rw (c .before .next .given .1) at (c4 .read-book .ensures) in
     omega (arith, b .few, b .room, c4 .read-book .kept .1 .0)
 
 slice-aggregate-fingerprint-under : tie.Need-slice-aggregate-fingerprint-under
 slice-aggregate-fingerprint-under c =
     let c5 = c .before .before .before .before .before in
-    let b = rw (c .before .before .value .given .1) at (c5 .read-book .ensures) in
+    let b = rw (c .before .before .next .given .1) at (c5 .read-book .ensures) in
     sym (length-take-le _ (c5 .read-book .last .1 .0) (b .room))
 
 fingerprint-under-requires : tie.Need-fingerprint-under-requires
 fingerprint-under-requires c κs =
     let c5 = c .before .before .before .before .before in
-    let b = rw (c .before .before .value .given .1) at (c5 .read-book .ensures) in
+    let b = rw (c .before .before .next .given .1) at (c5 .read-book .ensures) in
     omega (arith, b .few, length-take-le _ (c5 .read-book .last .1 .0) (b .room))
 
 returns : tie.Need-returns
@@ -40,7 +40,7 @@ returns-2 c =
     let c6 = c3 .before .before .before in
     let c10 = c6 .before .before .before .before in
     let a = c10 .args in
-    let b = rw (c3 .value .given .1) at (c6 .read-book .ensures) in
+    let b = rw (c3 .next .given .1) at (c6 .read-book .ensures) in
     book-hashed (a .book .now) (a .term .now) (c6 .read-book .last .1 .0) _ b _ (c .fingerprint-under .ensures)
 
 pub fingerprint-spec : {M : Type 1} → statement M

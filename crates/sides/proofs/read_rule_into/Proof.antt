@@ -6,23 +6,24 @@ use borrow.Author.Needs.{needs}
 use Rattle.sides.proofs.read_rule_into.Statement.{statement}
 use Rattle.sides.proofs.read_rule_into.Tie as tie
 
+returns : tie.Need-returns
+returns c =
+    let c4 = c .before .before .before .before in
+    let c9 = c4 .before .before .before .before .before in
+    let a = c9 .args in
+    rw (c .enum-told .given .1) (
+      λ σ k. left-fault (bitSource (a .book .now)) (a .unused) σ (a .at) (a .index) (a .words .now) _ _
+          (a .words .now) (rw (c .enum-told .given .1) at (c4 .read-side-into .ensures .0 σ k)),
+      tt,
+    )
+
 read-side-into-requires-2 : tie.Need-read-side-into-requires-2
 read-side-into-requires-2 c κs =
     let c3 = c .before .before .before in
     let c7 = c3 .before .before .before .before in
     let c12 = c7 .before .before .before .before .before in
-    let within = rw (c3 .value .given .1) at (c7 .read-side-into .ensures .1 .0) in
-    ((c12 .pre .0 .0, within .1, omega (arith, within .0)), c7 .read-side-into .ensures .1 .1)
-
-returns : tie.Need-returns
-returns c =
-    let c5 = c .before .before .before .before .before in
-    let c10 = c5 .before .before .before .before .before in
-    let a = c10 .args in (
-      λ σ k. left-fault (bitSource (a .book .now)) (a .unused) σ (a .at) (a .index) (a .words .now) _ _
-          (a .words .now) (rw (c .before .offset .given .1) at (c5 .read-side-into .ensures .0 σ k)),
-      tt,
-    )
+    let within = rw (c3 .read .given .1) at (c7 .read-side-into .ensures .1 .0) in
+    ((c12 .pre .0 .0, within .1, omega (arith, within .0)), omega (arith, c7 .read-side-into .ensures .1 .1))
 
 returns-2 : tie.Need-returns-2
 returns-2 c =
@@ -32,9 +33,9 @@ returns-2 c =
     let a = c15 .args in
     let first = c10 .read-side-into in
     let second = c .before .before .read-side-into2 in
-    let within = rw (c6 .value .given .1) at (first .ensures .1 .0) in (
+    let within = rw (c6 .read .given .1) at (first .ensures .1 .0) in (
       λ σ k. right-stored (bitSource (a .book .now)) (a .unused) σ (a .at) (a .index) (a .words .now) _ _
-          (first .last .1 .1 .0) (first .last .1 .1 .1 .0) (rw (c6 .value .given .1) at (first .ensures .0 σ k))
+          (first .last .1 .1 .0) (first .last .1 .1 .1 .0) (rw (c6 .read .given .1) at (first .ensures .0 σ k))
           (first .kept .1 .1 .0) (second .result) (second .last .1 .1 .0) (second .last .1 .1 .1 .0)
           (second .ensures .0 σ k),
       within-wider _ _ _ (omega (arith, within .0)) (second .result) (second .ensures .1 .0),
@@ -42,13 +43,5 @@ returns-2 c =
 
 pub read-rule-into-spec : {M : Type 1} → statement M
 read-rule-into-spec =
-    tie.close
-    (tie.spec
-    (λ c κs. search needs)
-    (λ c. search needs)
-    (λ c. search needs)
-    read-side-into-requires-2
-    (λ c. search needs)
-    returns
-    (λ c. search needs)
-    returns-2)
+    tie.close (tie.spec (λ c κs. search needs) (λ c. search needs) (λ c. search needs) (λ c. search needs) returns
+    read-side-into-requires-2 (λ c. search needs) returns-2)

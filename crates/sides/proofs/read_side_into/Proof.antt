@@ -8,39 +8,41 @@ use borrow.Author.Needs.{needs}
 use Rattle.sides.proofs.read_side_into.Statement.{statement}
 use Rattle.sides.proofs.read_side_into.Tie as tie
 
+returns : tie.Need-returns
+returns c =
+    rw (c .enum-told .given .1) (
+      λ σ k. rw (c .enum-told .given .1) at (c .before .before .read-side .ensures .0 σ k),
+      (tt, c .before .before .read-side .ensures .1 .1 .1),
+    )
+
 array-share-prefix-side : tie.Need-array-share-prefix-side
 array-share-prefix-side c =
     let c4 = c .before .before .before .before in
-    let within = rw (c .before .before .value .given .1) at (c4 .read-side .ensures .1 .0) in
+    let within = rw (c .before .before .read .given .1) at (c4 .read-side .ensures .1 .0) in
     omega (arith, within, c4 .read-side .ensures .1 .1)
 
 slice-aggregate-put-words : tie.Need-slice-aggregate-put-words
 slice-aggregate-put-words c =
     let c3 = c .before .before .before in
     let c5 = c3 .before .before in
-    let within = rw (c3 .value .given .1) at (c5 .read-side .ensures .1 .0) in
-    sym (length-take-le (c3 .value .given .0 .0) (c5 .read-side .last .1 .1 .0)
+    let within = rw (c3 .read .given .1) at (c5 .read-side .ensures .1 .0) in
+    sym (length-take-le (c3 .read .given .0 .0) (c5 .read-side .last .1 .1 .0)
     (omega (arith, within, c5 .read-side .ensures .1 .1)))
 
 put-words-requires : tie.Need-put-words-requires
 put-words-requires c κs =
     let c3 = c .before .before .before in
     let c5 = c3 .before .before in
-    let within = rw (c3 .value .given .1) at (c5 .read-side .ensures .1 .0) in
-    let some = length-take-le (c3 .value .given .0 .0) (c5 .read-side .last .1 .1 .0)
+    let within = rw (c3 .read .given .1) at (c5 .read-side .ensures .1 .0) in
+    let some = length-take-le (c3 .read .given .0 .0) (c5 .read-side .last .1 .1 .0)
     (omega (arith, within, c5 .read-side .ensures .1 .1)) in
     omega (arith, within, some)
 
-add-t21 : tie.Need-add-t21
-add-t21 c =
+add-end : tie.Need-add-end
+add-end c =
     let c6 = c .before .before .before .before .before .before in
     let c8 = c6 .before .before in
-    omega (arith, rw (c6 .value .given .1) at (c8 .read-side .ensures .1 .0))
-
-returns : tie.Need-returns
-returns c =
-    let c3 = c .before .before .before in
-    (λ σ k. rw (c .before .offset .given .1) at (c3 .read-side .ensures .0 σ k), (tt, c3 .read-side .ensures .1 .1 .1))
+    omega (arith, rw (c6 .read .given .1) at (c8 .read-side .ensures .1 .0))
 
 returns-2 : tie.Need-returns-2
 returns-2 c =
@@ -48,27 +50,17 @@ returns-2 c =
     let c8 = c6 .before .before in
     let c13 = c8 .before .before .before .before .before in
     let a = c13 .args in
-    let n = c6 .value .given .0 .0 in
+    let n = c6 .read .given .0 .0 in
     let words = c8 .read-side .last .1 .1 .0 in
-    let within = rw (c6 .value .given .1) at (c8 .read-side .ensures .1 .0) in
+    let within = rw (c6 .read .given .1) at (c8 .read-side .ensures .1 .0) in
     let long = length-take-le n words (omega (arith, within, c8 .read-side .ensures .1 .1)) in (
       λ σ k. side-stored (a .unused .now) _ (a .index) (a .words .now) (take n words) _ _ _ _
-          (rw (c6 .value .given .1) at (c8 .read-side .ensures .0 σ k)) (omega (arith, long))
+          (rw (c6 .read .given .1) at (c8 .read-side .ensures .0 σ k)) (omega (arith, long))
           (c .before .before .put-words .ensures .0),
       ((omega (arith, within), within .1), c8 .read-side .ensures .1 .1 .1),
     )
 
 pub read-side-into-spec : {M : Type 1} → statement M
 read-side-into-spec =
-    tie.close
-    (tie.spec
-    (λ c κs. search needs)
-    (λ c. search needs)
-    (λ c. search needs)
-    array-share-prefix-side
-    slice-aggregate-put-words
-    put-words-requires
-    add-t21
-    returns
-    (λ c. search needs)
-    returns-2)
+    tie.close (tie.spec (λ c κs. search needs) (λ c. search needs) (λ c. search needs) returns
+    array-share-prefix-side slice-aggregate-put-words put-words-requires add-end (λ c. search needs) returns-2)

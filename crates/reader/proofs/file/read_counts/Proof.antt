@@ -6,7 +6,7 @@ use borrow.Author.Tests.{leb-true}
 use Rattle.symbols.proofs.EntryLaws.{table-le}
 use Rattle.reader.specs.Source.{sourceOf}
 use Rattle.reader.specs.File.{countsReader}
-use Rattle.reader.proofs.SourceLaws.{tested-field, reached-field, w0-stands, room-le, room-same}
+use Rattle.reader.proofs.SourceLaws.{tested-field, reached-field, w0-stands, room-le}
 use Rattle.reader.proofs.FileLaws.{head-answer}
 use borrow.Author.Needs.{needs}
 use Rattle.reader.proofs.file.read_counts.Statement.{statement}
@@ -66,7 +66,7 @@ read-symbols-requires c κs =
       (c16 .pre .0 .0, few, room-le (a .packed) _ _ (a .table .now) (table-le _ few) (c16 .pre .1)),
       (
         reach 3 10 _ _ _ (reach 2 16 _ _ _ second (w0 .0)) rules,
-        w0-stands (a .packed) (a .book .now) (a .sheet .now) 16 _ _ _ second (w0 .0),
+        rw (c .before .before .read3 .given .1) at (c4 .field .ensures .1),
       ),
     )
 
@@ -91,11 +91,12 @@ returns-4 c form =
     let second = reach 1 8 _ _ _ (c19 .pre .0 .1) (count .0) in
     let few = rw (c13 .read .given .1) at (c15 .field-at-least .ensures .1) in
     let some = rw (c5 .read3 .given .1) at (c7 .field .ensures .1) in
-    rw (count-read, w0-read, rules) (head-answer form (a .packed) (a .book .now) (a .sheet .now) _ _ _ _
+    rw (count-read, w0-read, rules) (head-answer form (a .packed) (a .book .now) (a .sheet .now) _ _ _ _ (a .table .now)
     (c .before .before .read-symbols .last .1 .1 .1 .0) (c .before .before .read-symbols .result)
     (c .before .before .read-symbols .ensures)
-    (room-same (a .packed) _ (a .table .now) _ (c .before .before .read-symbols .kept .1 .1 .1 .0)
-    (room-le (a .packed) _ _ (a .table .now) (table-le _ few) (c19 .pre .1)))
+    (w0-stands (a .packed) (a .book .now) (a .sheet .now) 16 _ _ _ second (w0 .0))
+    (c .before .before .read-symbols .kept .1 .1 .1 .0)
+    (room-le (a .packed) _ _ (a .table .now) (table-le _ few) (c19 .pre .1))
     (reach 3 10 _ _ _ (reach 2 16 _ _ _ second (w0 .0)) rules) (c19 .pre .0 .0) few some (leb-true 1 _ (w0 .1)))
 
 pub read-counts-spec : {M : Type 1} → statement M

@@ -6,11 +6,12 @@ use lib.Dec.{eqb}
 use lib.ListN.{length-set}
 use Rattle.terms.specs.Signature.{Symbol}
 use Rattle.symbols.specs.Table.{symbolsAt}
+use Rattle.symbols.proofs.EntryLaws.{entry-words}
 use Rattle.format.specs.Errors.{weightInadmissible, rankTaken}
 use Rattle.format.specs.Layout.{weightWidth, rankWidth}
 use Rattle.reader.specs.Source.{sourceOf, tableOf}
 use Rattle.reader.proofs.SourceLaws.{tested-field, entry-stands, reached-entry}
-use Rattle.reader.proofs.SymbolLaws.{symbol-parts, taken-put}
+use Rattle.reader.proofs.SymbolLaws.{symbol-parts, taken-put, stored-same}
 use borrow.Author.Needs.{needs}
 use Rattle.reader.proofs.symbol.read_symbol.Statement.{statement}
 use Rattle.reader.proofs.symbol.read_symbol.Tie as tie
@@ -189,7 +190,8 @@ returns-6 c =
     let source = sourceOf (a .packed) (a .book .now) (a .sheet .now) in
     let weighed = tested-field source weightWidth _ weightInadmissible _ _ _ weight .0 in
     let ranked = tested-field source rankWidth _ rankTaken _ _ _ rank .0 in
-    let stored = c .before .before .put-entry .ensures (a .sheet .now) s refl (entry-stands (a .packed) (a .book .now)
+    let stored = c .before .before .put-entry .ensures .0 (a .sheet .now) s refl
+    (entry-stands (a .packed) (a .book .now)
     (a .sheet .now) (a .number) (a .at) _ _ _ _ _ _ _ _ (c28 .pre .1 .0) arity ac weighed ranked) in (
       (
         s,
@@ -198,6 +200,8 @@ returns-6 c =
         rw stored (taken-put earlier s (a .taken .now) (c28 .pre .1 .1 .1) small (c28 .pre .1 .1 .0)),
         reached-entry (a .packed) (a .book .now) (a .sheet .now) (a .number) (a .at) _ _ _ _ _ _ _ _ (c28 .pre .1 .0)
             arity ac weighed ranked,
+        stored-same (a .packed) _ _ _ _ _ (entry-words _ _ _ _ (rw (c18 .read2 .given .1) at (c20 .field2 .ensures .1)))
+            (c .before .before .put-entry .ensures .1),
       ),
       simp length-set (c28 .pre .1 .1 .1),
     )

@@ -8,13 +8,14 @@ use Prim.Native.Nat.{_+_, _-_, _≤_}
 use native.Mathlib.Nat.{sub-zero}
 use lib.ListN.{length}
 use Rattle.format.specs.Format.{symbolsReader}
-use Rattle.symbols.specs.Table.{symbolsAt, tableWords}
+use Rattle.symbols.specs.Table.{symbolsAt, tableWords, symbolsWords}
 use Rattle.symbols.proofs.TableLaws.{length-symbols}
 use Rattle.symbols.proofs.EntryLaws.{table-more, table-start}
-use Rattle.reader.specs.Source.{sourceOf, Reached, tableOf}
+use Rattle.reader.specs.Source.{sourceOf, Reached, tableOf, Stored}
 use Rattle.reader.specs.Symbol.{TakenBy}
 use Rattle.reader.proofs.SourceLaws.{room-le, room-same}
-use Rattle.reader.proofs.SymbolLaws.{taken-none, symbols-fault, symbols-past, symbols-done}
+use Rattle.reader.proofs.SymbolLaws.{taken-none, symbols-fault, symbols-past, symbols-done, stored-more}
+use Rattle.reader.proofs.SymbolLaws.{stored-none}
 use Rattle.reader.proofs.symbol.read_symbols_from.Statement.{statement}
 use Rattle.reader.proofs.symbol.read_symbols_from.Tie as tie
 
@@ -24,15 +25,23 @@ Inv-loop book sheet packed table₀ w0 count at taken₀ here₀ number₀ table
     TakenBy (symbolsAt (tableOf packed sheet table) 0 number) taken ×
     (symbolsReader (sourceOf packed book sheet) w0 count [] at ≡
     symbolsReader (sourceOf packed book sheet) w0 (count - number) (symbolsAt (tableOf packed sheet table) 0 number)
-    here) × Reached packed book sheet (tableWords number) here
+    here) × Reached packed book sheet (tableWords number) here ×
+    Stored packed 4 (symbolsWords (symbolsAt (tableOf packed sheet table) 0 number)) table₀ table
 
 abbrev μ-loop : tie.MeasureT-loop
 μ-loop book sheet packed table₀ w0 count at taken₀ here₀ number₀ table taken here number = count - number
 
 loop-holds : tie.Need-loop-holds Inv-loop μ-loop
 loop-holds c =
-    let c3 = c .before .before .before in
-    (omega arith, refl, refl, taken-none, rw sub-zero, rw table-start (c3 .pre .1))
+    let c3 = c .before .before .before in (
+      omega arith,
+      refl,
+      refl,
+      taken-none,
+      rw sub-zero,
+      rw table-start (c3 .pre .1),
+      stored-none (c3 .args .packed) (c3 .args .table .now),
+    )
 
 read-symbol-requires : tie.Need-read-symbol-requires Inv-loop μ-loop
 read-symbol-requires c κs =
@@ -74,7 +83,7 @@ loop-again c =
     let c13 = c9 .before .before .before .before in
     let a = c13 .args in
     let v = c9 .loop .inv in
-    let (s, read, stored, taken, reached) = rw (c .before .value .given .1) at (c5 .read-symbol .ensures .0) in (
+    let (s, read, stored, taken, reached, put) = rw (c .before .value .given .1) at (c5 .read-symbol .ensures .0) in (
       omega arith,
       c5 .read-symbol .kept .1 .1 .1 .0 ∙ v .1,
       c5 .read-symbol .ensures .1,
@@ -85,6 +94,10 @@ loop-again c =
           ap (λ (ss : List Symbol). symbolsReader (sourceOf (a .packed) (a .book .now) (a .sheet .now)) (a .w0)
           (a .count - (c9 .loop .number + 1)) ss (c .before .value .given .0 .1 .0)) (sym stored),
       reached,
+      rw stored (stored-more (a .packed) (a .table .now) (c9 .loop .table) _ (c9 .loop .number)
+          (symbolsAt (tableOf (a .packed) (a .sheet .now) (c9 .loop .table)) 0 (c9 .loop .number)) s
+          (sym (length-symbols (tableOf (a .packed) (a .sheet .now) (c9 .loop .table)) 0 (c9 .loop .number))) (v .6)
+          put),
     )
 
 same-length-2 : tie.Need-same-length-2 Inv-loop μ-loop
@@ -102,6 +115,7 @@ returns-2 c =
           (symbolsAt (tableOf (a .packed) (a .sheet .now) (c .before .loop .table)) 0 number)
           (c .before .loop .here) z ∙ rw e,
       sym (length-symbols _ 0 (a .count)),
+      rw e at (v .6),
     )
 
 pub read-symbols-from-spec : {M : Type 1} → statement M

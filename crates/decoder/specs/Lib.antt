@@ -1,0 +1,2 @@
+-- What unpacking a file gives back.
+pub mod Sheet

@@ -1,0 +1,120 @@
+-- The head is read, the rules under the front of its table, and what may follow them.
+use mathlib.Core.Path.{_≡_, sym, ap, _∙_}
+use mathlib.Core.List.{[]}
+use native.Mathlib.Omega.{arith}
+use lib.ListN.{length, take}
+use lib.Seq.{length-take-le}
+use Rattle.symbols.specs.Table.{signatureOf, tableWords}
+use Rattle.reader.specs.Source.{Reached}
+use Rattle.reader.proofs.SourceLaws.{read-packed}
+use Rattle.reader.proofs.FileLaws.{packed-unread, packed-unended, packed-read}
+use borrow.Author.Needs.{needs}
+use Rattle.reader.proofs.file.read_packed.Statement.{statement}
+use Rattle.reader.proofs.file.read_packed.Tie as tie
+
+returns : tie.Need-returns
+unfolding Reached
+returns c =
+    let c4 = c .before .before .before .before in
+    let c11 = c4 .before .before .before .before .before .before .before in
+    let a = c11 .args in
+    rw (c .enum-told .given .1) (sym (read-packed (a .form) (a .book .now) [])
+    ∙ rw (c .enum-told .given .1) at (c4 .read-head .ensures))
+
+front-requires : tie.Need-front-requires
+unfolding Reached
+front-requires c κs =
+    let c5 = c .before .before .before .before .before in
+    (rw (c .before .read .given .1) at (c5 .read-head .ensures)) .1 .fewSymbols
+
+slice-aggregate-arities : tie.Need-slice-aggregate-arities
+unfolding Reached
+slice-aggregate-arities c =
+    let c7 = c .before .before .before .before .before .before .before in
+    let c14 = c7 .before .before .before .before .before .before .before in
+    sym (length-take-le (c .before .front .result) (c7 .read-head .last .1 .1 .1 .1 .0)
+    (omega (arith, c .before .front .ensures .1, c7 .read-head .kept .1 .1 .1 .1 .0, c14 .pre)))
+
+arities-requires : tie.Need-arities-requires
+unfolding Reached
+arities-requires c κs =
+    let c7 = c .before .before .before .before .before .before .before in
+    let c14 = c7 .before .before .before .before .before .before .before in
+    let long = length-take-le (c .before .front .result) (c7 .read-head .last .1 .1 .1 .1 .0)
+    (omega (arith, c .before .front .ensures .1, c7 .read-head .kept .1 .1 .1 .1 .0, c14 .pre)) in
+    omega (arith, long, c .before .front .ensures .1)
+
+read-packed-rules-requires : tie.Need-read-packed-rules-requires
+unfolding Reached
+read-packed-rules-requires c κs =
+    let c6 = c .before .before .before .before .before .before in
+    let c10 = c6 .before .before .before .before in
+    let head = rw (c6 .read .given .1) at (c10 .read-head .ensures) in
+    (head .1 .short, head .1 .within, head .1 .fewRules)
+
+returns-2 : tie.Need-returns-2
+unfolding Reached
+returns-2 c =
+    let c4 = c .before .before .before .before in
+    let c7 = c4 .before .before .before in
+    let c9 = c7 .before .before in
+    let c11 = c9 .before .before in
+    let c15 = c11 .before .before .before .before in
+    let c22 = c15 .before .before .before .before .before .before .before in
+    let a = c22 .args in
+    let head = rw (c11 .read .given .1) at (c15 .read-head .ensures) in
+    let σ = signatureOf (take (tableWords (c11 .read .given .0 .0)) (c15 .read-head .last .1 .1 .1 .1 .0)) in
+    let rules = c4 .read-packed-rules .ensures σ (rw (c9 .front .ensures .0) at (c7 .arities .ensures)) in
+    rw (c .enum-told2 .given .1) (packed-unread (a .form) (a .book .now) (c15 .read-head .last .1 .1 .1 .1 .0)
+    (a .words .now) (a .words .now) _ _ _ head _ _ (rw (c .enum-told2 .given .1) at rules))
+
+is-padding-requires : tie.Need-is-padding-requires
+unfolding Reached
+is-padding-requires c κs =
+    let c12 = c .before .before .before .before .before .before .before .before .before .before .before .before in
+    let c16 = c12 .before .before .before .before in
+    (rw (c12 .read .given .1) at (c16 .read-head .ensures)) .1 .short
+
+returns-3 : tie.Need-returns-3
+unfolding Reached
+returns-3 c =
+    let c3 = c .before .before .before in
+    let c7 = c3 .before .before .before .before in
+    let c10 = c7 .before .before .before in
+    let c12 = c10 .before .before in
+    let c14 = c12 .before .before in
+    let c18 = c14 .before .before .before .before in
+    let c25 = c18 .before .before .before .before .before .before .before in
+    let a = c25 .args in
+    let head = rw (c14 .read .given .1) at (c18 .read-head .ensures) in
+    let σ = signatureOf (take (tableWords (c14 .read .given .0 .0)) (c18 .read-head .last .1 .1 .1 .1 .0)) in
+    let rules = c7 .read-packed-rules .ensures σ (rw (c12 .front .ensures .0) at (c10 .arities .ensures)) in
+    packed-read (a .form) (a .book .now) (c18 .read-head .last .1 .1 .1 .1 .0) (a .words .now)
+    (c7 .read-packed-rules .last .1 .1 .0) _ _ _ head _ _ (rw (c3 .read2 .given .1) at rules) (c12 .front .result)
+    (c12 .front .ensures .0) (c12 .front .ensures .1) (sym (c .before .is-padding .ensures) ∙ c .if1 .taken)
+
+returns-4 : tie.Need-returns-4
+unfolding Reached
+returns-4 c =
+    let c3 = c .before .before .before in
+    let c7 = c3 .before .before .before .before in
+    let c10 = c7 .before .before .before in
+    let c12 = c10 .before .before in
+    let c14 = c12 .before .before in
+    let c18 = c14 .before .before .before .before in
+    let c25 = c18 .before .before .before .before .before .before .before in
+    let a = c25 .args in
+    let head = rw (c14 .read .given .1) at (c18 .read-head .ensures) in
+    let σ = signatureOf (take (tableWords (c14 .read .given .0 .0)) (c18 .read-head .last .1 .1 .1 .1 .0)) in
+    let rules = c7 .read-packed-rules .ensures σ (rw (c12 .front .ensures .0) at (c10 .arities .ensures)) in
+    packed-unended (a .form) (a .book .now) (c18 .read-head .last .1 .1 .1 .1 .0) (a .words .now)
+    (c7 .read-packed-rules .last .1 .1 .0) _ _ _ head _ _ (rw (c3 .read2 .given .1) at rules)
+    (sym (c .before .is-padding .ensures) ∙ c .if1 .left)
+
+pub read-packed-spec : {M : Type 1} → statement M
+read-packed-spec =
+    tie.close (tie.spec (λ c. search needs) (λ c κs. search needs) (λ c. search needs) (λ c. search needs)
+    (λ c. search needs) returns front-requires (λ c. search needs) slice-aggregate-arities arities-requires
+    read-packed-rules-requires (λ c. search needs) (λ c. search needs) (λ c. search needs) (λ c. search needs)
+    returns-2 is-padding-requires (λ c. search needs) (λ c. search needs) returns-3 (λ c. search needs)
+    (λ c. search needs) returns-4)

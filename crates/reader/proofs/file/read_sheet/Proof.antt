@@ -1,0 +1,117 @@
+-- The head is read, the rules under the front of the sheet, which is its table, and all words are to be read then.
+use mathlib.Core.Path.{_≡_, sym, ap, _∙_}
+use mathlib.Core.List.{[]}
+use native.Mathlib.Omega.{arith}
+use borrow.Author.Tests.{eq-eqb, ne-eqb}
+use lib.ListN.{length, take}
+use lib.Seq.{length-take-le}
+use Rattle.symbols.specs.Table.{signatureOf, tableWords}
+use Rattle.symbols.proofs.EntryLaws.{table-le}
+use Rattle.format.specs.Layout.{formNumber}
+use Rattle.format.specs.Reading.{wordSource}
+use Rattle.format.specs.Format.{unusedOf, rulesReader}
+use Rattle.reader.specs.Source.{Reached}
+use Rattle.reader.proofs.SourceLaws.{read-words}
+use Rattle.reader.proofs.RuleLaws.{end-fault, end-got}
+use Rattle.reader.proofs.FileLaws.{sheet-unread, sheet-unended, sheet-read}
+use borrow.Author.Needs.{needs}
+use Rattle.reader.proofs.file.read_sheet.Statement.{statement}
+use Rattle.reader.proofs.file.read_sheet.Tie as tie
+
+returns : tie.Need-returns
+unfolding Reached
+returns c =
+    let c3 = c .before .before .before in
+    let c8 = c3 .before .before .before .before .before in
+    rw (c .enum-told .given .1) (sym (read-words (c8 .args .sheet .now))
+    ∙ rw (c .enum-told .given .1) at (c3 .read-head .ensures))
+
+slice-aggregate-arities : tie.Need-slice-aggregate-arities
+unfolding Reached
+slice-aggregate-arities c =
+    let c3 = c .before .before .before in
+    let c6 = c3 .before .before .before in
+    let c11 = c6 .before .before .before .before .before in
+    let head = rw (c3 .head .given .1) at (c6 .read-head .ensures) in
+    sym (length-take-le _ (c11 .args .sheet .now) (head .1 .within .1))
+
+arities-requires : tie.Need-arities-requires
+unfolding Reached
+arities-requires c κs =
+    let c3 = c .before .before .before in
+    let c6 = c3 .before .before .before in
+    let c11 = c6 .before .before .before .before .before in
+    let head = rw (c3 .head .given .1) at (c6 .read-head .ensures) in
+    let long = length-take-le _ (c11 .args .sheet .now) (head .1 .within .1) in
+    omega (arith, long, head .1 .within .0, table-le _ (head .1 .fewSymbols))
+
+read-word-rules-requires : tie.Need-read-word-rules-requires
+unfolding Reached
+read-word-rules-requires c κs =
+    let c3 = c .before .before .before in
+    let c5 = c3 .before .before in
+    let c8 = c5 .before .before .before in
+    let c13 = c8 .before .before .before .before .before in
+    let head = rw (c5 .head .given .1) at (c8 .read-head .ensures) in (
+      (
+        omega (arith, head .1 .within .0, table-le _ (head .1 .fewSymbols)),
+        head .1 .fewRules,
+        c3 .unused-at-start .ensures .1,
+      ),
+      (signatureOf (take (c5 .head .given .0 .1 .0) (c13 .args .sheet .now)), c .before .arities .ensures),
+    )
+
+returns-2 : tie.Need-returns-2
+unfolding Reached
+returns-2 c =
+    let c4 = c .before .before .before .before in
+    let c6 = c4 .before .before in
+    let c8 = c6 .before .before in
+    let c11 = c8 .before .before .before in
+    let c16 = c11 .before .before .before .before .before in
+    let a = c16 .args in
+    let head = rw (c8 .head .given .1) at (c11 .read-head .ensures) in
+    let σ = signatureOf (take (tableWords (c8 .head .given .0 .0)) (a .sheet .now)) in
+    let rules = rw (c6 .unused-at-start .ensures .0, c .enum-told2 .given .1) at
+    (c .before .before .read-word-rules .ensures σ (rw (head .1 .within .0) at (c4 .arities .ensures))) in
+    rw (c .enum-told2 .given .1) (sheet-unread (a .sheet .now) _ _ _ _ head _ _ (end-fault _ _ _ _ (sym rules)))
+
+returns-3 : tie.Need-returns-3
+unfolding Reached
+returns-3 c =
+    let c4 = c .before .before .before .before in
+    let c6 = c4 .before .before in
+    let c8 = c6 .before .before in
+    let c10 = c8 .before .before in
+    let c13 = c10 .before .before .before in
+    let c18 = c13 .before .before .before .before .before in
+    let a = c18 .args in
+    let head = rw (c10 .head .given .1) at (c13 .read-head .ensures) in
+    let σ = signatureOf (take (tableWords (c10 .head .given .0 .0)) (a .sheet .now)) in
+    let rules = rw (c8 .unused-at-start .ensures .0, c .before .before .read .given .1) at
+    (c4 .read-word-rules .ensures σ (rw (head .1 .within .0) at (c6 .arities .ensures))) in
+    let (rs, read, none) = end-got _ _ _ _ (sym rules) in
+    sheet-read (a .sheet .now) _ _ _ _ head rs _ read (eq-eqb _ _ (c .if1 .taken))
+
+returns-4 : tie.Need-returns-4
+unfolding Reached
+returns-4 c =
+    let c4 = c .before .before .before .before in
+    let c6 = c4 .before .before in
+    let c8 = c6 .before .before in
+    let c10 = c8 .before .before in
+    let c13 = c10 .before .before .before in
+    let c18 = c13 .before .before .before .before .before in
+    let a = c18 .args in
+    let head = rw (c10 .head .given .1) at (c13 .read-head .ensures) in
+    let σ = signatureOf (take (tableWords (c10 .head .given .0 .0)) (a .sheet .now)) in
+    let rules = rw (c8 .unused-at-start .ensures .0, c .before .before .read .given .1) at
+    (c4 .read-word-rules .ensures σ (rw (head .1 .within .0) at (c6 .arities .ensures))) in
+    let (rs, read, none) = end-got _ _ _ _ (sym rules) in
+    sheet-unended (a .sheet .now) _ _ _ _ head rs _ read (ne-eqb _ _ (c .if1 .left))
+
+pub read-sheet-spec : {M : Type 1} → statement M
+read-sheet-spec =
+    tie.close (tie.spec (λ c. search needs) (λ c. search needs) (λ c κs. search needs) (λ c. search needs)
+    (λ c. search needs) returns (λ c κs. search needs) slice-aggregate-arities arities-requires
+    read-word-rules-requires (λ c. search needs) (λ c. search needs) returns-2 returns-3 returns-4)

@@ -4,13 +4,6 @@ ghost use lib.ListN.{length};
 use libc::STDIN_FILENO;
 use libc::STDOUT_FILENO;
 
-// One byte more than a rule file may have.
-fn buffer() -> [u8; 32769]
-    ensures { λ r. ⌜ 32769 ≡ length r ⌝ }
-{
-    [0; 32769]
-}
-
 fn blank_page() -> [u8; paging::PAGE_BYTES]
     ensures { λ r. ⌜ 66495 ≡ length r ⌝ }
 {
@@ -18,7 +11,7 @@ fn blank_page() -> [u8; paging::PAGE_BYTES]
 }
 
 fn main() {
-    let mut book = buffer();
+    let mut book = io::large_buffer();
     let count = io::read_full(STDIN_FILENO, &mut book);
     let mut page = blank_page();
     let end = paging::board(&book[..count], &mut page);

@@ -1,11 +1,10 @@
 -- What converting says of the bytes that it has written.
---     accepted-counts    the output has as many
+--     accepted-fits    the output has as many
 use mathlib.Core.List.{List}
-use mathlib.Core.Path.{_≡_, sym}
+use mathlib.Core.Path.{_≡_}
 use Prim.Native.Nat.{ℕ, _≤_}
 use native.Mathlib.Omega.{arith}
 use lib.ListN.{length}
-use lib.Seq.{length-take-le}
 use lib.Dec.{leb}
 use borrow.Author.Tests.{leb-true}
 use Rattle.multisets.proofs.Relations.{byTest}
@@ -19,7 +18,6 @@ use Rattle.format.specs.Files.{readBytesIn}
 use Rattle.format.specs.Conversion.{convertedFile}
 use Rattle.operations.specs.Replies.{Reply, Written, _>>=_, _>>_, fromInput, demand, outcome}
 use Rattle.operations.specs.Replies.Reply.{accepted, refused}
-use Rattle.io.specs.Counts.{Counts}
 use Rattle.operations.specs.Converting.{converted}
 
 -- What converting replies, by what its bytes read as.
@@ -39,10 +37,8 @@ written-fits (got file at) bytes out n e =
     let z : _≡_ {A = ℕ} 0 1 = cc in absurd (omega arith)
 written-fits (fault code offset) bytes out n e = let z : _≡_ {A = ℕ} 0 1 = cc in absurd (omega arith)
 
--- An accepted conversion counts bytes at the front of an output that is as long as before.
-pub accepted-counts : (bytes out after : List ℕ) (n : ℕ) → converted bytes out .reply ≡ accepted n →
-    length after ≡ length out → Counts n after
+-- An accepted conversion counts bytes of an output that is as long as before.
+pub accepted-fits : (bytes out after : List ℕ) (n : ℕ) → converted bytes out .reply ≡ accepted n →
+    length after ≡ length out → n ≤ length after
 unfolding converted
-accepted-counts bytes out after n e k =
-    let h : n ≤ length after = omega (arith, written-fits (readBytesIn firstForm bytes) bytes out n e) in
-    (h, sym (length-take-le n after h))
+accepted-fits bytes out after n e k = omega (arith, written-fits (readBytesIn firstForm bytes) bytes out n e)

@@ -1,16 +1,7 @@
 // Reads a rule file of form 1 from standard input and prints it in form 2, or its refusal as `marker` does.
-ghost use mathlib.Core.Path.{_≡_};
-ghost use lib.ListN.{length};
 use libc::STDIN_FILENO;
 use libc::STDOUT_FILENO;
 use operations::NumberReply;
-
-// One byte more than a rule file may have.
-fn buffer() -> [u8; 32769]
-    ensures { λ r. ⌜ 32769 ≡ length r ⌝ }
-{
-    [0; 32769]
-}
 
 // The line of a refusal.
 fn print_refusal(code: u8, offset: usize) {
@@ -22,9 +13,9 @@ fn print_refusal(code: u8, offset: usize) {
 }
 
 fn main() {
-    let mut book = buffer();
+    let mut book = io::large_buffer();
     let count = io::read_full(STDIN_FILENO, &mut book);
-    let mut converted = buffer();
+    let mut converted = io::large_buffer();
     match converter::convert(&book[..count], &mut converted) {
         NumberReply::Accepted(bytes) => {
             io::write_all(STDOUT_FILENO, &converted[..bytes]);

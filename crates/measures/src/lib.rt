@@ -10,6 +10,3 @@ pub const NODE_SUMS: usize = 816;
 
 // How many numbers are stored for the offsets in a term and the one past it, three for each.
 pub const SUMS: usize = 387;
-
-// How many variables there are: what the variable test answers where none occurs oftener.
-pub const VARIABLES: usize = 16;

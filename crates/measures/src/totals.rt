@@ -1,6 +1,5 @@
 // The sums over whole terms: weights, the variable test and the margin.
 use crate::NODE_SUMS;
-use crate::VARIABLES;
 use crate::digits::first_greater;
 ghost use mathlib.Core.List.{List};
 ghost use mathlib.Core.Path.{_≡_};
@@ -68,7 +67,7 @@ pub fn first_oftener(left: Totals, right: Totals) -> usize
     if high < 8 {
         return 8 + high;
     }
-    VARIABLES
+    format::VARIABLES
 }
 
 // The left weight minus the right one.

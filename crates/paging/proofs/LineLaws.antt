@@ -1,5 +1,6 @@
 -- The lines of a page, as they are put and as they follow from what the walk over the rules stored.
 --     last-mark              the mark that is none of the others
+--     words-length, -stored  the words of a mark, by another that equals it
 --     put-parts              one line, part by part
 --     entry-at, entry-fits   the entry of a mark and a margin
 --     lines-next, lines-all  the loop over the lines
@@ -30,6 +31,14 @@ above-none (suc k) m h n = omega (arith, above-none k m h (n .0), n .1)
 
 pub last-mark : (k m : ℕ) → 1 ≤ m → m ≤ suc k → NoneOf k m → m ≡ suc k
 last-mark k m h l n = omega (arith, above-none k m h n)
+
+pub words-length : (at mark k r : ℕ) → mark ≡ k → r ≡ at + length (leftSet (columns 6 45) (wordsFor k)) →
+    r ≡ at + length (leftSet (columns 6 45) (wordsFor mark))
+words-length at mark k r e p = rw e p
+
+pub words-stored : (l : List ℕ) (at mark k : ℕ) (out : List ℕ) → mark ≡ k →
+    out ≡ sets l at (leftSet (columns 6 45) (wordsFor k)) → out ≡ sets l at (leftSet (columns 6 45) (wordsFor mark))
+words-stored l at mark k out e p = rw e p
 
 pub put-parts : (l : List ℕ) (at n : ℕ) (e : Entry) (c5 : ℕ) (l₁ : List ℕ) (c6 : ℕ) (l₂ : List ℕ) (c46 : ℕ)
     (l₃ : List ℕ)

@@ -3,7 +3,6 @@ use mathlib.Core.List.{List}
 use mathlib.Core.Path.{_≡_, ap, _∙_}
 use Prim.Native.Nat.{ℕ}
 use lib.ListN.{take}
-use Rattle.terms.specs.Signature.{Signature}
 use Rattle.terms.specs.Words.{termOf}
 use Rattle.terms.specs.Oftener.{firstOftener}
 use Rattle.format.specs.Files.{readTerm}
@@ -11,16 +10,20 @@ use Rattle.operations.specs.Replies.Reply.{accepted, refused}
 use Rattle.operations.specs.declared.Error.{Error}
 use Rattle.operations.specs.Inputs.{readInputs}
 use Rattle.operations.specs.Variables.{oftener}
-use Rattle.inputs.specs.Inputs.{TermsAt}
+use Rattle.symbols.specs.Table.{signatureOf}
+use Rattle.inputs.specs.Inputs.{InputsRead}
+use Rattle.inputs.specs.declared.Ends.{Ends}
+use Rattle.inputs.specs.declared.Ends.the-variants.{Read, Refused}
 
-module _ (bytes left right : List ℕ) where
-  pub test-refused : (e : Error) → readInputs readTerm bytes left right ≡ refused e →
-      refused e ≡ oftener bytes left right
+module _ (bytes table left right : List ℕ) (x : Ends) where
+  pub test-refused : (error : Error) → x ≡ Refused error →
+      InputsRead table left right (readInputs readTerm bytes left right) x → refused error ≡ oftener bytes left right
   unfolding oftener
-  test-refused e r = rw r
+  test-refused error e read = rw (rw e at read)
 
-  pub tested : (σ : Signature) (l r : ℕ) → TermsAt σ left right (readInputs readTerm bytes left right) l r →
-      (x : ℕ) → x ≡ firstOftener (termOf σ (take l left)) (termOf σ (take r right)) →
-      accepted x ≡ oftener bytes left right
+  pub tested : (n l r : ℕ) → x ≡ Read n l r →
+      InputsRead table left right (readInputs readTerm bytes left right) x → (v : ℕ) →
+      v ≡ firstOftener (termOf (signatureOf (take n table)) (take l left))
+      (termOf (signatureOf (take n table)) (take r right)) → accepted v ≡ oftener bytes left right
   unfolding oftener
-  tested σ l r at x e = ap accepted e ∙ rw (at .read)
+  tested n l r e read v d = ap accepted d ∙ rw ((rw e at read) .3 .read)

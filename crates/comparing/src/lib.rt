@@ -86,10 +86,6 @@ pub fn compare(book: &[u8], left: &[u16], right: &[u16]) -> CompareReply
 {
     match relate(book, left, right, true) {
         Related::Refused(error) => CompareReply::Refused(error),
-        Related::Read {
-            comparison,
-            left: _,
-            right: _,
-        } => CompareReply::Accepted(comparison),
+        Related::Read { comparison, .. } => CompareReply::Accepted(comparison),
     }
 }

@@ -1,63 +1,13 @@
 -- The inputs are read, and the terms up to their ends are compared under the table's front.
-use mathlib.Core.Path.{sym}
-use native.Mathlib.Omega.{arith}
-use lib.Seq.{length-take-le}
-use Rattle.comparing.proofs.CompareLaws.{related}
-use borrow.Author.Needs.{needs}
+use Rattle.comparing.proofs.SliceLaws.{slices}
+use Rattle.comparing.proofs.CompareLaws.{ends-refused, ends-related}
 use Rattle.comparing.proofs.relate.Statement.{statement}
 use Rattle.comparing.proofs.relate.Tie as tie
 
-array-share-prefix-table : tie.Need-array-share-prefix-table
-array-share-prefix-table c =
-    let c4 = c .before .before .before .before in
-    let (room, few, A, at) = rw (c .before .front .given .1) at (c4 .read-inputs .ensures) in
-    omega (arith, c4 .read-inputs .kept .1 .1 .1 .1 .0)
-
-slice-aggregate-compare-read : tie.Need-slice-aggregate-compare-read
-slice-aggregate-compare-read c =
-    let c5 = c .before .before .before .before .before in
-    let (room, few, A, at) = rw (c .before .before .front .given .1) at (c5 .read-inputs .ensures) in
-    sym (length-take-le _ (c5 .read-inputs .last .1 .1 .1 .1 .0) room)
-
-slice-aggregate-compare-read-2 : tie.Need-slice-aggregate-compare-read-2
-slice-aggregate-compare-read-2 c =
-    let c3 = c .before .before .before in
-    let c6 = c3 .before .before .before in
-    let c11 = c6 .before .before .before .before .before in
-    let (room, few, A, at) = rw (c3 .front .given .1) at (c6 .read-inputs .ensures) in
-    sym (length-take-le _ (c11 .args .left .now) (at .leftWithin))
-
-slice-aggregate-compare-read-3 : tie.Need-slice-aggregate-compare-read-3
-slice-aggregate-compare-read-3 c =
-    let c4 = c .before .before .before .before in
-    let c7 = c4 .before .before .before in
-    let c12 = c7 .before .before .before .before .before in
-    let (room, few, A, at) = rw (c4 .front .given .1) at (c7 .read-inputs .ensures) in
-    sym (length-take-le _ (c12 .args .right .now) (at .rightWithin))
-
-compare-read-requires : tie.Need-compare-read-requires
-compare-read-requires c κs =
-    let c4 = c .before .before .before .before in
-    let c7 = c4 .before .before .before in
-    let (room, few, A, at) = rw (c4 .front .given .1) at (c7 .read-inputs .ensures) in
-    ((omega (arith, length-take-le _ (c7 .read-inputs .last .1 .1 .1 .1 .0) room), A), (at .leftTerm, at .rightTerm))
-
-returns : tie.Need-returns
-returns c =
-    let c4 = c .before .before .before .before in
-    rw (c .before .error .given .1) at (c4 .read-inputs .ensures)
-
-returns-2 : tie.Need-returns-2
-returns-2 c =
-    let c5 = c .before .before .before .before .before in
-    let c8 = c5 .before .before .before in
-    let c13 = c8 .before .before .before .before .before in
-    let a = c13 .args in
-    let (room, few, A, at) = rw (c5 .front .given .1) at (c8 .read-inputs .ensures) in
-    related _ (a .left .now) (a .right .now) _ _ _ at _ (c .compare-read .ensures)
+ruleset relates = (slices, ends-refused, ends-related)
 
 pub relate-spec : {M : Type 1} → statement M
 relate-spec =
-    tie.close (tie.spec (λ c. search needs) (λ c κs. search needs) (λ c. search needs) (λ c. search needs)
-    array-share-prefix-table slice-aggregate-compare-read slice-aggregate-compare-read-2
-    slice-aggregate-compare-read-3 compare-read-requires returns returns-2)
+    tie.close (tie.spec (λ c. search relates) (λ c κs. search relates) (λ c. search relates) (λ c. search relates)
+    (λ c. search relates) (λ c. search relates) (λ c. search relates) (λ c. search relates) (λ c κs. search relates)
+    (λ c. search relates) (λ c. search relates))

@@ -30,7 +30,7 @@ pub use crate::variables::oftener;
 // How two terms compare, and how many words they have; or the error.
 pub enum Related {
     Read {
-        comparison: Comparison,
+        found: Comparison,
         left: usize,
         right: usize,
     },
@@ -73,7 +73,7 @@ pub fn relate(book: &[u8], left: &[u16], right: &[u16], whole: bool) -> Related
             left: l,
             right: r,
         } => Related::Read {
-            comparison: compare_read(&table[..front], &left[..l], &right[..r]),
+            found: compare_read(&table[..front], &left[..l], &right[..r]),
             left: l,
             right: r,
         },
@@ -86,6 +86,6 @@ pub fn compare(book: &[u8], left: &[u16], right: &[u16]) -> CompareReply
 {
     match relate(book, left, right, true) {
         Related::Refused(error) => CompareReply::Refused(error),
-        Related::Read { comparison, .. } => CompareReply::Accepted(comparison),
+        Related::Read { found, .. } => CompareReply::Accepted(found),
     }
 }

@@ -14,20 +14,14 @@ pub fn greater_side(book: &[u8], left: &[u16], right: &[u16]) -> PickReply
 {
     match relate(book, left, right, false) {
         Related::Refused(error) => PickReply::Refused(error),
-        Related::Read {
-            comparison,
-            left: l,
-            right: r,
-        } => {
-            let relation = comparison.relation;
-            PickReply::Accepted(
-                match relation {
-                    Relation::Greater => GreaterSide::Left { words: l },
-                    Relation::Less => GreaterSide::Right { words: r },
-                    Relation::Equivalent => GreaterSide::Equivalent,
-                    Relation::Unrelated => GreaterSide::Unrelated,
-                },
-            )
+        Related::Read { found, left, right } => {
+            let relation = found.relation;
+            match relation {
+                Relation::Greater => PickReply::Accepted(GreaterSide::Left { words: left }),
+                Relation::Less => PickReply::Accepted(GreaterSide::Right { words: right }),
+                Relation::Equivalent => PickReply::Accepted(GreaterSide::Equivalent),
+                Relation::Unrelated => PickReply::Accepted(GreaterSide::Unrelated),
+            }
         }
     }
 }

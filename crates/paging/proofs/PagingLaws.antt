@@ -1,7 +1,7 @@
 -- What the page of a rule file gives back, by what its bytes read as.
 --     kept-entries                             the entries of the marks and margins that were kept elsewhere
 --     kept-fit                                 they fit
---     page-fault, page-short, page-written     the ends of the operation
+--     page-refused, page-short, page-written   the ends of the operation
 --     board-page, board-refusal, refusal-text  the text of the program
 use mathlib.Core.List.{List, [], _∷_, map}
 use mathlib.Core.Path.{_≡_, refl, sym, ap, _∙_}
@@ -26,13 +26,14 @@ use Rattle.operations.specs.declared.Error.{Error}
 use Rattle.operations.specs.Replies.{Reply}
 use Rattle.operations.specs.Replies.Reply.{accepted, refused}
 use Rattle.operations.specs.Report.{refusalLine}
-use Rattle.operations.specs.Marking.{marksOf, marginsOf}
 use Rattle.operations.specs.Page.{AllFit, page}
 use Rattle.operations.specs.Paging.{entryOf, entriesOf, lineBytes, paged, board}
 use Rattle.operations.proofs.EntryLaws.{book-fits}
 use Rattle.operations.proofs.PageLaws.{length-page}
-use Rattle.marking.specs.Rule.{MarkedAs}
-use Rattle.marking.proofs.WalkLaws.{stored-front}
+use Rattle.marking.specs.declared.walk.FileMarked.{FileMarked}
+use Rattle.marking.specs.declared.walk.FileMarked.the-variants.{Marked, Fault}
+use Rattle.marking.specs.Rule.{MarkedAs, WholeMarked}
+use Rattle.marking.proofs.FoundLaws.{stored-fronts}
 use Rattle.paging.specs.Entries.{entries}
 
 entries-map : (σ : Signature) (rs : List Rule) →
@@ -41,53 +42,57 @@ entries-map : (σ : Signature) (rs : List Rule) →
 entries-map σ [] = refl
 entries-map σ (r ∷ rs) = ap (_∷_ (entryOf σ r)) (entries-map σ rs)
 
-module _ (bytes : List ℕ) (output : List ℕ) where
-  pub page-fault : (code offset : ℕ) → readBytes bytes ≡ fault code offset →
-      (refused (record { code = code; input = 0; offset = offset }) ≡ paged bytes output .reply)
-      × (output ≡ paged bytes output .output)
-  unfolding paged
-  page-fault code offset e = (rw e, rw e)
+page-fault : (bytes output : List ℕ) (code offset : ℕ) → readBytes bytes ≡ fault code offset →
+    (refused (record { code = code; input = 0; offset = offset }) ≡ paged bytes output .reply)
+    × (output ≡ paged bytes output .output)
+unfolding paged
+page-fault bytes output code offset e = (rw e, rw e)
 
-  module _ (file : RuleFile) (end : ℕ) (e : readBytes bytes ≡ got file end) (rules decreasing : ℕ)
-      (marks₀ marks : List ℕ) (margins₀ margins : List ℤ)
-      (m : MarkedAs file rules decreasing marks₀ marks margins₀ margins) where
-    pub page-short : length output < lineBytes * rules →
-        (refused (record { code = pageTooShort; input = 1; offset = 0 }) ≡ paged bytes output .reply)
-        × (output ≡ paged bytes output .output)
+module _ (bytes : List ℕ) (x : FileMarked) (marks₀ marks : List ℕ) (margins₀ margins : List ℤ)
+    (all : WholeMarked (readBytes bytes) x marks₀ marks margins₀ margins) where
+  pub page-refused : (output : List ℕ) (code offset : ℕ) → x ≡ Fault code offset → (error : Error) →
+      error ≡ record { code = code; input = 0; offset = offset } →
+      (refused error ≡ paged bytes output .reply) × (output ≡ paged bytes output .output)
+  page-refused output code offset e error d = rw d (page-fault bytes output code offset (rw e at all))
+
+  module _ (rules decreasing : ℕ) (e : x ≡ Marked rules decreasing) where
+    pub page-short : (output : List ℕ) → length output < lineBytes * rules → (error : Error) →
+        error ≡ record { code = pageTooShort; input = 1; offset = 0 } →
+        (refused error ≡ paged bytes output .reply) × (output ≡ paged bytes output .output)
     unfolding paged
-    page-short h =
+    page-short output h error d =
+        let (file, end, read, m) = rw e at all in
         let no = lt-leb (lineBytes * length (file .rules)) (length output) (omega (arith, m .count)) in
-        (rw (e, no), rw (e, no))
+        rw (read, no, d) (refl, refl)
 
-    module _ (room : rules ≤ length marks₀) (room' : rules ≤ length margins₀) where
-      kept-entries : entries (take rules marks) (take rules margins) ≡ entriesOf (systemOf file)
+    module _ (room : 1023 ≤ length marks₀) (room' : 1023 ≤ length margins₀) where
+      -- The entries that were kept are those of the file.
+      kept-entries : (file : RuleFile) × (end : ℕ) × (readBytes bytes ≡ got file end) ×
+          MarkedAs file rules decreasing marks₀ marks margins₀ margins ×
+          (entries (take rules marks) (take rules margins) ≡ entriesOf (systemOf file))
       kept-entries =
-          let n : length (marksOf (systemOf file)) ≡ rules =
-          length-map (systemOf file .rules) _ ∙ length-map (file .rules) _ ∙ sym (m .count) in
-          let n' : length (marginsOf (systemOf file)) ≡ rules =
-          length-map (systemOf file .rules) _ ∙ length-map (file .rules) _ ∙ sym (m .count) in
-          rw (
-            stored-front (marksOf (systemOf file)) marks₀ marks rules n room (m .marks),
-            stored-front (marginsOf (systemOf file)) margins₀ margins rules n' room' (m .margins),
-          )
-          (entries-map (file .signature) (systemOf file .rules))
+          let (file, end, read, m) = rw e at all in
+          let (kept, kept') = stored-fronts file rules decreasing marks₀ marks margins₀ margins m room room' in
+          (file, end, read, m, rw (kept, kept') (entries-map (file .signature) (systemOf file .rules)))
 
       pub kept-fit : AllFit (entries (take rules marks) (take rules margins))
-      kept-fit = rw kept-entries (book-fits file (fromBytes bytes end e))
+      kept-fit =
+          let (file, end, read, m, kept) = kept-entries in rw kept (book-fits file (fromBytes bytes end read))
 
-      pub page-written : (out : List ℕ) → lineBytes * rules ≤ length output →
+      pub page-written : (output out : List ℕ) → lineBytes * rules ≤ length output →
           out ≡ sets output 0 (page (entries (take rules marks) (take rules margins))) →
           (accepted (lineBytes * rules) ≡ paged bytes output .reply) × (out ≡ paged bytes output .output)
       unfolding paged
-      page-written out h w =
+      page-written output out h w =
+          let (file, end, read, m, kept) = kept-entries in
           let es = entriesOf (systemOf file) in
           let fits = le-leb (lineBytes * length (file .rules)) (length output) (omega (arith, m .count)) in
           let k : length es ≡ rules =
           length-map (systemOf file .rules) _ ∙ length-map (file .rules) _ ∙ sym (m .count) in
           let n : length (page es) ≡ lineBytes * length es =
-          length-page es (omega (arith, m .few)) (book-fits file (fromBytes bytes end e)) in (
-            rw (e, fits, m .count),
-            w ∙ rw (e, fits, kept-entries, sets-eq (page es) output 0 (omega arith), zero-add),
+          length-page es (omega (arith, m .few)) (book-fits file (fromBytes bytes end read)) in (
+            rw (read, fits) (ap (λ (n : ℕ). accepted (lineBytes * n)) (m .count)),
+            w ∙ rw (read, fits, kept, sets-eq (page es) output 0 (omega arith), zero-add),
           )
 
 -- ---- the text of the program

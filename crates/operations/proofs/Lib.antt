@@ -1,4 +1,5 @@
--- Laws of what the operations read, and checks of the definitions of specs/, by computation.
+-- Laws of what the operations reply and read, and checks of the definitions of specs/, by computation.
+pub mod ReplyLaws
 pub mod InputLaws
 pub mod DecimalLaws
 pub mod EntryLaws

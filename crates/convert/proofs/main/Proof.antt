@@ -1,17 +1,18 @@
 -- The converted bytes are within the buffer that they are put into.
 use mathlib.Core.Path.{sym, ap, _∙_}
+use native.Mathlib.Omega.{arith}
 use borrow.Author.Needs.{needs}
 use Rattle.io.proofs.Counting.{front}
 use Rattle.operations.specs.Enums.{numberReply}
-use Rattle.convert.proofs.FitLaws.{accepted-fits}
+use Rattle.operations.proofs.ReplyLaws.{converted-reply}
 use Rattle.convert.proofs.main.Statement.{statement}
 use Rattle.convert.proofs.main.Tie as tie
 
 array-share-prefix-converted : tie.Need-array-share-prefix-converted
 array-share-prefix-converted c =
     let r = c .before .before .before .before .convert in
-    accepted-fits _ _ (r .last .1 .0) _ (sym (r .ensures .0) ∙ ap numberReply (c .before .bytes .given .1))
-    (r .kept .1 .0)
+    let fits = converted-reply _ _ _ (sym (r .ensures .0) ∙ ap numberReply (c .before .bytes .given .1)) in
+    omega (arith, r .kept .1 .0)
 
 slice-aggregate-write-all : tie.Need-slice-aggregate-write-all
 slice-aggregate-write-all c =

@@ -1,19 +1,18 @@
 -- Encoding replies with at most as many bytes as the book has.
 use mathlib.Core.Path.{sym, ap, _∙_}
+use native.Mathlib.Omega.{arith}
+use Rattle.io.proofs.Counting.{counts}
 use Rattle.operations.specs.Enums.{numberReply}
-use Rattle.cases.proofs.CloseLaws.{accepted-counts}
+use Rattle.operations.proofs.ReplyLaws.{encoded-reply}
 use borrow.Author.Needs.{needs}
 use Rattle.cases.proofs.print.close.Statement.{statement}
 use Rattle.cases.proofs.print.close.Tie as tie
 
 returns : tie.Need-returns
 returns c =
-    let c5 = c .before .before .before .before .before in
-    let c9 = c5 .before .before .before .before in
-    let a = c9 .args in
-    let r = c5 .encode in
-    accepted-counts (a .sheet .now) (a .book .now) (r .last .1 .0) _
-    (sym (r .ensures .0) ∙ ap numberReply (c .before .count .given .1)) (r .kept .1 .0)
+    let r = c .before .before .before .before .before .encode in
+    let e = encoded-reply _ _ _ (sym (r .ensures .0) ∙ ap numberReply (c .before .count .given .1)) in
+    counts _ (r .last .1 .0) (omega (arith, r .kept .1 .0))
 
 pub close-spec : {M : Type 1} → statement M
 close-spec =

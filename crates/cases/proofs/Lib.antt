@@ -1,2 +1,0 @@
--- What the code of cases cites.
-mod CloseLaws

@@ -1,2 +1,0 @@
--- What the code of convert cites.
-mod FitLaws

@@ -1,28 +1,26 @@
 -- A file of form 1 as one of form 2: the converted file of a readable one is readable, and as long.
 --     converted-words                      a rule's node words are renumbered by first use
---     seen-few, renumbered-fit             the new numbers are such as a variable may have
+--     renumbered-fit                       the new numbers are such as a variable may have
 --     converted-readable                   the converted file is readable
 --     converted-bits, converted-length     it has as many bits, and as many bytes
 --     readable-before, converted-same      a file of form 2 is readable in form 1, and unchanged
 use mathlib.Core.Path.{_≡_, refl, sym, ap, ap₂, _∙_}
 use mathlib.Core.List.{List, [], _∷_, _++_, map, map-append, flatMap, List·Memᴰ, List·Memᴰ·head, List·Memᴰ·tail}
-use mathlib.Core.Bool.{true, false, not}
-use Prim.Native.Nat.{ℕ, suc, zero, _+_, _/_, _≤_, _<_}
+use mathlib.Core.Bool.{true}
+use Prim.Native.Nat.{ℕ, _+_, _/_, _<_}
 use native.Mathlib.Omega.{arith}
 use lib.ListN.{length, take, drop, length-append, length-map}
 use lib.Seq.{take-at, drop-at}
-use lib.Dec.{eqb, lit<}
-use borrow.Author.Tests.{eqb-true, eqb-false, ne-eqb, le-ltb, le-leb}
-use Rattle.multisets.specs.Multiset.{some}
-use Rattle.multisets.proofs.Relations.{byTest}
-use Rattle.multisets.proofs.MultisetLaws.{bit}
+use lib.Dec.{lit<}
+use borrow.Author.Tests.{le-ltb, le-leb}
 use Rattle.multisets.proofs.MultisetMaps.{flatMap-append}
 use Rattle.terms.specs.Signature.{Signature}
 use Rattle.terms.specs.Term.{variableCount}
 use Rattle.terms.specs.Words.{firstVariable}
-use Rattle.terms.specs.FirstUse.{see, seeAll, firstUses, placeIn, renameWord, renumbered, inOrderFrom, inOrder}
-use Rattle.terms.proofs.FirstUseLaws.{bySight, byWord, renameWord-symbol, renameWord-variable, see-symbol, see-known}
-use Rattle.terms.proofs.FirstUseLaws.{see-new, has-last, place-lt, seen-word, renumbered-inOrder, inOrder-renumbered}
+use Rattle.terms.specs.FirstUse.{firstUses, placeIn, renameWord, renumbered, inOrderFrom, inOrder}
+use Rattle.terms.proofs.FirstUseLaws.{byWord, renameWord-symbol, renameWord-variable}
+use Rattle.terms.proofs.FirstUseCount.{firstUses-few}
+use Rattle.terms.proofs.FirstUseLaws.{place-lt, seen-word, renumbered-inOrder, inOrder-renumbered}
 use Rattle.format.specs.Layout.{formNumber, firstForm, tagWidth, variableWidth}
 use Rattle.format.specs.Format.{Sides, RuleFile, allUsed}
 use Rattle.format.specs.Packing.{Item, symbolItems, ruleItems, itemsIn, itemBits, packedIn, packed}
@@ -41,42 +39,9 @@ converted-words r = sym (map-append _ (r .left) (r .right))
 
 -- ---- the new numbers
 
--- How many numbers below n are not in the list.
-abbrev unseen : ℕ → List ℕ → ℕ
-unseen zero l = 0
-unseen (suc n) l = bit (not (some (eqb n) l)) + unseen n l
-
-unseen-none : (n : ℕ) → unseen n [] ≡ n
-unseen-none zero = refl
-unseen-none (suc n) = omega (arith, unseen-none n)
-
-some-last : (l : List ℕ) (x y : ℕ) → eqb y x ≡ false → some (eqb y) (l ++ (x ∷ [])) ≡ some (eqb y) l
-some-last [] x y e = rw e
-some-last (z ∷ l) x y e = byTest (eqb y z) (λ h. rw h) λ h. rw h (some-last l x y e)
-
-unseen-above : (n : ℕ) (l : List ℕ) (x : ℕ) → n ≤ x → unseen n (l ++ (x ∷ [])) ≡ unseen n l
-unseen-above zero l x h = refl
-unseen-above (suc n) l x h =
-    rw (some-last l x n (ne-eqb n x λ e. omega arith), unseen-above n l x (omega arith))
-
--- A new number below n was one of them.
-unseen-new : (n : ℕ) (l : List ℕ) (x : ℕ) → x < n → some (eqb x) l ≡ false →
-    suc (unseen n (l ++ (x ∷ []))) ≡ unseen n l
-unseen-new zero l x h e = absurd (omega arith)
-unseen-new (suc n) l x h e =
-    byTest (eqb n x)
-    (λ q. let p = eqb-true n x q in rw p (rw (has-last l x, e, unseen-above x l x (omega arith)) (omega arith)))
-    λ q. rw (some-last l x n q) (omega (arith, unseen-new n l x (omega (arith, eqb-false n x q)) e))
-
-seen-few : (ws seen : List ℕ) → AllFit (map node ws) → length seen + unseen variableCount seen ≡ variableCount →
-    length (seeAll seen ws) ≤ variableCount
-unfolding seeAll
-seen-few [] seen fits h = omega arith
-seen-few (w ∷ ws) seen (f, fits) h =
-    seen-few ws (see seen w) fits
-    (bySight seen w (λ l. rw (see-symbol seen w l) h) (λ x e k. rw (e, see-known seen x k) h)
-    λ x e k. let new = unseen-new variableCount seen x (omega arith) k in
-    rw (e, see-new seen x k) (omega (arith, length-append seen (x ∷ []))))
+fit-below : (ws : List ℕ) → AllFit (map node ws) → (x : ℕ) → List·Memᴰ (firstVariable + x) ws → x < variableCount
+fit-below (w ∷ ws) (f, fits) x (List·Memᴰ·head e) = omega arith
+fit-below (w ∷ ws) (f, fits) x (List·Memᴰ·tail m) = fit-below ws fits x m
 
 renamed-fit : (ρ : ℕ → ℕ) (ws : List ℕ) →
     ((x : ℕ) → List·Memᴰ (firstVariable + x) ws → ρ x < variableCount) → AllFit (map node (map (renameWord ρ) ws))
@@ -93,7 +58,7 @@ renumbered-fit ws fits =
     omega (
       arith,
       place-lt (firstUses ws) x (seen-word ws [] x m),
-      seen-few ws [] fits (ap (_+_ 0) (unseen-none variableCount)),
+      firstUses-few variableCount ws (fit-below ws fits),
     )
 
 -- ---- a renamed word

@@ -17,6 +17,7 @@ pub mod WeightLaws
 pub mod SubstitutionLaws
 pub mod RenamingLaws
 pub mod FirstUseLaws
+pub mod FirstUseCount
 pub mod FirstUseRenamed
 pub mod RuleRenumbering
 pub mod FingerprintLaws

@@ -111,21 +111,6 @@ fn show_false(e0: u16, e1: u16, e2: u16) {
     show_clause(3, 12, 13, 1, e0, e1, e2);
 }
 
-fn example_6_6() {
-    print(b"document 000, example 6.6, x, y and z true\n");
-    show_clause(11, 12, 13, 9, 1, 1, 1);
-    print(b"document 000, example 6.6, x and z false\n");
-    show_clause(3, 12, 4, 1, 1, 1, 9);
-    print(b"document 000, example 6.6, x, y and z false\n");
-    show_clause(3, 4, 5, 1, 1, 9, 1);
-    show_false(1, 1, 1);
-    show_false(1, 1, 9);
-    show_false(1, 9, 1);
-    show_false(9, 1, 1);
-    show_false(5, 7, 9);
-    show_false(9, 7, 5);
-}
-
 // 000, the base systems before lemma 6.5 and of section A.3, for two symbols p and q.
 #[rattlefmt::skip]
 const BASE_SYSTEMS: [u16; 96] = [
@@ -166,7 +151,18 @@ pub fn run() {
     show(b"document 000, example 5.3, reversed\n", &REVERSED_5_3);
     show(b"document 000, example 7.3\n", &EXAMPLE_7_3);
     show(b"document 000, example 9.1\n", &EXAMPLE_9_1);
-    example_6_6();
+    print(b"document 000, example 6.6, x, y and z true\n");
+    show_clause(11, 12, 13, 9, 1, 1, 1);
+    print(b"document 000, example 6.6, x and z false\n");
+    show_clause(3, 12, 4, 1, 1, 1, 9);
+    print(b"document 000, example 6.6, x, y and z false\n");
+    show_clause(3, 4, 5, 1, 1, 9, 1);
+    show_false(1, 1, 1);
+    show_false(1, 1, 9);
+    show_false(1, 9, 1);
+    show_false(9, 1, 1);
+    show_false(5, 7, 9);
+    show_false(9, 7, 5);
     show(b"document 000, base systems of section 6\n", &BASE_SYSTEMS);
     show(b"document 000, examples 4.6 and 4.9\n", &CONTEXT_OF_C);
 }

@@ -27,24 +27,15 @@ const SYSTEM_R1: [u16; 45] = [
     2, 1, 0, 0,  1, 2, 0, 2, 0,    // f(a+a) -> f(a)+f(a)
 ];
 
-// Shows the system with these ranks of a and +, and this weight of +.
-fn show_r1(a: u16, plus: u16, weight: u16) {
+// Shows the system under a title, with these ranks of a and +, and this weight of +.
+fn show_r1(case: &[u8], a: u16, plus: u16, weight: u16) {
+    print(b"documents 000 and 004, R1, ");
+    print(case);
     let mut sheet = SYSTEM_R1;
     sheet[7] = a;
     sheet[10] = weight;
     sheet[11] = plus;
     crate::print::show_sheet(&sheet);
-}
-
-fn system_r1() {
-    print(b"documents 000 and 004, R1, f > a > +, + weighs 0\n");
-    show_r1(1, 0, 0);
-    print(b"documents 000 and 004, R1, f > + > a, + weighs 0\n");
-    show_r1(0, 1, 0);
-    print(b"documents 000 and 004, R1, f > a > +, + weighs 1\n");
-    show_r1(1, 0, 1);
-    print(b"documents 000 and 004, R1, f > + > a, + weighs 1\n");
-    show_r1(0, 1, 1);
 }
 
 // 004, examples 3.1 and 3.2: the top-flattening of (a+b)+a, and the parts of one for f > + > g.
@@ -93,7 +84,10 @@ pub fn run() {
         b"documents 000 and 004, a symbol over a variable\n",
         &SYMBOL_OVER_VARIABLE,
     );
-    system_r1();
+    show_r1(b"f > a > +, + weighs 0\n", 1, 0, 0);
+    show_r1(b"f > + > a, + weighs 0\n", 0, 1, 0);
+    show_r1(b"f > a > +, + weighs 1\n", 1, 0, 1);
+    show_r1(b"f > + > a, + weighs 1\n", 0, 1, 1);
     show(b"document 004, examples 3.1 and 3.2\n", &FLATTENINGS);
     show(b"document 001, section 5\n", &SECTION_5);
     show(b"document 001, section 2.1\n", &SECTION_2_1);

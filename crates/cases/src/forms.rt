@@ -3,7 +3,6 @@ use crate::print::print;
 use crate::print::print_number;
 use crate::print::print_report;
 use converter::convert;
-use encoder::encode;
 
 // 01's sample in form 1, where two rules differ in their variables' numbers alone: sub(v,u)+z -> sub(v,u),
 // sub(s,w)+z -> sub(s,w), neg(w) -> w, u+y -> s, z -> o.
@@ -51,6 +50,6 @@ pub fn run() {
     convert_old();
     print(b"a variable out of turn\n");
     let mut book = [0u8; 29];
-    print_number(encode(&OUT_OF_TURN, &mut book));
+    print_number(encoder::encode(&OUT_OF_TURN, &mut book));
     print_report(&OUT_OF_TURN_BOOK);
 }

@@ -8,8 +8,6 @@ use operations::MarkReply;
 use operations::NumberReply;
 use operations::PickReply;
 use operations::Relation;
-use picking::greater_part;
-use picking::greater_side;
 
 pub fn print(text: &[u8]) {
     io::write_all(STDOUT_FILENO, text);
@@ -73,28 +71,14 @@ pub fn show(title: &[u8], sheet: &[u16]) {
 // Prints how many rules a book has, how many of them decrease, and the score; or the error.
 pub fn print_marking(book: &[u8], marks: &mut [u8]) {
     match marking::mark::mark(book, marks) {
-        MarkReply::Accepted(summary) => print_numbers(
-            summary.rules as u64,
-            summary.decreasing as u64,
-            summary.score as u64,
-        ),
+        MarkReply::Accepted(file) => {
+            print_numbers(file.rules as u64, file.decreasing as u64, file.score as u64)
+        }
         MarkReply::Refused(error) => print_error(error.code, error.input, error.offset),
     }
 }
 
-// 1 greater, 2 less, 3 AC-equivalent, 4 unrelated.
-fn relation_number(relation: Relation) -> u64
-    ensures { λ r. ⌜ r < 10 ⌝ }
-{
-    match relation {
-        Relation::Greater => 1,
-        Relation::Less => 2,
-        Relation::Equivalent => 3,
-        Relation::Unrelated => 4,
-    }
-}
-
-// Prints the number of a relation, and a margin.
+// Prints the number of a relation, 1 greater, 2 less, 3 AC-equivalent, 4 unrelated, and a margin.
 fn print_relation(number: u64, margin: i64)
     requires { ⌜ number < 10 ⌝ }
 {
@@ -110,7 +94,13 @@ pub fn print_comparison(book: &[u8], left: &[u16], right: &[u16]) {
     match comparing::compare(book, left, right) {
         CompareReply::Accepted(comparison) => {
             let relation = comparison.relation;
-            print_relation(relation_number(relation), comparison.margin);
+            let margin = comparison.margin;
+            match relation {
+                Relation::Greater => print_relation(1, margin),
+                Relation::Less => print_relation(2, margin),
+                Relation::Equivalent => print_relation(3, margin),
+                Relation::Unrelated => print_relation(4, margin),
+            }
         }
         CompareReply::Refused(error) => print_error(error.code, error.input, error.offset),
     }
@@ -128,8 +118,8 @@ fn print_side(side: GreaterSide, part: &[u16]) {
 
 // Prints which of two terms under a book is greater; or the error.
 pub fn print_pick<'a>(book: &[u8], left: &'a [u16], right: &'a [u16]) {
-    match greater_side(book, left, right) {
-        PickReply::Accepted(side) => print_side(side, greater_part(book, left, right)),
+    match picking::greater_side(book, left, right) {
+        PickReply::Accepted(side) => print_side(side, picking::greater_part(book, left, right)),
         PickReply::Refused(error) => print_error(error.code, error.input, error.offset),
     }
 }

@@ -1,10 +1,8 @@
 // 01's sample, its traps and its listing.
 // A sheet has a line for the header, each symbol (arity, AC mark, weight, rank) and each rule (left side, right side).
-use crate::print::close;
 use crate::print::print;
 use crate::print::print_comparison;
 use crate::print::print_number;
-use crate::print::print_page;
 use crate::print::print_pick;
 use crate::print::print_report;
 use crate::print::show;
@@ -158,7 +156,7 @@ fn test_terms(book: &[u8]) {
 
 fn terms() {
     let mut book = [0u8; 256];
-    let count = close(&SAMPLE, &mut book);
+    let count = crate::print::close(&SAMPLE, &mut book);
     print(b"sample, comparisons\n");
     compare_terms(&book[..count]);
     print(b"sample, picks\n");
@@ -168,7 +166,7 @@ fn terms() {
     print(b"sample, variable tests\n");
     test_terms(&book[..count]);
     print(b"sample, page\n");
-    print_page(&book[..count]);
+    crate::print::print_page(&book[..count]);
 }
 
 pub fn run() {

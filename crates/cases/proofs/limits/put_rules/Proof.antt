@@ -1,10 +1,10 @@
 -- The loop stays within the sheet.
-use mathlib.Core.Path.{_≡_, sym, ap}
+use mathlib.Core.Path.{_≡_, ap}
 use Prim.Native.Nat.{ℕ, _+_, _*_, _-_, _≤_, _<_}
 use native.Mathlib.Nat.{add-mul, mul-le-mul-right}
 use native.Mathlib.Omega.{arith}
 use lib.ListN.{length, length-set}
-use lib.Seq.{length-take-le}
+use Rattle.io.proofs.Counting.{counts}
 use Rattle.cases.proofs.limits.put_rules.Statement.{statement}
 use Rattle.cases.proofs.limits.put_rules.Tie as tie
 use Rattle.cases.proofs.limits.put_rules.Reads as reads
@@ -71,7 +71,7 @@ returns c =
     let m = c .before .before .args .height + 2 in
     let e : c .before .loop .i ≡ c .before .before .args .rules = omega arith in
     let h : c .before .loop .at ≤ length (c .before .loop .sheet) = omega (arith, ap (λ (n : ℕ). n * m) e) in
-    (h, sym (length-take-le _ (c .before .loop .sheet) h))
+    counts _ (c .before .loop .sheet) h
 
 pub put-rules-spec : {M : Type 1} → statement M
 put-rules-spec =

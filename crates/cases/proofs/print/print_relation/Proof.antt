@@ -1,12 +1,11 @@
 -- The line is shorter than its buffer.
-use mathlib.Core.Path.{sym}
-use lib.Seq.{length-take-le}
+use Rattle.io.proofs.Counting.{front}
 use borrow.Author.Needs.{needs}
 use Rattle.cases.proofs.print.print_relation.Statement.{statement}
 use Rattle.cases.proofs.print.print_relation.Tie as tie
 
 slice-aggregate-print : tie.Need-slice-aggregate-print
-slice-aggregate-print c = sym (length-take-le _ (c .before .before .put-byte .last .0) (search needs))
+slice-aggregate-print c = front _ (c .before .before .put-byte .last .0) (search needs)
 
 pub print-relation-spec : {M : Type 1} → statement M
 print-relation-spec =

@@ -1,28 +1,18 @@
 -- The text is within the buffer that it is put into.
-use mathlib.Core.Path.{sym, ap}
+use mathlib.Core.Path.{ap}
 use native.Mathlib.Omega.{arith}
 use lib.ListN.{length}
-use lib.Seq.{length-sets, length-take-le}
+use lib.Seq.{length-sets}
+use Rattle.io.proofs.Counting.{front}
 use borrow.Author.Needs.{needs}
 use Rattle.cases.proofs.print.print_report.Statement.{statement}
 use Rattle.cases.proofs.print.print_report.Tie as tie
 
 array-share-prefix-text : tie.Need-array-share-prefix-text
-array-share-prefix-text c =
-    let n = simp length-sets at (ap length (c .report .ensures .1)) in
-    omega (arith, n, c .report .ensures .0 .1, c .before .before .large-buffer .ensures)
+array-share-prefix-text c = let n = simp length-sets at (ap length (c .report .ensures .1)) in omega arith
 
 slice-aggregate-print : tie.Need-slice-aggregate-print
-slice-aggregate-print c =
-    let c3 = c .before .before .before in
-    let n = simp length-sets at (ap length (c .before .report .ensures .1)) in
-    sym (length-take-le _ (c .before .report .last .1 .0) (omega (
-      arith,
-      n,
-      c .before .report .ensures .0 .1,
-      c3
-          .large-buffer .ensures,
-    )))
+slice-aggregate-print c = front _ (c .before .report .last .1 .0) (array-share-prefix-text (c .before))
 
 pub print-report-spec : {M : Type 1} → statement M
 print-report-spec =

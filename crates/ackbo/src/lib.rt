@@ -23,8 +23,11 @@ use operations::NumberReply;
 use operations::PickReply;
 use operations::Relation;
 
+// The values of a reply.
+type Values = [i64; 3];
+
 // Stores three values, and gives back the code.
-fn put_reply(reply: &mut [i64; 3], code: u8, first: i64, second: i64, third: i64) -> u8
+fn put_reply(reply: &mut Values, code: u8, first: i64, second: i64, third: i64) -> u8
     ensures { λ r. ⌜ r ≡ code ⌝ }
     ensures { λ _. ⌜ now (reply .exit) ≡ sets (now (reply .entry)) 0 (first ∷ second ∷ third ∷ []) ⌝ }
 {
@@ -43,7 +46,7 @@ fn signed(number: usize) -> i64
 }
 
 // Stores the three counts of an answer.
-fn put_counts(reply: &mut [i64; 3], first: usize, second: usize, third: usize) -> u8
+fn put_counts(reply: &mut Values, first: usize, second: usize, third: usize) -> u8
     requires { ⌜ (first < 9223372036854775808) × (second < 9223372036854775808) × (third < 9223372036854775808) ⌝ }
     ensures { λ r. ⌜ r ≡ 0 ⌝ }
     ensures { λ _. ⌜ now (reply .exit) ≡ sets (now (reply .entry)) 0 (pos first ∷ pos second ∷ pos third ∷ []) ⌝ }
@@ -52,7 +55,7 @@ fn put_counts(reply: &mut [i64; 3], first: usize, second: usize, third: usize) -
 }
 
 // Stores the input and the offset of an error.
-fn put_error(reply: &mut [i64; 3], code: u8, input: u8, offset: usize) -> u8
+fn put_error(reply: &mut Values, code: u8, input: u8, offset: usize) -> u8
     requires { ⌜ offset < 9223372036854775808 ⌝ }
     ensures { λ r. ⌜ r ≡ code ⌝ }
     ensures { λ _. ⌜ now (reply .exit) ≡ sets (now (reply .entry)) 0 (pos input ∷ pos offset ∷ pos 0 ∷ []) ⌝ }
@@ -61,7 +64,7 @@ fn put_error(reply: &mut [i64; 3], code: u8, input: u8, offset: usize) -> u8
 }
 
 // Stores the count of an answer, or the error.
-fn put_number(reply: &mut [i64; 3], answer: NumberReply) -> u8
+fn put_number(reply: &mut Values, answer: NumberReply) -> u8
     requires { ⌜ Small (numberOf countOf (numberReply answer)) ⌝ }
     ensures { λ r. ⌜ r ≡ codeOf (numberReply answer) ⌝ }
     ensures { λ _. ⌜
@@ -86,7 +89,7 @@ fn relation_value(relation: Relation) -> i64
 }
 
 #[no_mangle]
-pub extern "C" fn ackbo_decode(book: &[u8], words: &mut [u16], reply: &mut [i64; 3]) -> u8
+pub extern "C" fn ackbo_decode(book: &[u8], words: &mut [u16], reply: &mut Values) -> u8
     ensures { λ r. ⌜ r ≡ codeOf (decoded (now (book .entry)) (now (words .entry)) .reply) ⌝ }
     ensures { λ _. ⌜
         now (reply .exit)
@@ -98,7 +101,7 @@ pub extern "C" fn ackbo_decode(book: &[u8], words: &mut [u16], reply: &mut [i64;
 }
 
 #[no_mangle]
-pub extern "C" fn ackbo_encode(words: &[u16], book: &mut [u8], reply: &mut [i64; 3]) -> u8
+pub extern "C" fn ackbo_encode(words: &[u16], book: &mut [u8], reply: &mut Values) -> u8
     ensures { λ r. ⌜ r ≡ codeOf (encoded (now (words .entry)) (now (book .entry)) .reply) ⌝ }
     ensures { λ _. ⌜
         now (reply .exit)
@@ -110,7 +113,7 @@ pub extern "C" fn ackbo_encode(words: &[u16], book: &mut [u8], reply: &mut [i64;
 }
 
 #[no_mangle]
-pub extern "C" fn ackbo_convert(book: &[u8], out: &mut [u8], reply: &mut [i64; 3]) -> u8
+pub extern "C" fn ackbo_convert(book: &[u8], out: &mut [u8], reply: &mut Values) -> u8
     ensures { λ r. ⌜ r ≡ codeOf (converted (now (book .entry)) (now (out .entry)) .reply) ⌝ }
     ensures { λ _. ⌜
         now (reply .exit)
@@ -122,12 +125,7 @@ pub extern "C" fn ackbo_convert(book: &[u8], out: &mut [u8], reply: &mut [i64; 3
 }
 
 #[no_mangle]
-pub extern "C" fn ackbo_compare(
-    book: &[u8],
-    left: &[u16],
-    right: &[u16],
-    reply: &mut [i64; 3],
-) -> u8
+pub extern "C" fn ackbo_compare(book: &[u8], left: &[u16], right: &[u16], reply: &mut Values) -> u8
     ensures { λ r. ⌜ r ≡ codeOf (compared (now (book .entry)) (now (left .entry)) (now (right .entry))) ⌝ }
     ensures { λ _. ⌜
         now (reply .exit)
@@ -145,7 +143,7 @@ pub extern "C" fn ackbo_compare(
 }
 
 // Stores the greater side and the count of its words.
-fn put_side(reply: &mut [i64; 3], side: GreaterSide) -> u8
+fn put_side(reply: &mut Values, side: GreaterSide) -> u8
     requires { ⌜ Small (wordsOf side) ⌝ }
     ensures { λ r. ⌜ r ≡ 0 ⌝ }
     ensures { λ _. ⌜ now (reply .exit) ≡ sets (now (reply .entry)) 0 (sideValues side) ⌝ }
@@ -159,7 +157,7 @@ fn put_side(reply: &mut [i64; 3], side: GreaterSide) -> u8
 }
 
 #[no_mangle]
-pub extern "C" fn ackbo_pick(book: &[u8], left: &[u16], right: &[u16], reply: &mut [i64; 3]) -> u8
+pub extern "C" fn ackbo_pick(book: &[u8], left: &[u16], right: &[u16], reply: &mut Values) -> u8
     ensures { λ r. ⌜ r ≡ codeOf (picked (now (book .entry)) (now (left .entry)) (now (right .entry))) ⌝ }
     ensures { λ _. ⌜
         now (reply .exit)
@@ -174,12 +172,7 @@ pub extern "C" fn ackbo_pick(book: &[u8], left: &[u16], right: &[u16], reply: &m
 }
 
 #[no_mangle]
-pub extern "C" fn ackbo_oftener(
-    book: &[u8],
-    left: &[u16],
-    right: &[u16],
-    reply: &mut [i64; 3],
-) -> u8
+pub extern "C" fn ackbo_oftener(book: &[u8], left: &[u16], right: &[u16], reply: &mut Values) -> u8
     ensures { λ r. ⌜ r ≡ codeOf (oftener (now (book .entry)) (now (left .entry)) (now (right .entry))) ⌝ }
     ensures { λ _. ⌜
         now (reply .exit)
@@ -191,7 +184,7 @@ pub extern "C" fn ackbo_oftener(
 }
 
 #[no_mangle]
-pub extern "C" fn ackbo_fingerprint(book: &[u8], term: &[u16], reply: &mut [i64; 3]) -> u8
+pub extern "C" fn ackbo_fingerprint(book: &[u8], term: &[u16], reply: &mut Values) -> u8
     ensures { λ r. ⌜ r ≡ codeOf (fingerprinted (now (book .entry)) (now (term .entry))) ⌝ }
     ensures { λ _. ⌜
         now (reply .exit)
@@ -202,7 +195,7 @@ pub extern "C" fn ackbo_fingerprint(book: &[u8], term: &[u16], reply: &mut [i64;
 }
 
 #[no_mangle]
-pub extern "C" fn ackbo_mark(book: &[u8], marks: &mut [u8], reply: &mut [i64; 3]) -> u8
+pub extern "C" fn ackbo_mark(book: &[u8], marks: &mut [u8], reply: &mut Values) -> u8
     ensures { λ r. ⌜ r ≡ codeOf (marked (now (book .entry)) (now (marks .entry)) .reply) ⌝ }
     ensures { λ _. ⌜
         now (reply .exit)
@@ -211,18 +204,13 @@ pub extern "C" fn ackbo_mark(book: &[u8], marks: &mut [u8], reply: &mut [i64; 3]
     ensures { λ _. ⌜ now (marks .exit) ≡ marked (now (book .entry)) (now (marks .entry)) .output ⌝ }
 {
     match marking::mark::mark(book, marks) {
-        MarkReply::Accepted(summary) => put_counts(
-            reply,
-            summary.rules,
-            summary.decreasing,
-            summary.score,
-        ),
+        MarkReply::Accepted(file) => put_counts(reply, file.rules, file.decreasing, file.score),
         MarkReply::Refused(error) => put_error(reply, error.code, error.input, error.offset),
     }
 }
 
 #[no_mangle]
-pub extern "C" fn ackbo_page(book: &[u8], page: &mut [u8], reply: &mut [i64; 3]) -> u8
+pub extern "C" fn ackbo_page(book: &[u8], page: &mut [u8], reply: &mut Values) -> u8
     ensures { λ r. ⌜ r ≡ codeOf (paged (now (book .entry)) (now (page .entry)) .reply) ⌝ }
     ensures { λ _. ⌜
         now (reply .exit)

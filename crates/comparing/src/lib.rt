@@ -12,16 +12,12 @@ ghost use Rattle.operations.specs.Enums.{compareReply};
 ghost use Rattle.words.specs.Terms.{readerOf};
 ghost use Rattle.comparing.specs.Related.{RelatedRead};
 use inputs::Ends;
-use inputs::read_inputs;
 use measures::SUMS;
-use measures::nodes::node_sums;
 use measures::sums::sum_up;
 use measures::totals::margin;
 use operations::CompareReply;
 use operations::Comparison;
-use operations::Error;
 use order::relation::relation;
-use symbols::TABLE_WORDS;
 
 mod variables;
 
@@ -34,7 +30,7 @@ pub enum Related {
         left: usize,
         right: usize,
     },
-    Refused(Error),
+    Refused(operations::Error),
 }
 
 // Compares two terms that were read.
@@ -49,7 +45,7 @@ fn compare_read(table: &[u16], left: &[u16], right: &[u16]) -> Comparison
 {
     let mut left_sums = [0u64; SUMS];
     let mut right_sums = [0u64; SUMS];
-    let adds = node_sums(table);
+    let adds = measures::nodes::node_sums(table);
     let s = sum_up(table, &adds, left, &mut left_sums);
     let t = sum_up(table, &adds, right, &mut right_sums);
     Comparison {
@@ -65,8 +61,8 @@ pub fn relate(book: &[u8], left: &[u16], right: &[u16], whole: bool) -> Related
         RelatedRead (readInputs (readerOf whole) (now (book .entry)) (now (left .entry)) (now (right .entry))) r
         ⌝ }
 {
-    let mut table = [0u16; TABLE_WORDS];
-    match read_inputs(book, left, right, whole, &mut table) {
+    let mut table = [0u16; symbols::TABLE_WORDS];
+    match inputs::read_inputs(book, left, right, whole, &mut table) {
         Ends::Refused(error) => Related::Refused(error),
         Ends::Read {
             front,

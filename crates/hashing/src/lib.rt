@@ -13,9 +13,7 @@ ghost use Rattle.hashing.specs.Entries.{rootIn, keptIn, fingerprintIn, a
 use answers::Answer;
 use format::MAX_NODES;
 use operations::NumberReply;
-use symbols::arity;
 use symbols::is_ac;
-use symbols::long;
 
 // How many words there are, of 16 bits.
 const WORDS: u64 = 0x1_0000;
@@ -122,7 +120,7 @@ fn gathered(table: &[u16], word: u16, entries: &[u64]) -> u32
 fn entry(kept: u32, word: u16) -> u64
     ensures { λ r. ⌜ r ≡ entryWith kept word ⌝ }
 {
-    WORDS * (kept as u64) + long(word)
+    WORDS * (kept as u64) + symbols::long(word)
 }
 
 // The fingerprint of a term. The end of the stack has the entries of the terms that stand to the right of a node; the
@@ -141,7 +139,7 @@ pub fn hash(table: &[u16], words: &[u16]) -> u32
     while i > 0 {
         i -= 1;
         let word = words[i];
-        let end = top + arity(table, word);
+        let end = top + symbols::arity(table, word);
         let kept = gathered(table, word, &stack[top..end]);
         top = end - 1;
         stack[top] = entry(kept, word);

@@ -6,10 +6,8 @@ ghost use lib.Seq.{sets};
 ghost use Rattle.operations.specs.Score.{scoreOf};
 ghost use Rattle.operations.specs.Report.{summaryLines, report as reportOf};
 ghost use Rattle.text.specs.Put.{Put};
-use crate::lines::long;
-use crate::lines::put_count;
+use crate::lines;
 use crate::lines::put_refusal;
-use crate::lines::put_rules;
 use crate::mark::score;
 use crate::walk::FileMarked;
 
@@ -26,7 +24,7 @@ fn put_summary(out: &mut [u8], at: usize, decreasing: usize, rules: usize) -> us
         ⌝ }
     ensures { λ r. ⌜ r ≤ at + 25 ⌝ }
 {
-    let next = put_count(out, at, b"score", score(decreasing, rules) as u64);
+    let next = lines::put_count(out, at, b"score", score(decreasing, rules) as u64);
     if decreasing == rules {
         return text::put_bytes(out, next, b"accepted\n");
     }
@@ -41,10 +39,10 @@ pub fn report(book: &[u8], out: &mut [u8; TEXT_BYTES]) -> usize
     let mut marks = [0u8; format::MAX_RULES];
     let mut margins = [0i64; format::MAX_RULES];
     match crate::walk::mark_file(book, &mut marks, &mut margins) {
-        FileMarked::Fault { code, offset } => put_refusal(out, long(code), offset as u64),
+        FileMarked::Fault { code, offset } => put_refusal(out, lines::long(code), offset as u64),
         FileMarked::Marked { rules, decreasing } => {
-            let start = put_count(out, 0, b"rules", rules as u64);
-            let end = put_rules(out, start, &marks[..rules], &margins[..rules]);
+            let start = lines::put_count(out, 0, b"rules", rules as u64);
+            let end = lines::put_rules(out, start, &marks[..rules], &margins[..rules]);
             put_summary(out, end, decreasing, rules)
         }
     }

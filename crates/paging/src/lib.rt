@@ -9,6 +9,7 @@ ghost use Rattle.operations.specs.Paging.{paged, board as boardText};
 ghost use Rattle.operations.specs.Enums.{numberReply};
 ghost use Rattle.text.specs.Put.{Put};
 ghost use Rattle.paging.specs.Entries.{entries};
+use answers::refusal;
 use marking::walk::FileMarked;
 use operations::NumberReply;
 use text::put_left_set;
@@ -88,15 +89,11 @@ pub fn page(book: &[u8], page: &mut [u8]) -> NumberReply
     let mut marks = [0u8; format::MAX_RULES];
     let mut margins = [0i64; format::MAX_RULES];
     match marking::walk::mark_file(book, &mut marks, &mut margins) {
-        FileMarked::Fault { code, offset } => NumberReply::Refused(answers::refusal(
-            code,
-            0,
-            offset,
-        )),
+        FileMarked::Fault { code, offset } => NumberReply::Refused(refusal(code, 0, offset)),
         FileMarked::Marked { rules, .. } => {
             let count = LINE_BYTES * rules;
             if page.len() < count {
-                return NumberReply::Refused(answers::refusal(format::PAGE_TOO_SHORT, 1, 0));
+                return NumberReply::Refused(refusal(format::PAGE_TOO_SHORT, 1, 0));
             }
             put_lines(page, &marks[..rules], &margins[..rules]);
             NumberReply::Accepted(count)

@@ -3,7 +3,6 @@ ghost use mathlib.Core.Path.{_≡_};
 ghost use Rattle.operations.specs.Picking.{picked, ofGreater, greaterPart};
 ghost use Rattle.operations.specs.Enums.{pickReply};
 use comparing::Related;
-use comparing::relate;
 use operations::GreaterSide;
 use operations::PickReply;
 use operations::Relation;
@@ -12,7 +11,7 @@ use operations::Relation;
 pub fn greater_side(book: &[u8], left: &[u16], right: &[u16]) -> PickReply
     ensures { λ r. ⌜ pickReply r ≡ picked (now (book .entry)) (now (left .entry)) (now (right .entry)) ⌝ }
 {
-    match relate(book, left, right, false) {
+    match comparing::relate(book, left, right, false) {
         Related::Refused(error) => PickReply::Refused(error),
         Related::Read { found, left, right } => {
             let relation = found.relation;

@@ -14,7 +14,7 @@ put-counts-requires c κs =
     let a = c10 .args in
     let small = marked-small (a .book .now) (a .marks .now) in
     let gave = c6 .mark .ensures .0 in
-    let reply = rw (c .before .before .summary .given .1) at gave in (
+    let reply = rw (c .before .before .file .given .1) at gave in (
       value-small (λ s. s .rules) _ (small (λ s. s .rules) rules-small) _ reply,
       value-small (λ s. s .decreasing) _ (small (λ s. s .decreasing) decreasing-small) _ reply,
       value-small (λ s. s .score) _ (small (λ s. s .score) score-small) _ reply,
@@ -37,7 +37,7 @@ returns c =
     let entry =
     c11 .args .reply .now in
     let gave = c7 .mark .ensures in
-    let reply = rw (c3 .summary .given .1) at (gave .0) in
+    let reply = rw (c3 .file .given .1) at (gave .0) in
     let (code, values) =
     accepts summaryValues _ _ entry _ _ reply (c .put-counts .ensures .0) (c .put-counts .ensures .1) in
     (code, (values, gave .1))

@@ -16,7 +16,6 @@ pub fn put_byte(out: &mut [u8], at: usize, byte: u8) -> usize
 {
     if at < out.len() {
         out[at] = byte;
-        return at + 1;
     }
     at + 1
 }

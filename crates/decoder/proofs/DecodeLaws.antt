@@ -1,5 +1,6 @@
 -- What the code that decodes has to show.
---     word-count, words-few, both-fit, sheet-words      a file whose words were stored in two parts
+--     stored-parts                                      two parts stored one after the other
+--     word-count, words-few, nodes-few, sheet-words     a file whose words were stored in two parts
 --     sheet-unstored, sheet-stored                      its sheet, where there is no room, and where there is
 --     decode-fault, decode-short, decode-written        the reply and the words afterwards
 use mathlib.Core.Path.{_≡_, refl, sym, ap, _∙_}
@@ -31,6 +32,14 @@ use Rattle.reader.specs.File.{PackedParts, rulesIn}
 use Rattle.decoder.specs.Sheet.{fileIn, Unpacked}
 
 -- ---- a file whose words were stored in two parts
+
+pub stored-parts : (words half whole table nodes : List ℕ) (front count : ℕ) → front ≤ length table →
+    half ≡ sets words 0 (take front table) → whole ≡ sets half front (take count nodes) →
+    whole ≡ sets words 0 (take front table ++ take count nodes)
+stored-parts words half whole table nodes front count room first second =
+    let n : front ≡ 0 + length (take front table) = omega (arith, length-take-le front table room) in
+    second ∙ ap (λ (i : ℕ). sets half i (take count nodes)) n
+    ∙ rw first (sym (sets-append words 0 (take front table) (take count nodes)))
 
 as-many : (form : ℕ) (rules : List Sides) → length (rulesIn form rules) ≡ length rules
 as-many form rules = byTest (eqb form firstForm) (λ e. rw e (length-map rules _)) λ e. rw e
@@ -68,17 +77,8 @@ module _ (form : ℕ) (bytes table before after : List ℕ) (file : RuleFile) (n
   )
 
   module _ (room : length bytes ≤ maxBytes → 8 * length bytes ≤ 5 * length before) where
-    nodes-few : nodes ≤ length before
+    pub nodes-few : nodes ≤ length before
     nodes-few = omega (arith, parts .narrow, room (parts .short))
-
-    -- Both parts stand where they are kept.
-    pub both-fit : maxTableWords ≤ length table → length after ≡ length before → (front ≤ length table)
-        × (nodes ≤ length after) × (length (take front table) ≡ front) × (length (take nodes after) ≡ nodes)
-        × (front ≤ maxTableWords) × (nodes ≤ length before)
-    both-fit long same =
-        let few : front ≤ length table = omega (arith, parts .few) in
-        let some : nodes ≤ length after = omega (arith, nodes-few) in
-        (few, some, length-take-le front table few, length-take-le nodes after some, parts .few, nodes-few)
 
     nodes-front : take nodes after ≡ rulesWords (rulesIn form (file .rules))
     nodes-front =
@@ -89,28 +89,23 @@ module _ (form : ℕ) (bytes table before after : List ℕ) (file : RuleFile) (n
     sheet-words : take front table ++ take nodes after ≡ unpacked (fileIn form file)
     sheet-words = rw (parts .words, nodes-front, unpacked-parts (fileIn form file), as-many form (file .rules))
 
-    -- They were stored one after the other.
-    pub sheet-stored : (words half whole : List ℕ) (end : ℕ) (reading : Reading RuleFile) → reading ≡ got file end →
-        front ≤ length table → front + nodes ≤ length words → half ≡ sets words 0 (take front table) →
-        whole ≡ sets half front (take nodes after) →
+    -- They were stored.
+    pub sheet-stored : (words whole : List ℕ) (end : ℕ) (reading : Reading RuleFile) → reading ≡ got file end →
+        front + nodes ≤ length words → whole ≡ sets words 0 (take front table ++ take nodes after) →
         Unpacked form bytes reading (Got (front + nodes) front) words whole
-    sheet-stored words half whole end reading read room fits first second =
-        let n : front ≡ 0 + length (take front table) = omega (arith, length-take-le front table room) in
-        let all : whole ≡ sets words 0 (take front table ++ take nodes after) =
-        second ∙ ap (λ (i : ℕ). sets half i (take nodes after)) n
-        ∙ rw first (sym (sets-append words 0 (take front table) (take nodes after))) in (
-          file,
-          end,
-          read,
-          record {
-            size = word-count;
-            begin = parts .size;
-            short = parts .short;
-            few = words-few;
-            stored = λ h. all ∙ rw sheet-words;
-            kept = λ h. absurd (omega arith);
-          },
-        )
+    sheet-stored words whole end reading read fits all = (
+      file,
+      end,
+      read,
+      record {
+        size = word-count;
+        begin = parts .size;
+        short = parts .short;
+        few = words-few;
+        stored = λ h. all ∙ rw sheet-words;
+        kept = λ h. absurd (omega arith);
+      },
+    )
 
 -- ---- the reply and the words afterwards
 

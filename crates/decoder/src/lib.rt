@@ -1,7 +1,9 @@
 // Decoding: a packed file as words, a word for each field.
 ghost use mathlib.Core.Path.{_≡_};
-ghost use Prim.Native.Nat.{_*_, _≤_};
-ghost use lib.ListN.{length};
+ghost use mathlib.Core.List.{_++_};
+ghost use Prim.Native.Nat.{_+_, _*_, _≤_};
+ghost use lib.ListN.{length, take};
+ghost use lib.Seq.{sets};
 ghost use Rattle.format.specs.Layout.{maxBytes};
 ghost use Rattle.format.specs.Files.{readBytesIn};
 ghost use Rattle.operations.specs.Coding.{decoded};
@@ -11,6 +13,18 @@ use answers::Answer;
 use answers::refusal;
 use operations::NumberReply;
 use sides::put_words;
+
+// Stores the words of a sheet, so many from the front of a table and so many nodes after them.
+fn put_sheet(words: &mut [u16], table: &[u16], front: usize, nodes: &[u16], count: usize)
+    requires { ⌜ (front ≤ length (now table)) × (count ≤ length (now nodes)) × (front + count ≤ length (now words)) ⌝ }
+    ensures { λ _. ⌜
+        now (words .exit)
+        ≡ sets (now (words .entry)) 0 (take front (now (table .entry)) ++ take count (now (nodes .entry)))
+        ⌝ }
+{
+    put_words(words, 0, &table[..front]);
+    put_words(words, front, &nodes[..count]);
+}
 
 // Reads a packed file of that form, and stores its sheet at the front of the words, where there is room for it. The
 // nodes are kept elsewhere until no fault is left to find. The value is how many words the sheet has, and in place of
@@ -31,8 +45,7 @@ fn unpack_through(book: &[u8], form: u16, nodes: &mut [u16], words: &mut [u16]) 
     if words.len() < total {
         return Answer::Got { value: total, next };
     }
-    put_words(words, 0, &table[..next]);
-    put_words(words, next, &nodes[..value]);
+    put_sheet(words, &table, next, nodes, value);
     Answer::Got { value: total, next }
 }
 

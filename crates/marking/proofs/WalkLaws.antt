@@ -20,8 +20,8 @@ use Rattle.format.specs.Format.{Sides, RuleFile, ruleReader, rulesReader, syste
 use Rattle.reader.proofs.RuleLaws.{Done, done-none, done-fault, done-more, done-all}
 use Rattle.operations.specs.Marking.{marksOf, marginsOf, isDecreasing, decreasingCount}
 use Rattle.marking.specs.declared.rule.MarkedRule.{MarkedRule}
+use Rattle.answers.specs.declared.Answer.the-variants.{Got, Fault}
 use Rattle.marking.specs.declared.rule.RuleReading.the-variants as rule
-use Rattle.marking.specs.declared.walk.RulesMarked.the-variants as rules
 use Rattle.marking.specs.Rule.{sidesMark, sidesMargin, MarksRead, Listed, AllMarked, MarkedAs}
 
 abbrev pub sidesThemselves : Sides → Sides
@@ -66,7 +66,7 @@ module _ (source : Source) (unused : ℕ) (σ : Signature) (count start : ℕ) (
       (so : ListedSoFar i at decreasing marks margins) where
     pub listed-fault : i < count → (code offset : ℕ) (marks' : List ℕ) (margins' : List ℤ) →
         ruleReader source unused σ at ≡ fault code offset →
-        AllMarked σ (rulesReader source unused σ count start) (rules.Fault code offset) marks₀ marks' margins₀ margins'
+        AllMarked σ (rulesReader source unused σ count start) (Fault offset code) marks₀ marks' margins₀ margins'
     listed-fault h code offset marks' margins' e =
         done-fault source unused σ count start i at (so .0) (so .1) h code offset e
 
@@ -90,7 +90,7 @@ module _ (source : Source) (unused : ℕ) (σ : Signature) (count start : ℕ) (
         )
 
     pub listed-all : count ≤ i → (next : ℕ) → next ≡ at →
-        AllMarked σ (rulesReader source unused σ count start) (rules.Marked decreasing next) marks₀ marks margins₀
+        AllMarked σ (rulesReader source unused σ count start) (Got decreasing next) marks₀ marks margins₀
         margins
     listed-all h next same =
         let (done, d, l, so') = so in (done, rw same (done-all source unused σ count start i at done d h), so')

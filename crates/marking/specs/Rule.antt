@@ -15,9 +15,9 @@ use Rattle.operations.specs.Marking.{marksOf, marginsOf, decreasingCount}
 use Rattle.symbols.specs.Table.{signatureOf, maxTableWords}
 use Rattle.marking.specs.declared.rule.MarkedRule.{MarkedRule}
 use Rattle.marking.specs.declared.rule.RuleReading.{RuleReading}
+use Rattle.answers.specs.declared.Answer.{Answer}
+use Rattle.answers.specs.declared.Answer.the-variants.{Got, Fault}
 use Rattle.marking.specs.declared.rule.RuleReading.the-variants as rule
-use Rattle.marking.specs.declared.walk.RulesMarked.{RulesMarked}
-use Rattle.marking.specs.declared.walk.RulesMarked.the-variants as rules
 use Rattle.marking.specs.declared.walk.FileMarked.{FileMarked}
 use Rattle.marking.specs.declared.walk.FileMarked.the-variants as file
 
@@ -51,20 +51,15 @@ module _ (σ : Signature) where
       pub margins : margins₁ ≡ sets margins₀ 0 (map sidesMargin rules)
 
   -- What was read of all rules, the answer, and the lists before and after.
-  abbrev pub AllMarked : Reading (List Sides) → RulesMarked → List ℕ → List ℕ → List ℤ → List ℤ → Type 0
-  AllMarked reading (rules.Marked decreasing next) marks₀ marks margins₀ margins =
+  abbrev pub AllMarked : Reading (List Sides) → Answer → List ℕ → List ℕ → List ℤ → List ℤ → Type 0
+  AllMarked reading (Got decreasing next) marks₀ marks margins₀ margins =
       (rs : List Sides) × (reading ≡ got rs (next)) × Listed rs decreasing marks₀ marks margins₀ margins
-  AllMarked reading (rules.Fault code offset) marks₀ marks margins₀ margins = reading ≡ fault code offset
+  AllMarked reading (Fault offset code) marks₀ marks margins₀ margins = reading ≡ fault code offset
 
 -- The rule ends by that offset.
 abbrev pub MarkedWithin : ℕ → RuleReading → Type 0
 MarkedWithin end (rule.Got m) = m .next ≤ end
 MarkedWithin end (rule.Fault code offset) = Unit {0}
-
--- That many rules decrease at most, and the last ends by that offset.
-abbrev pub AllWithin : ℕ → ℕ → RulesMarked → Type 0
-AllWithin most end (rules.Marked decreasing next) = (decreasing ≤ most) × (next ≤ end)
-AllWithin most end (rules.Fault code offset) = Unit {0}
 
 -- A file's rules are counted, with those that decrease, and their marks and margins stand first in the lists, as far as
 -- there is room.

@@ -11,17 +11,12 @@ ghost use Rattle.format.specs.Files.{readBytes};
 ghost use Rattle.operations.specs.Marking.{decreasingCount};
 ghost use Rattle.symbols.specs.Table.{signatureOf};
 ghost use Rattle.symbols.specs.Arities.{Arities};
+ghost use Rattle.answers.specs.Answer.{Within};
 ghost use Rattle.measures.specs.Nodes.{NodeSums};
 ghost use Rattle.reader.specs.File.{restReader};
-ghost use Rattle.marking.specs.Rule.{IsTable, AllMarked, AllWithin, WholeMarked};
+ghost use Rattle.marking.specs.Rule.{IsTable, AllMarked, WholeMarked};
 use crate::rule::RuleReading;
 use answers::Answer;
-
-// How many rules decrease and the offset past them, or an error's code and offset.
-pub enum RulesMarked {
-    Marked { decreasing: usize, next: usize },
-    Fault { code: u8, offset: usize },
-}
 
 // How many rules a file has and how many of them decrease, or an error's code and offset.
 pub enum FileMarked {
@@ -60,7 +55,7 @@ fn put_margin(margins: &mut [i64], index: usize, margin: i64)
     }
 }
 
-// Reads that many rules, marks them and counts those that decrease.
+// Reads that many rules, marks them and counts those that decrease; the value is that count.
 fn mark_rules(
     book: &[u8],
     table: &[u16],
@@ -70,7 +65,7 @@ fn mark_rules(
     margins: &mut [i64],
     count: usize,
     at: usize,
-) -> RulesMarked
+) -> Answer
     requires { ⌜ (length (now book) ≤ maxBytes) × (at ≤ 8 * length (now book)) ⌝ }
     requires { ⌜
         IsTable (now table) × Arities (signatureOf (now table)) (now arities)
@@ -82,14 +77,14 @@ fn mark_rules(
         (rulesReader (bitSource (now (book .entry))) (unusedOf formNumber) (signatureOf (now (table .entry))) count (at))
         r (now (marks .entry)) (now (marks .exit)) (now (margins .entry)) (now (margins .exit))
         ⌝ }
-    ensures { λ r. ⌜ AllWithin count (8 * length (now (book .entry))) r ⌝ }
+    ensures { λ r. ⌜ Within count (8 * length (now (book .entry))) r ⌝ }
 {
     let mut here = at;
     let mut decreasing = 0;
     let mut i = 0;
     while i < count {
         match crate::rule::mark_rule(book, table, arities, adds, here) {
-            RuleReading::Fault { code, offset } => return RulesMarked::Fault { code, offset },
+            RuleReading::Fault { code, offset } => return Answer::Fault { code, offset },
             RuleReading::Got(rule) => {
                 put_mark(marks, i, rule.mark);
                 put_margin(margins, i, rule.margin);
@@ -99,8 +94,8 @@ fn mark_rules(
         }
         i += 1;
     }
-    RulesMarked::Marked {
-        decreasing,
+    Answer::Got {
+        value: decreasing,
         next: here,
     }
 }
@@ -124,19 +119,17 @@ fn mark_under(
     let arities = symbols::arities(table);
     let adds = measures::nodes::node_sums(table);
     match mark_rules(book, table, &arities, &adds, marks, margins, count, at) {
-        RulesMarked::Fault { code, offset } => FileMarked::Fault { code, offset },
-        RulesMarked::Marked { decreasing, next } => {
+        Answer::Fault { code, offset } => FileMarked::Fault { code, offset },
+        Answer::Got { value, next } => {
             let cursor = bits::BitCursor { at: next };
             if cursor.is_padding(book) {
                 return FileMarked::Marked {
                     rules: count,
-                    decreasing,
+                    decreasing: value,
                 };
             }
-            FileMarked::Fault {
-                code: format::BAD_PADDING,
-                offset: next,
-            }
+            let code = format::BAD_PADDING;
+            FileMarked::Fault { code, offset: next }
         }
     }
 }

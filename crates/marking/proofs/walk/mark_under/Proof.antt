@@ -39,14 +39,14 @@ returns c =
     let c18 = c8 .before .before .before .before .before .before .before .before .before .before in
     let a = c18 .args in
     let σ = signatureOf (a .table .now) in
-    let read = rw (c3 .decreasing .given .1) at (c8 .mark-rules .ensures .0) in
-    let within = rw (c3 .decreasing .given .1) at (c8 .mark-rules .ensures .1) in
+    let read = rw (c3 .value .given .1) at (c8 .mark-rules .ensures .0) in
+    let within = rw (c3 .value .given .1) at (c8 .mark-rules .ensures .1) in
     let long = rules-length (bitSource (a .book .now)) (unusedOf formNumber) σ (a .count) (a .at) (read .0) _ (read .1)
     in (
       _,
       _,
       rest-ended formNumber true (a .book .now) [] σ (a .count) (a .at) (read .0) _ (read .1)
-          (c3 .decreasing .given .0 .1 .0) (rw (sym (c .before .is-padding .ensures) ∙ c .if1 .taken)),
+          (c3 .value .given .0 .1 .0) (rw (sym (c .before .is-padding .ensures) ∙ c .if1 .taken)),
       marked-as σ (read .0) (a .count) _ _ _ _ _ long (c18 .pre .1 .1) (within .0) (read .2),
     )
 
@@ -57,7 +57,7 @@ returns-2 c =
     let c16 = c6 .before .before .before .before .before .before .before .before .before .before in
     let a = c16 .args in
     rest-unread formNumber true (a .book .now) [] (signatureOf (a .table .now)) (a .count) (a .at) _ _
-    (rw (c .before .code .given .1) at (c6 .mark-rules .ensures .0))
+    (rw (c .before .offset .given .1) at (c6 .mark-rules .ensures .0))
 
 returns-3 : tie.Need-returns-3
 unfolding sourceOf
@@ -66,7 +66,7 @@ returns-3 c =
     let c8 = c3 .before .before .before .before .before in
     let c18 = c8 .before .before .before .before .before .before .before .before .before .before in
     let a = c18 .args in
-    let read = rw (c3 .decreasing .given .1) at (c8 .mark-rules .ensures .0) in
+    let read = rw (c3 .value .given .1) at (c8 .mark-rules .ensures .0) in
     rest-unended formNumber true (a .book .now) [] (signatureOf (a .table .now)) (a .count) (a .at) (read .0) _
     (read .1) _ _
     (rw (sym (c .before .is-padding .ensures) ∙ c .if1 .left))

@@ -22,9 +22,9 @@ abbrev pub endOf : {A : Type 0} → Reading A → Answer
 endOf r = answered (λ _. 0) r
 
 -- The value is below that, and an error's code has six bits and is not 0.
-abbrev pub Fits : ℕ → Answer → Type 0
-Fits bound (Got value next) = value < bound
-Fits bound (Fault offset code) = (0 < code) × (code < 64)
+abbrev pub Below : ℕ → Answer → Type 0
+Below bound (Got value next) = value < bound
+Below bound (Fault offset code) = (0 < code) × (code < 64)
 
 -- The value is at most that, and the end of what was read by that offset.
 abbrev pub Within : ℕ → ℕ → Answer → Type 0

@@ -6,7 +6,7 @@ ghost use Rattle.format.specs.Layout.{maxBytes, tagWidth};
 ghost use Rattle.format.specs.Reading.{bitField, isPadding, bitSource};
 ghost use Rattle.format.specs.Reading.Reading.{got};
 ghost use Rattle.answers.specs.declared.Answer.the-variants.{Got};
-ghost use Rattle.answers.specs.Answer.{readingOf, Fits};
+ghost use Rattle.answers.specs.Answer.{readingOf, Below};
 ghost use Rattle.bits.specs.Cursor.{nodeReading, nodeWords, nodeWidth, nodeWord};
 use answers::Answer;
 use format::FIELD_MISSING;
@@ -66,7 +66,7 @@ fn node_of(nine: u32, tag: u32, at: usize) -> Answer
     ensures { λ r. ⌜
         nodeReading at r ≡ got (record { word = nodeWord nine; offset = at + tagWidth }) (at + nodeWidth nine)
         ⌝ }
-    ensures { λ r. ⌜ Fits nodeWords r ⌝ }
+    ensures { λ r. ⌜ Below nodeWords r ⌝ }
 {
     let unused = 4 * tag;
     Answer::Got {
@@ -80,7 +80,7 @@ impl BitCursor {
     fn late_field(self, book: &[u8], width: usize) -> Answer
         requires { ⌜ (length (now book) ≤ maxBytes) × (width ≤ 16) ⌝ }
         ensures { λ r. ⌜ readingOf (λ (v : ℕ). v) r ≡ bitField (now (book .entry)) width (self .at) ⌝ }
-        ensures { λ r. ⌜ Fits (2 ^ width) r ⌝ }
+        ensures { λ r. ⌜ Below (2 ^ width) r ⌝ }
     {
         let at = self.at;
         let code = FIELD_MISSING;
@@ -95,7 +95,7 @@ impl BitCursor {
     pub fn field(self, book: &[u8], width: usize) -> Answer
         requires { ⌜ (length (now book) ≤ maxBytes) × (width ≤ 16) ⌝ }
         ensures { λ r. ⌜ readingOf (λ (v : ℕ). v) r ≡ bitField (now (book .entry)) width (self .at) ⌝ }
-        ensures { λ r. ⌜ Fits (2 ^ width) r ⌝ }
+        ensures { λ r. ⌜ Below (2 ^ width) r ⌝ }
     {
         let i = self.at / 8;
         if book.len() <= i + 2 {
@@ -109,7 +109,7 @@ impl BitCursor {
     fn late_node(self, book: &[u8]) -> Answer
         requires { ⌜ (length (now book) ≤ maxBytes) × (length (now book) ≤ self .at / 8 + 1) ⌝ }
         ensures { λ r. ⌜ nodeReading (self .at) r ≡ bitSource (now (book .entry)) .node (self .at) ⌝ }
-        ensures { λ r. ⌜ Fits nodeWords r ⌝ }
+        ensures { λ r. ⌜ Below nodeWords r ⌝ }
     {
         let at = self.at;
         let code = FIELD_MISSING;
@@ -129,7 +129,7 @@ impl BitCursor {
     pub fn node(self, book: &[u8]) -> Answer
         requires { ⌜ length (now book) ≤ maxBytes ⌝ }
         ensures { λ r. ⌜ nodeReading (self .at) r ≡ bitSource (now (book .entry)) .node (self .at) ⌝ }
-        ensures { λ r. ⌜ Fits nodeWords r ⌝ }
+        ensures { λ r. ⌜ Below nodeWords r ⌝ }
     {
         let at = self.at;
         let index = at / 8;

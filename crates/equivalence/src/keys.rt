@@ -45,7 +45,7 @@ fn key_at(keys: &[u64; MAX_NODES], i: usize) -> u64
     requires { ⌜ length (now keys) ≡ 128 ⌝ }
     ensures { λ r. ⌜ r ≡ getD (now (keys .entry)) i 0 ⌝ }
 {
-    if i < 128 { keys[i] } else { 0 }
+    if i < MAX_NODES { keys[i] } else { 0 }
 }
 
 // The size of the term at an offset.

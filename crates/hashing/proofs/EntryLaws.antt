@@ -19,7 +19,7 @@ use Rattle.terms.specs.Fingerprint.{rowFactor, bagFactor, wrapped, inRow, inBag
 use Rattle.terms.proofs.TermLaws.{row-arguments}
 use Rattle.terms.proofs.FingerprintLaws.{inRow-lt, inBag-append, fingerprint-var, fingerprint-app}
 use Rattle.equivalence.specs.Keys.{rootWord}
-use Rattle.hashing.specs.Entries.{rootIn, keptIn, keptOf, entryOf, fingerprintIn, addedIn, keptBy}
+use Rattle.hashing.specs.Entries.{rootIn, keptIn, keptOf, termEntry, fingerprintIn, addedIn, keptBy}
 
 module _ (σ : Signature) (few : length (σ .symbols) ≤ firstVariable) where
   pub past-last : (w : ℕ) → firstVariable ≤ w →
@@ -38,10 +38,10 @@ module _ (σ : Signature) (few : length (σ .symbols) ≤ firstVariable) where
       byTest (symbolOf σ f .ac) (λ a. rw a (omega arith))
       λ a. rw a (inRow-lt (fingerprint σ) (row ts) (f + 1) (omega (arith, w .0)))
 
-  rootIn-entry : (t : Term) → WellFormed σ t → rootIn (entryOf σ t) ≡ rootWord t
+  rootIn-entry : (t : Term) → WellFormed σ t → rootIn (termEntry σ t) ≡ rootWord t
   rootIn-entry t w = omega (arith, root-small t w)
 
-  keptIn-entry : (t : Term) → WellFormed σ t → keptIn (entryOf σ t) ≡ keptOf σ t
+  keptIn-entry : (t : Term) → WellFormed σ t → keptIn (termEntry σ t) ≡ keptOf σ t
   keptIn-entry t w = omega (arith, root-small t w, kept-small t w)
 
   -- The fingerprint by the root and by what is kept.
@@ -52,7 +52,7 @@ module _ (σ : Signature) (few : length (σ .symbols) ≤ firstVariable) where
       byTest (symbolOf σ f .ac) (λ a. fingerprint-app σ f ts ∙ rw a (omega arith))
       λ a. fingerprint-app σ f ts ∙ rw a
 
-  pub fingerprintIn-entry : (t : Term) → WellFormed σ t → fingerprintIn σ (entryOf σ t) ≡ fingerprint σ t
+  pub fingerprintIn-entry : (t : Term) → WellFormed σ t → fingerprintIn σ (termEntry σ t) ≡ fingerprint σ t
   unfolding fingerprintIn
   fingerprintIn-entry t w = rw (rootIn-entry t w, keptIn-entry t w) (sym (by-kept t))
 
@@ -65,12 +65,12 @@ module _ (σ : Signature) (few : length (σ .symbols) ≤ firstVariable) where
         let a : symbolOf σ g .ac ≡ true = ap (λ (h : ℕ). symbolOf σ h .ac) (sym e) ∙ ac in rw (a, e) refl
 
     added-entry : (t : Term) → WellFormed σ t →
-        addedIn σ f (entryOf σ t) ≡ cond (eqb f (rootWord t)) (keptOf σ t) (fingerprint σ t)
+        addedIn σ f (termEntry σ t) ≡ cond (eqb f (rootWord t)) (keptOf σ t) (fingerprint σ t)
     unfolding addedIn
     added-entry t w = rw (rootIn-entry t w, keptIn-entry t w, fingerprintIn-entry t w)
 
     added-bag : (t : Term) → WellFormed σ t →
-        wrapped (addedIn σ f (entryOf σ t)) ≡ wrapped (inBag (fingerprint σ) (flattening f t))
+        wrapped (addedIn σ f (termEntry σ t)) ≡ wrapped (inBag (fingerprint σ) (flattening f t))
     added-bag (var x) w =
         let z = fingerprint-var σ x in
         rw (added-entry (var x) w)
@@ -80,7 +80,7 @@ module _ (σ : Signature) (few : length (σ .symbols) ≤ firstVariable) where
         (byTest (eqb f g) (λ e. rw e (omega (arith, own-kept g ts (eqb-true f g e)))) λ e. rw e (omega arith))
 
     added-entries : (l : List Term) → WellFormeds σ (arguments l) →
-        wrapped (inBag (addedIn σ f) (map (entryOf σ) l))
+        wrapped (inBag (addedIn σ f) (map (termEntry σ) l))
         ≡ wrapped (inBag (fingerprint σ) (flattenings f (arguments l)))
     added-entries [] w = refl
     added-entries (t ∷ l) w =
@@ -92,15 +92,15 @@ module _ (σ : Signature) (few : length (σ .symbols) ≤ firstVariable) where
         )
 
   row-entries : (l : List Term) (v : ℕ) → WellFormeds σ (arguments l) →
-      inRow (fingerprintIn σ) v (map (entryOf σ) l) ≡ inRow (fingerprint σ) v l
+      inRow (fingerprintIn σ) v (map (termEntry σ) l) ≡ inRow (fingerprint σ) v l
   row-entries [] v w = refl
   row-entries (t ∷ l) v w =
-      ap (λ (x : ℕ). inRow (fingerprintIn σ) (wrapped (rowFactor * v + x)) (map (entryOf σ) l))
+      ap (λ (x : ℕ). inRow (fingerprintIn σ) (wrapped (rowFactor * v + x)) (map (termEntry σ) l))
       (fingerprintIn-entry t (w .0))
       ∙ row-entries l (wrapped (rowFactor * v + fingerprint σ t)) (w .1)
 
   pub keptBy-symbol : (f : ℕ) (l : List Term) → WellFormeds σ (arguments l) →
-      keptBy σ f (map (entryOf σ) l) ≡ keptOf σ (app f (arguments l))
+      keptBy σ f (map (termEntry σ) l) ≡ keptOf σ (app f (arguments l))
   unfolding keptBy
   keptBy-symbol f l w =
       byTest (symbolOf σ f .ac) (λ a. rw a (added-entries f a l w))

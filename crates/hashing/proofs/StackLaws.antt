@@ -20,7 +20,7 @@ use Rattle.terms.specs.Fingerprint.{fingerprint}
 use Rattle.format.specs.Statements.{IsTerm}
 use Rattle.equivalence.proofs.PartLaws.{grown, inner-stand, stands, stand-one, complete-drop}
 use Rattle.equivalence.proofs.FormedLaws.{term-complete, term-some, take-formed, forest-formed}
-use Rattle.hashing.specs.Entries.{entryWith, entryOf, fingerprintIn, keptBy}
+use Rattle.hashing.specs.Entries.{entryWith, termEntry, fingerprintIn, keptBy}
 use Rattle.hashing.proofs.EntryLaws.{past-last, fingerprintIn-entry, keptBy-symbol, keptBy-variable}
 
 -- ---- lists
@@ -45,7 +45,7 @@ pub record Stacked (σ : Signature) (ws stack : List ℕ) (top i : ℕ) : Type 0
   pub inside : i ≤ length ws
   pub within : top ≤ 128
   pub room : length stack ≡ 128
-  pub entries : drop top stack ≡ map (entryOf σ) (forestOf σ (drop i ws))
+  pub entries : drop top stack ≡ map (termEntry σ) (forestOf σ (drop i ws))
 
 module _ (σ : Signature) (few : length (σ .symbols) ≤ firstVariable) where
   -- ---- a node
@@ -59,7 +59,7 @@ module _ (σ : Signature) (few : length (σ .symbols) ≤ firstVariable) where
       λ h. rw (le-ltb w firstVariable h, past-last σ few w h)
 
   node-entry : (w : ℕ) (ts : List Term) → WellFormeds σ (arguments ts) →
-      entryWith (keptBy σ w (map (entryOf σ) (take (symbolOf σ w .arity) ts))) w ≡ entryOf σ (nodeOf w ts)
+      entryWith (keptBy σ w (map (termEntry σ) (take (symbolOf σ w .arity) ts))) w ≡ termEntry σ (nodeOf w ts)
   node-entry w ts f =
       byOrder w firstVariable
       (λ h. rw (
@@ -89,7 +89,7 @@ module _ (σ : Signature) (few : length (σ .symbols) ≤ firstVariable) where
 
     as-many : length terms ≡ 128 - top
     as-many =
-        sym (length-map terms (entryOf σ)) ∙ ap length (sym (h .entries)) ∙ length-drop top stack
+        sym (length-map terms (termEntry σ)) ∙ ap length (sym (h .entries)) ∙ length-drop top stack
         ∙ omega (arith, h .room)
 
     enough : count ≤ length terms
@@ -112,20 +112,20 @@ module _ (σ : Signature) (few : length (σ .symbols) ≤ firstVariable) where
     abbrev end : ℕ
     end = top + count
 
-    front : take (end - top) (drop top stack) ≡ map (entryOf σ) (take count terms)
+    front : take (end - top) (drop top stack) ≡ map (termEntry σ) (take count terms)
     front =
         let many : end - top ≡ count = omega arith in
-        ap (λ (m : ℕ). take m (drop top stack)) many ∙ ap (take count) (h .entries) ∙ take-map (entryOf σ) count terms
+        ap (λ (m : ℕ). take m (drop top stack)) many ∙ ap (take count) (h .entries) ∙ take-map (termEntry σ) count terms
 
-    rest : drop (end - 1 + 1) stack ≡ map (entryOf σ) (drop count terms)
+    rest : drop (end - 1 + 1) stack ≡ map (termEntry σ) (drop count terms)
     rest =
         let up : end - 1 + 1 ≡ end = omega (arith, fits) in
         ap (λ (m : ℕ). drop m stack) up ∙ sym (drop-drop count top stack) ∙ ap (drop count) (h .entries)
-        ∙ drop-map (entryOf σ) count terms
+        ∙ drop-map (termEntry σ) count terms
 
     module _ {kept entry : ℕ} (e : kept ≡ keptBy σ word (take (end - top) (drop top stack)))
         (d : entry ≡ entryWith kept word) where
-      here : entry ≡ entryOf σ (nodeOf word terms)
+      here : entry ≡ termEntry σ (nodeOf word terms)
       here =
           d ∙ ap (λ (v : ℕ). entryWith v word) (e ∙ ap (keptBy σ word) front)
           ∙ node-entry word terms (forest-formed σ few (drop k ws) (complete-drop σ ws k (term-complete σ few p)))
@@ -137,7 +137,7 @@ module _ (σ : Signature) (few : length (σ .symbols) ≤ firstVariable) where
         room = simp length-set (h .room);
         entries =
             drop-set stack (end - 1) entry (omega (arith, fits, h .room)) ∙ ap₂ _∷_ here rest
-            ∙ sym (ap (map (entryOf σ)) words-grown);
+            ∙ sym (ap (map (termEntry σ)) words-grown);
       }
 
 -- ---- what the loop keeps
@@ -174,7 +174,7 @@ module _ {σ : Signature} {ws stack : List ℕ} {top : ℕ} (p : IsTerm σ ws) (
         arith,
         some-term,
         h .room,
-        length-map (forestOf σ ws) (entryOf σ),
+        length-map (forestOf σ ws) (termEntry σ),
         ap length (h .entries),
         length-drop top stack,
       )
@@ -184,5 +184,5 @@ module _ {σ : Signature} {ws stack : List ℕ} {top : ℕ} (p : IsTerm σ ws) (
   stack-end few =
       let first : getD stack top 0 ≡ getD (drop top stack) 0 0 = sym (getD-drop top stack 0 0 ∙ rw add-zero) in
       ap (fingerprintIn σ)
-      (first ∙ ap (λ (l : List ℕ). getD l 0 0) (h .entries) ∙ first-map (entryOf σ) (forestOf σ ws) some-term)
+      (first ∙ ap (λ (l : List ℕ). getD l 0 0) (h .entries) ∙ first-map (termEntry σ) (forestOf σ ws) some-term)
       ∙ fingerprintIn-entry σ few (termOf σ ws) (p .wellFormed)

@@ -28,8 +28,8 @@ module _ (σ : Signature) where
       cond (symbolOf σ f .ac) (wrapped (inBag (fingerprint σ) (flattenings f ts)))
       (inRow (fingerprint σ) (f + 1) (row ts))
 
-  abbrev pub entryOf : Term → ℕ
-  entryOf t = entryWith (keptOf t) (rootWord t)
+  abbrev pub termEntry : Term → ℕ
+  termEntry t = entryWith (keptOf t) (rootWord t)
 
   -- The fingerprint of the term that has the entry.
   unfoldable pub fingerprintIn : ℕ → ℕ

@@ -1,6 +1,6 @@
 -- Occurrences of eight variables as digits of one number: comparing digits compares occurrences.
---     packed-small                               each digit is small
---     packed-first                               the first digit that is greater
+--     digitsOf-small                               each digit is small
+--     digitsOf-first                               the first digit that is greater
 --     counts-small                               the digits in the totals of a term
 --     counted-low, counted-high, counted-none    the first variable that occurs oftener, by the totals of two terms
 use mathlib.Core.Path.{_≡_, refl, ap, _∙_}
@@ -15,34 +15,34 @@ use Rattle.terms.specs.Term.Terms.{nil, cons}
 use Rattle.terms.specs.Oftener.{oftenerFrom, firstOftener}
 use Rattle.terms.proofs.OftenerLaws.{First, oftener-first, first-oftener, first-low, first-high}
 use Rattle.measures.specs.declared.totals.Totals.{Totals}
-use Rattle.measures.specs.Digits.{digit, packed, firstGreater, SmallDigits}
+use Rattle.measures.specs.Digits.{digit, digitsOf, firstGreater, SmallDigits}
 use Rattle.measures.specs.Totals.{Counted, Counts}
 
 -- ---- digits are occurrences
 
-abbrev packeds : ℕ → ℕ → Terms → ℕ
-packeds k n = measures (λ (x : ℕ). digit k n x) (λ (f : ℕ). 0)
+abbrev digitsOfAll : ℕ → ℕ → Terms → ℕ
+digitsOfAll k n = measures (λ (x : ℕ). digit k n x) (λ (f : ℕ). 0)
 
 abbrev occurrencesIn : ℕ → Terms → ℕ
 occurrencesIn x = measures (λ (y : ℕ). cond (eqb x y) 1 0) (λ (f : ℕ). 0)
 
 mutual
-  packed-more : (k n : ℕ) (t : Term) → packed k (suc n) t ≡ occurrences k t + 256 * packed (suc k) n t
-  packed-more k n (var x) = refl
-  packed-more k n (app f ts) = omega (arith, packeds-more k n ts)
+  digitsOf-more : (k n : ℕ) (t : Term) → digitsOf k (suc n) t ≡ occurrences k t + 256 * digitsOf (suc k) n t
+  digitsOf-more k n (var x) = refl
+  digitsOf-more k n (app f ts) = omega (arith, digitsOfAll-more k n ts)
 
-  packeds-more : (k n : ℕ) (ts : Terms) → packeds k (suc n) ts ≡ occurrencesIn k ts + 256 * packeds (suc k) n ts
-  packeds-more k n nil = refl
-  packeds-more k n (cons t ts) = omega (arith, packed-more k n t, packeds-more k n ts)
+  digitsOfAll-more : (k n : ℕ) (ts : Terms) → digitsOfAll k (suc n) ts ≡ occurrencesIn k ts + 256 * digitsOfAll (suc k) n ts
+  digitsOfAll-more k n nil = refl
+  digitsOfAll-more k n (cons t ts) = omega (arith, digitsOf-more k n t, digitsOfAll-more k n ts)
 
 mutual
-  packed-none : (k : ℕ) (t : Term) → packed k 0 t ≡ 0
-  packed-none k (var x) = refl
-  packed-none k (app f ts) = omega (arith, packeds-none k ts)
+  digitsOf-none : (k : ℕ) (t : Term) → digitsOf k 0 t ≡ 0
+  digitsOf-none k (var x) = refl
+  digitsOf-none k (app f ts) = omega (arith, digitsOfAll-none k ts)
 
-  packeds-none : (k : ℕ) (ts : Terms) → packeds k 0 ts ≡ 0
-  packeds-none k nil = refl
-  packeds-none k (cons t ts) = omega (arith, packed-none k t, packeds-none k ts)
+  digitsOfAll-none : (k : ℕ) (ts : Terms) → digitsOfAll k 0 ts ≡ 0
+  digitsOfAll-none k nil = refl
+  digitsOfAll-none k (cons t ts) = omega (arith, digitsOf-none k t, digitsOfAll-none k ts)
 
 mutual
   occurrences-size : (x : ℕ) (t : Term) → occurrences x t ≤ size t
@@ -60,43 +60,43 @@ occurrences-few x (app f ts) h = omega (arith, occurrencesIn-sizes x ts)
 
 module _ (t : Term) (h : size t ≤ 128) where
   -- The lowest digit, and the others.
-  step : (k n : ℕ) → (packed k (suc n) t % 256 ≡ occurrences k t) × (packed k (suc n) t / 256 ≡ packed (suc k) n t)
-  step k n = omega (arith, packed-more k n t, occurrences-few k t h)
+  step : (k n : ℕ) → (digitsOf k (suc n) t % 256 ≡ occurrences k t) × (digitsOf k (suc n) t / 256 ≡ digitsOf (suc k) n t)
+  step k n = omega (arith, digitsOf-more k n t, occurrences-few k t h)
 
-  pub packed-small : (n k : ℕ) → SmallDigits n (packed k n t)
+  pub digitsOf-small : (n k : ℕ) → SmallDigits n (digitsOf k n t)
   unfolding SmallDigits
-  packed-small zero k = packed-none k t
-  packed-small (suc n) k =
-      let (e, d) = step k n in rw (e, d) (occurrences-few k t h, packed-small n (suc k))
+  digitsOf-small zero k = digitsOf-none k t
+  digitsOf-small (suc n) k =
+      let (e, d) = step k n in rw (e, d) (occurrences-few k t h, digitsOf-small n (suc k))
 
 -- The first digit that is greater is that of the first variable that occurs oftener.
-packed-first : (s t : Term) → size s ≤ 128 → size t ≤ 128 → (n k : ℕ) →
-    k + firstGreater n (packed k n s) (packed k n t) ≡ oftenerFrom k n s t
+digitsOf-first : (s t : Term) → size s ≤ 128 → size t ≤ 128 → (n k : ℕ) →
+    k + firstGreater n (digitsOf k n s) (digitsOf k n t) ≡ oftenerFrom k n s t
 unfolding firstGreater oftenerFrom
-packed-first s t p q zero k = omega arith
-packed-first s t p q (suc n) k =
+digitsOf-first s t p q zero k = omega arith
+digitsOf-first s t p q (suc n) k =
     let (a, b) = step s p k n in
     let (c, d) = step t q k n in
     rw (a, b, c, d) (byTest (ltb (occurrences k s) (occurrences k t)) (λ e. rw e (omega arith))
-    λ e. rw e (omega (arith, packed-first s t p q n (suc k))))
+    λ e. rw e (omega (arith, digitsOf-first s t p q n (suc k))))
 
 -- ---- by the totals of two terms
 
 pub counts-small : {r : Totals} → Counts r → SmallDigits 8 (r .low) × SmallDigits 8 (r .high)
 counts-small (t, A) =
-    (rw (A .low) (packed-small t (A .short) 8 0), rw (A .high) (packed-small t (A .short) 8 8))
+    (rw (A .low) (digitsOf-small t (A .short) 8 0), rw (A .high) (digitsOf-small t (A .short) 8 8))
 
 module _ {s t : Term} {a b : Totals} (A : Counted s a) (B : Counted t b) {q r : ℕ}
     (d : q ≡ firstGreater 8 (a .low) (b .low)) (e : r ≡ firstGreater 8 (a .high) (b .high)) where
   low-first : First s t 0 8 q
   low-first =
-      let f = packed-first s t (A .short) (B .short) 8 0 in
+      let f = digitsOf-first s t (A .short) (B .short) 8 0 in
       let g : q ≡ oftenerFrom 0 8 s t = rw (A .low, B .low) at d ∙ omega (arith, f) in
       rw g (oftener-first s t 8 0)
 
   high-first : First s t 8 8 (8 + r)
   high-first =
-      let f = packed-first s t (A .short) (B .short) 8 8 in
+      let f = digitsOf-first s t (A .short) (B .short) 8 8 in
       let g : 8 + r ≡ oftenerFrom 8 8 s t = ap (λ (n : ℕ). 8 + n) (rw (A .high, B .high) at e) ∙ f in
       rw g (oftener-first s t 8 8)
 

@@ -23,7 +23,7 @@ use Rattle.equivalence.specs.Parts.{partAt}
 use Rattle.equivalence.specs.Keys.{Prepared, sizeIn}
 use Rattle.equivalence.proofs.PartLaws.{next, stand-one}
 use Rattle.equivalence.proofs.StepLaws.{prepared-size, part-small}
-use Rattle.measures.specs.Digits.{digit, packed}
+use Rattle.measures.specs.Digits.{digit, digitsOf}
 use Rattle.measures.specs.Nodes.{node, nodes, atVariable, atSymbol, wordSum, termSum}
 use Rattle.measures.specs.Sums.{SummedUp}
 
@@ -65,8 +65,8 @@ pub record PartSums (σ : Signature) (ws sums : List ℕ) (i w : ℕ) : Type 0 w
   pub low-le : getD sums (3 * (i + w) + 1) 0 ≤ getD sums (3 * i + 1) 0
   pub high-le : getD sums (3 * (i + w) + 2) 0 ≤ getD sums (3 * i + 2) 0
   pub weight : getD sums (3 * i) 0 - getD sums (3 * (i + w)) 0 ≡ weight σ (partAt σ ws i)
-  pub low : getD sums (3 * i + 1) 0 - getD sums (3 * (i + w) + 1) 0 ≡ packed 0 8 (partAt σ ws i)
-  pub high : getD sums (3 * i + 2) 0 - getD sums (3 * (i + w) + 2) 0 ≡ packed 8 8 (partAt σ ws i)
+  pub low : getD sums (3 * i + 1) 0 - getD sums (3 * (i + w) + 1) 0 ≡ digitsOf 0 8 (partAt σ ws i)
+  pub high : getD sums (3 * i + 2) 0 - getD sums (3 * (i + w) + 2) 0 ≡ digitsOf 8 8 (partAt σ ws i)
   pub short : size (partAt σ ws i) ≤ 128
 
 module _ {σ : Signature} {ws keys : List ℕ} (P : Prepared σ ws keys) (i : ℕ) (h : i < length ws) where

@@ -11,8 +11,8 @@ digit k zero x = 0
 digit k (suc n) x = cond (eqb k x) 1 0 + 256 * digit (suc k) n x
 
 -- The occurrences of the n variables from k on, a digit each.
-abbrev pub packed : ℕ → ℕ → Term → ℕ
-packed k n = measure (λ (x : ℕ). digit k n x) (λ (f : ℕ). 0)
+abbrev pub digitsOf : ℕ → ℕ → Term → ℕ
+digitsOf k n = measure (λ (x : ℕ). digit k n x) (λ (f : ℕ). 0)
 
 -- The first of the n digits that is greater in b than in a, n if none is.
 unfoldable pub firstGreater : ℕ → ℕ → ℕ → ℕ

@@ -7,7 +7,7 @@ use Rattle.terms.specs.Signature.{Signature}
 use Rattle.terms.specs.Term.{Term, size, weight}
 use Rattle.terms.specs.Words.{termOf}
 use Rattle.measures.specs.declared.totals.Totals.{Totals}
-use Rattle.measures.specs.Digits.{packed}
+use Rattle.measures.specs.Digits.{digitsOf}
 use Rattle.measures.specs.Nodes.{wordSum}
 
 -- The sums of n nodes: a weight is below 65,536, a place value at most 256 to the power of 7.
@@ -18,8 +18,8 @@ pub record SumsWithin (n : ℕ) (r : Totals) : Type 0 where
 
 -- The occurrences of the variables of a term of at most 128 nodes.
 pub record Counted (t : Term) (r : Totals) : Type 0 where
-  pub low : r .low ≡ packed 0 8 t
-  pub high : r .high ≡ packed 8 8 t
+  pub low : r .low ≡ digitsOf 0 8 t
+  pub high : r .high ≡ digitsOf 8 8 t
   pub short : size t ≤ 128
 
 -- Those of some term.

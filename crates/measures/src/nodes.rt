@@ -31,8 +31,8 @@ fn put_variables(table: &[u16], adds: &mut [u64; NODE_SUMS])
         ⌝ }
 {
     let own = symbols::variable_weight(table);
-    let mut word = 256;
-    while word < 272 {
+    let mut word = format::FIRST_VARIABLE as usize;
+    while word < format::NODE_WORDS {
         adds[3 * word] = own;
         adds[3 * word + 1] = occurrence(32, word as u16);
         adds[3 * word + 2] = occurrence(33, word as u16);

@@ -2,7 +2,7 @@
 --     Search, search-start, -none, -within, -more   the search for a greater term
 --     above-none, above-at                          what it finds
 --     covered-all, covered-not                      each has a greater one
---     outcome-equal, -short, -above, -not           what is left decides
+--     multisetOutcome-equal, -short, -above, -not           what is left decides
 use mathlib.Core.List.{List, [], _∷_, map}
 use mathlib.Core.Path.{_≡_, refl, sym, _∙_}
 use mathlib.Core.Bool.{Bool, true, false, cond}
@@ -23,7 +23,7 @@ use Rattle.symbols.specs.Table.{signatureOf}
 use Rattle.equivalence.specs.Parts.{partAt}
 use Rattle.equivalence.specs.Offsets.{Offsets, termsAt}
 use Rattle.equivalence.proofs.OffsetLaws.{offsets-length}
-use Rattle.order.specs.Compared.{greaterAt, covered, outcome}
+use Rattle.order.specs.Compared.{greaterAt, covered, multisetOutcome}
 use Rattle.order.proofs.MeasureLaws.{cancel-within}
 
 module _ {A : Type 0} (p : A → Bool) (g : ℕ → A) where
@@ -154,13 +154,13 @@ module _ (table : List ℕ) where
   module _ {s t : List ℕ} (xs ys : List Term) {ps qs : List ℕ} {a b : ℕ}
       (P : Offsets σ s ps a (cancel (isEquivalent σ) xs ys .left))
       (Q : Offsets σ t qs b (cancel (isEquivalent σ) xs ys .right)) where
-    pub outcome-equal : a ≡ 0 → b ≡ 0 → 1 ≡ outcome table xs ys
-    unfolding outcome multisetEqual multisetGreater
-    outcome-equal d e = rw (empty _ (offsets-length P ∙ d), empty _ (offsets-length Q ∙ e))
+    pub multisetOutcome-equal : a ≡ 0 → b ≡ 0 → 1 ≡ multisetOutcome table xs ys
+    unfolding multisetOutcome multisetEqual multisetGreater
+    multisetOutcome-equal d e = rw (empty _ (offsets-length P ∙ d), empty _ (offsets-length Q ∙ e))
 
-    pub outcome-short : a ≡ 0 → (b ≡ 0 → ⊥) → 0 ≡ outcome table xs ys
-    unfolding outcome multisetEqual multisetGreater
-    outcome-short d e = rw (empty _ (offsets-length P ∙ d), filled _ (λ z. e (sym (offsets-length Q) ∙ z)))
+    pub multisetOutcome-short : a ≡ 0 → (b ≡ 0 → ⊥) → 0 ≡ multisetOutcome table xs ys
+    unfolding multisetOutcome multisetEqual multisetGreater
+    multisetOutcome-short d e = rw (empty _ (offsets-length P ∙ d), filled _ (λ z. e (sym (offsets-length Q) ∙ z)))
 
     module _ (d : a ≡ 0 → ⊥) where
       left-filled : isEmpty (cancel (isEquivalent σ) xs ys .left) ≡ false
@@ -170,13 +170,13 @@ module _ (table : List ℕ) where
           r ≡ covered table (cancel (isEquivalent σ) xs ys .left) (cancel (isEquivalent σ) xs ys .right)
       left-covered r h = rw (P .there, Q .there) at h
 
-      pub outcome-above : true ≡ covered table (termsAt table s ps a) (termsAt table t qs b) → 2 ≡ outcome table xs ys
-      unfolding outcome multisetEqual multisetGreater covered
-      outcome-above h = let c = left-covered true h in rw (left-filled, ← c)
+      pub multisetOutcome-above : true ≡ covered table (termsAt table s ps a) (termsAt table t qs b) → 2 ≡ multisetOutcome table xs ys
+      unfolding multisetOutcome multisetEqual multisetGreater covered
+      multisetOutcome-above h = let c = left-covered true h in rw (left-filled, ← c)
 
-      pub outcome-not : false ≡ covered table (termsAt table s ps a) (termsAt table t qs b) → 0 ≡ outcome table xs ys
-      unfolding outcome multisetEqual multisetGreater covered
-      outcome-not h = let c = left-covered false h in rw (left-filled, ← c)
+      pub multisetOutcome-not : false ≡ covered table (termsAt table s ps a) (termsAt table t qs b) → 0 ≡ multisetOutcome table xs ys
+      unfolding multisetOutcome multisetEqual multisetGreater covered
+      multisetOutcome-not h = let c = left-covered false h in rw (left-filled, ← c)
 
     pub left-sum : (sum size (termsAt table s ps a) ≤ sum size xs) × (sum size (termsAt table t qs b) ≤ sum size ys)
     left-sum = rw (P .there, Q .there) (cancel-within size (isEquivalent σ) xs ys)

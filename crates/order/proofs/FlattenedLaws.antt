@@ -20,7 +20,7 @@ use Rattle.multisets.proofs.MultisetLaws.{sum}
 use Rattle.symbols.specs.Table.{signatureOf}
 use Rattle.equivalence.specs.Offsets.{Offsets, termsAt, leftAt}
 use Rattle.equivalence.proofs.OffsetLaws.{offsets-length}
-use Rattle.order.specs.Compared.{Parted, outcome, highOutcome, lowOutcome}
+use Rattle.order.specs.Compared.{Parted, multisetOutcome, highOutcome, lowOutcome}
 use Rattle.order.proofs.MeasureLaws.{choose-sum, joined-sum, above-variables}
 
 abbrev picked : Bool → Bool → ℕ
@@ -65,20 +65,20 @@ module _ (table : List ℕ) (f : ℕ) (ss ts : List Term) where
   lowE = multisetEqual (isEquivalent σ) (lowPart σ f ss) (lowPart σ f ts)
 
   flat-four : highOutcome table f ss ts ≡ 2 → 4 ≡ flat
-  unfolding outcome flattenedMark
+  unfolding multisetOutcome flattenedMark
   flat-four h = rw (pick-two highG highE h)
 
   flat-none : highOutcome table f ss ts ≡ 0 → 0 ≡ flat
-  unfolding outcome flattenedMark
+  unfolding multisetOutcome flattenedMark
   flat-none h = let p = pick-none highG highE h in rw (p .0, p .1)
 
   module _ (h : highOutcome table f ss ts ≡ 2 → ⊥) (k : highOutcome table f ss ts ≡ 0 → ⊥) where
     high-less : highG ≡ false
-    unfolding outcome
+    unfolding multisetOutcome
     high-less = pick-less highG highE h
 
     high-same : highE ≡ true
-    unfolding outcome
+    unfolding multisetOutcome
     high-same = pick-one highG highE k high-less
 
     flat-five : length ts < length ss → 5 ≡ flat
@@ -93,7 +93,7 @@ module _ (table : List ℕ) (f : ℕ) (ss ts : List Term) where
 
     module _ (l : length ts ≡ length ss) where
       flat-six : lowOutcome table f ss ts ≡ 2 → 6 ≡ flat
-      unfolding flattenedMark outcome
+      unfolding flattenedMark multisetOutcome
       flat-six v =
           rw (
             high-less,
@@ -104,7 +104,7 @@ module _ (table : List ℕ) (f : ℕ) (ss ts : List Term) where
           )
 
       flat-level : (lowOutcome table f ss ts ≡ 2 → ⊥) → 0 ≡ flat
-      unfolding flattenedMark outcome
+      unfolding flattenedMark multisetOutcome
       flat-level v =
           rw (
             high-less,
@@ -136,9 +136,9 @@ module _ (table : List ℕ) {f : ℕ} {s t : List ℕ} {ss ts : List Term}
   module _ {out : List ℕ} {r : ℕ}
       (J : Offsets (signatureOf table) t out r (joinedHigh (signatureOf table) (isEquivalent (signatureOf table)) f ss
       ts)) where
-    high-of : {c : ℕ} → c ≡ outcome table (termsAt table s sabove a) (termsAt table t out r) → c ≡ highOutcome table f
+    high-of : {c : ℕ} → c ≡ multisetOutcome table (termsAt table s sabove a) (termsAt table t out r) → c ≡ highOutcome table f
         ss ts
-    high-of h = h ∙ ap₂ (outcome table) (A .high .there) (J .there)
+    high-of h = h ∙ ap₂ (multisetOutcome table) (A .high .there) (J .there)
 
     pub high-nodes : sum size (termsAt table s sabove a) + sum size (termsAt table t out r) ≤ sum size ss + sum size
         ts
@@ -146,9 +146,9 @@ module _ (table : List ℕ) {f : ℕ} {s t : List ℕ} {ss ts : List Term}
         rw (A .high .there, J .there)
         (omega (arith, choose-sum size (rootAbove (signatureOf table) f) ss, joined-sum (signatureOf table) f ss ts))
 
-  low-of : {c : ℕ} → c ≡ outcome table (termsAt table s sbelow b) (termsAt table t tbelow b') →
+  low-of : {c : ℕ} → c ≡ multisetOutcome table (termsAt table s sbelow b) (termsAt table t tbelow b') →
       c ≡ lowOutcome table f ss ts
-  low-of h = h ∙ ap₂ (outcome table) (A .low .there) (B .low .there)
+  low-of h = h ∙ ap₂ (multisetOutcome table) (A .low .there) (B .low .there)
 
   pub low-nodes : sum size (termsAt table s sbelow b) + sum size (termsAt table t tbelow b') ≤ sum size ss + sum
       size ts
@@ -169,7 +169,7 @@ module _ (table : List ℕ) {f : ℕ} {s t : List ℕ} {ss ts : List Term}
     (B : Parted (signatureOf table) f t ts tabove tbelow tvars a' b' v' m') {out : List ℕ} {r : ℕ}
     (J : Offsets (signatureOf table) t out r (termsAt table t tabove a' ++ leftAt table s svars v t
     tvars v' .right))
-    {c : ℕ} (h : c ≡ outcome table (termsAt table s sabove a) (termsAt table t out r)) where
+    {c : ℕ} (h : c ≡ multisetOutcome table (termsAt table s sabove a) (termsAt table t out r)) where
   high : c ≡ highOutcome table f ss ts
   high = high-of table A B (joined-offsets table A B J) h
 
@@ -188,7 +188,7 @@ module _ (table : List ℕ) {f : ℕ} {s t : List ℕ} {ss ts : List Term}
     parts-fewer l =
         flat-fewer table f ss ts (λ z. p (high ∙ z)) (λ z. q (high ∙ z)) (omega (arith, A .whole, B .whole))
 
-    module _ (l : m ≤ m') (k : m' ≤ m) {d : ℕ} (e : d ≡ outcome table (termsAt table s sbelow b)
+    module _ (l : m ≤ m') (k : m' ≤ m) {d : ℕ} (e : d ≡ multisetOutcome table (termsAt table s sbelow b)
         (termsAt table t tbelow b'))
       where
         pub parts-six : d ≡ 2 → 6 ≡ flat table f ss ts

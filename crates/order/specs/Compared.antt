@@ -62,13 +62,13 @@ module _ (table : List ℕ) where
   covered xs ys = every (λ (y : Term). some (λ (x : Term). isGreater σ x y) xs) ys
 
   -- 2: xs is above ys as a multiset; 1: they are equivalent; 0: neither.
-  unfoldable pub outcome : List Term → List Term → ℕ
-  outcome xs ys = cond (multisetGreater (isEquivalent σ) (isGreater σ) xs ys) 2
+  unfoldable pub multisetOutcome : List Term → List Term → ℕ
+  multisetOutcome xs ys = cond (multisetGreater (isEquivalent σ) (isGreater σ) xs ys) 2
       (cond (multisetEqual (isEquivalent σ) xs ys) 1 0)
 
   -- The outcomes on the high parts and on the low parts of two flattenings for f.
   abbrev pub highOutcome : ℕ → List Term → List Term → ℕ
-  highOutcome f ss ts = outcome (highPart σ f ss) (joinedHigh σ (isEquivalent σ) f ss ts)
+  highOutcome f ss ts = multisetOutcome (highPart σ f ss) (joinedHigh σ (isEquivalent σ) f ss ts)
 
   abbrev pub lowOutcome : ℕ → List Term → List Term → ℕ
-  lowOutcome f ss ts = outcome (lowPart σ f ss) (lowPart σ f ts)
+  lowOutcome f ss ts = multisetOutcome (lowPart σ f ss) (lowPart σ f ts)

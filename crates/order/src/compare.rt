@@ -4,6 +4,7 @@ use equivalence::MAX_ELEMENTS;
 use equivalence::equivalence::equivalent_by_keys;
 use equivalence::keys::size_at;
 use equivalence::offsets::wide_byte;
+use format::FIRST_VARIABLE;
 use format::MAX_NODES;
 use format::VARIABLES;
 use measures::SUMS;
@@ -20,16 +21,16 @@ ghost use Rattle.equivalence.specs.Parts.{elementsAt};
 ghost use Rattle.equivalence.specs.Offsets.{OffsetsIn, termsAt};
 ghost use Rattle.measures.specs.Sums.{Scale};
 ghost use Rattle.order.specs.Compared.{noneOftenerAt, isHigher, greaterAt, rowsGreater};
-ghost use Rattle.order.specs.Compared.{BothStand, flattenedAt, covered, outcome};
+ghost use Rattle.order.specs.Compared.{BothStand, flattenedAt, covered, multisetOutcome};
 
 // Are both words symbols, and the first higher in the precedence?
 pub fn higher(table: &[u16], f: u16, g: u16) -> bool
     ensures { λ r. ⌜ r ≡ isHigher (now (table .entry)) f g ⌝ }
 {
-    if f >= 256 {
+    if f >= FIRST_VARIABLE {
         return false;
     }
-    if g >= 256 {
+    if g >= FIRST_VARIABLE {
         return false;
     }
     precedence(table, g) < precedence(table, f)
@@ -88,7 +89,7 @@ fn exceeds(
     if f != g {
         return higher(*table, f, g);
     }
-    if f >= 256 {
+    if f >= FIRST_VARIABLE {
         return false;
     }
     let n = symbols::arity(*table, f);
@@ -237,7 +238,7 @@ fn compare(
     requires { ⌜ OffsetsIn (now (now table)) (now (now t)) (now qs) m ⌝ }
     ensures { λ r. ⌜
         r
-        ≡ outcome (now (now (table .entry)))
+        ≡ multisetOutcome (now (now (table .entry)))
         (termsAt (now (now (table .entry))) (now (now (s .entry))) (now (ps .entry)) n)
         (termsAt (now (now (table .entry))) (now (now (t .entry))) (now (qs .entry)) m)
         ⌝ }

@@ -47,7 +47,7 @@ fn split(
     while k < m {
         let p = offsets[k];
         let word = words[equivalence::offsets::wide_byte(p)];
-        if word >= 256 {
+        if word >= format::FIRST_VARIABLE {
             variables[v] = p;
             v += 1;
             k += 1;

@@ -4,7 +4,7 @@ ghost use Prim.Native.Nat.{ℕ, _^_, _≤_, _<_};
 ghost use lib.Dec.{leb};
 ghost use lib.ListN.{length};
 ghost use Rattle.format.specs.Layout.{maxBytes};
-ghost use Rattle.answers.specs.Answer.{readingOf, Fits};
+ghost use Rattle.answers.specs.Answer.{readingOf, Below};
 ghost use Rattle.reader.specs.Source.{sourceOf, tested};
 use answers::Answer;
 use bits::BitCursor;
@@ -15,7 +15,7 @@ pub fn field(book: &[u8], sheet: &[u16], packed: bool, at: usize, width: usize) 
     ensures { λ r. ⌜
         readingOf (λ (v : ℕ). v) r ≡ sourceOf packed (now (book .entry)) (now (sheet .entry)) .field width at
         ⌝ }
-    ensures { λ r. ⌜ Fits (2 ^ width) r ⌝ }
+    ensures { λ r. ⌜ Below (2 ^ width) r ⌝ }
 {
     if packed {
         let cursor = BitCursor { at };
@@ -39,7 +39,7 @@ pub fn field_at_least(
         readingOf (λ (v : ℕ). v) r
         ≡ tested (sourceOf packed (now (book .entry)) (now (sheet .entry))) width (leb least) code at
         ⌝ }
-    ensures { λ r. ⌜ Fits (2 ^ width) r ⌝ }
+    ensures { λ r. ⌜ Below (2 ^ width) r ⌝ }
 {
     let read = field(book, sheet, packed, at, width);
     let Answer::Got { value, next: _ } = read else {

@@ -11,7 +11,7 @@ ghost use Rattle.format.specs.Layout.{formNumber, maxBytes, rankWidth};
 ghost use Rattle.format.specs.Format.{heldBy, symbolReader, symbolsReader};
 ghost use Rattle.format.specs.Packing.{itemWord, symbolItems};
 ghost use Rattle.symbols.specs.Table.{symbolAt, symbolsAt, tableWords, symbolsWords};
-ghost use Rattle.answers.specs.Answer.{readingOf, Fits};
+ghost use Rattle.answers.specs.Answer.{readingOf, Below};
 ghost use Rattle.reader.specs.Source.{sourceOf, Reached, tableOf, Room, Stored, tested};
 ghost use Rattle.reader.specs.Symbol.{TakenBy, SymbolPut, SymbolsRead};
 use crate::field::field;
@@ -27,7 +27,7 @@ fn read_rank(book: &[u8], sheet: &[u16], packed: bool, taken: &[bool; RANKS], at
         ≡ tested (sourceOf packed (now (book .entry)) (now (sheet .entry))) rankWidth
         (λ (rank : ℕ). not (heldBy earlier rank)) rankTaken at)
         ⌝ }
-    ensures { λ r. ⌜ Fits 256 r ⌝ }
+    ensures { λ r. ⌜ Below 256 r ⌝ }
 {
     let read = field(book, sheet, packed, at, format::RANK_WIDTH);
     let Answer::Got { value, next: _ } = read else {

@@ -25,7 +25,7 @@ use Rattle.format.proofs.ForestLaws.{before, nothing-owed, none-allowed}
 use Rattle.answers.specs.declared.Answer.{Answer}
 use Rattle.answers.specs.declared.Answer.the-variants.{Got, Fault}
 use Rattle.answers.specs.Answer.{Within}
-use Rattle.sides.specs.Side.{TermsRead, SideRead, SideStored, WordsRead, sideWords}
+use Rattle.sides.specs.Side.{ForestRead, SideRead, SideStored, WordsRead, sideWords}
 
 -- One node fewer is allowed after a node.
 pub fewer-allowed : (count t : ℕ) → count ≤ maxNodes → (count ≡ maxNodes → ⊥) → maxNodes - count ≡ t →
@@ -40,23 +40,23 @@ module _ (source : Source) (unused : ℕ) (σ : Signature) (count n at : ℕ) (w
   whole = forestReader source unused σ (maxNodes - count) n at
 
   pub terms-none : n ≡ 0 → count ≤ maxNodes → r ≡ Got count at → after ≡ words → lowest ≡ firstVariable + unused →
-      TermsRead unused count words r after lowest whole
+      ForestRead unused count words r after lowest whole
   terms-none z short e f u =
       rw (z, nothing-owed source unused σ (maxNodes - count) at) (rw add-zero e, omega arith, f, u)
 
   pub terms-fault : (code offset : ℕ) → whole ≡ fault code offset → r ≡ Fault offset code →
-      TermsRead unused count words r after lowest whole
+      ForestRead unused count words r after lowest whole
   terms-fault code offset e f = rw e f
 
   pub terms-many : 0 < n → count ≡ maxNodes → r ≡ Fault at tooManyNodes →
-      TermsRead unused count words r after lowest whole
+      ForestRead unused count words r after lowest whole
   terms-many h full e =
       let z : maxNodes - count ≡ 0 = omega arith in
       terms-fault tooManyNodes at (rw z (none-allowed source unused σ n at h)) e
 
   after-word : (w : ℕ) (x : Reading (List ℕ)) →
-      TermsRead (unusedAfter unused w) (count + 1) (set words count w) r after lowest x →
-      TermsRead unused count words r after lowest (before w x)
+      ForestRead (unusedAfter unused w) (count + 1) (set words count w) r after lowest x →
+      ForestRead unused count words r after lowest (before w x)
   after-word w (got nodes next) (e, l, f, u) =
       let c : count + 1 + length nodes ≡ count + suc (length nodes) = omega arith in
       let s : count + 1 ≡ suc count = omega arith in
@@ -66,16 +66,16 @@ module _ (source : Source) (unused : ℕ) (σ : Signature) (count n at : ℕ) (w
   pub terms-before : (w m next : ℕ) →
       whole ≡ before w (forestReader source (unusedAfter unused w) σ (maxNodes - count - 1) m next) →
       (owed : ℕ) → owed ≡ m →
-      TermsRead (unusedAfter unused w) (count + 1) (set words count w) r after lowest
+      ForestRead (unusedAfter unused w) (count + 1) (set words count w) r after lowest
       (forestReader source (unusedAfter unused w) σ (maxNodes - (count + 1)) owed next) →
-      TermsRead unused count words r after lowest whole
+      ForestRead unused count words r after lowest whole
   terms-before w m next e owed o h =
       let c : maxNodes - (count + 1) ≡ maxNodes - count - 1 = omega arith in
       rw e (after-word w (forestReader source (unusedAfter unused w) σ (maxNodes - count - 1) m next)
       (rw (c, o) at h))
 
 pub side-read : (unused : ℕ) (words after : List ℕ) (lowest used : ℕ) (r : Answer) (x : Reading (List ℕ)) →
-    length words ≡ maxNodes → used ≡ lowest - firstVariable → TermsRead unused 0 words r after lowest x →
+    length words ≡ maxNodes → used ≡ lowest - firstVariable → ForestRead unused 0 words r after lowest x →
     SideRead unused x r after used
 side-read unused words after lowest used r (got nodes next) long k (e, l, f, u) =
     let zero : 0 + length nodes ≡ length nodes = omega arith in

@@ -16,11 +16,11 @@ use Rattle.answers.specs.declared.Answer.the-variants.{Got, Fault}
 -- The answer to a reading of terms, the words before and after, where so many words stand before the nodes, and the
 -- word of the lowest unused variable afterwards. A fault leaves open which words were stored before it, and that
 -- variable.
-abbrev pub TermsRead : ℕ → ℕ → List ℕ → Answer → List ℕ → ℕ → Reading (List ℕ) → Type 0
-TermsRead unused count before answer after lowest (got nodes next) =
+abbrev pub ForestRead : ℕ → ℕ → List ℕ → Answer → List ℕ → ℕ → Reading (List ℕ) → Type 0
+ForestRead unused count before answer after lowest (got nodes next) =
     (answer ≡ Got (count + length nodes) next) × (count + length nodes ≤ maxNodes)
     × (after ≡ sets before count nodes) × (lowest ≡ firstVariable + unusedAfterAll unused nodes)
-TermsRead unused count before answer after lowest (fault code offset) = answer ≡ Fault offset code
+ForestRead unused count before answer after lowest (fault code offset) = answer ≡ Fault offset code
 
 -- What was read as a side, the answer, which says how many words it has, and afterwards the words and the lowest unused
 -- variable.

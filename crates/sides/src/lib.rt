@@ -10,7 +10,7 @@ ghost use Rattle.format.specs.Reading.{bitSource};
 ghost use Rattle.format.specs.Format.{forestReader, ruleReader};
 ghost use Rattle.symbols.specs.Arities.{Arities};
 ghost use Rattle.answers.specs.Answer.{answerOf, Within};
-ghost use Rattle.sides.specs.Side.{TermsRead, SideRead, SideStored, WordsRead, sideWords};
+ghost use Rattle.sides.specs.Side.{ForestRead, SideRead, SideStored, WordsRead, sideWords};
 use answers::Answer;
 use format::FIRST_VARIABLE;
 use format::MAX_NODES;
@@ -37,7 +37,7 @@ fn read_terms(
     ensures { λ r. ⌜
         ((σ : Signature) → Arities σ (now (arities .entry)) → (unused : ℕ) →
         now (lowest .entry) ≡ firstVariable + unused →
-        TermsRead unused (now (count .entry)) (now (words .entry))
+        ForestRead unused (now (count .entry)) (now (words .entry))
         (answerOf r (now (count .exit)) (now (at .exit))) (now (words .exit)) (now (lowest .exit))
         (forestReader (bitSource (now (now (book .entry)))) unused σ (maxNodes - now (count .entry)) owed
         (now (at .entry))))

@@ -12,7 +12,7 @@ ghost use Rattle.format.specs.Layout.{maxNodes};
 ghost use Rattle.format.specs.Reading.{wordBelow, wordSource};
 ghost use Rattle.format.specs.Format.{forestReader};
 ghost use Rattle.symbols.specs.Arities.{Arities};
-ghost use Rattle.answers.specs.Answer.{readingOf, Fits, answered, answerOf, endOf};
+ghost use Rattle.answers.specs.Answer.{readingOf, Below, answered, answerOf, endOf};
 ghost use Rattle.words.specs.Terms.{nodeError, readerOf};
 use answers::Answer;
 use format::FIRST_VARIABLE;
@@ -21,7 +21,7 @@ use format::NODE_WORDS;
 // The word at an offset, which is to be below a bound.
 pub fn word_below(words: &[u16], at: usize, bound: usize) -> Answer
     ensures { λ r. ⌜ readingOf (λ (v : ℕ). v) r ≡ wordBelow (now (words .entry)) bound at ⌝ }
-    ensures { λ r. ⌜ Fits bound r ⌝ }
+    ensures { λ r. ⌜ Below bound r ⌝ }
 {
     if words.len() <= at {
         let code = format::FIELD_MISSING;
@@ -89,7 +89,7 @@ fn terms(
         (forestReader (wordSource (now (now (words .entry)))) unused σ (limit - now (at .entry)) owed
         (now (at .entry))))
         ⌝ }
-    ensures { λ r. ⌜ Fits 17 (answerOf r (now (lowest .exit) - firstVariable) (now (at .exit))) ⌝ }
+    ensures { λ r. ⌜ Below 17 (answerOf r (now (lowest .exit) - firstVariable) (now (at .exit))) ⌝ }
     ensures { λ r. ⌜ (256 ≤ now (lowest .exit)) × (now (lowest .exit) ≤ 272) ⌝ }
 {
     if owed == 0 {
@@ -132,7 +132,7 @@ pub fn term(arities: &[u32; NODE_WORDS], words: &[u16], unused: usize, at: usize
         ((σ : Signature) → Arities σ (now (arities .entry)) →
         r ≡ answered (unusedAfterAll unused) (forestReader (wordSource (now (words .entry))) unused σ maxNodes 1 at))
         ⌝ }
-    ensures { λ r. ⌜ Fits 17 r ⌝ }
+    ensures { λ r. ⌜ Below 17 r ⌝ }
 {
     let mut lowest = FIRST_VARIABLE as usize + unused;
     let mut end = at;

@@ -10,7 +10,7 @@ use Rattle.symbols.specs.Table.{signatureOf}
 use Rattle.equivalence.specs.Offsets.{termsAt}
 use Rattle.equivalence.proofs.OffsetLaws.{offsets-own}
 use Rattle.order.proofs.CoverLaws.{left-sum}
-use Rattle.order.proofs.CoverLaws.{outcome-equal, outcome-short, outcome-above, outcome-not}
+use Rattle.order.proofs.CoverLaws.{multisetOutcome-equal, multisetOutcome-short, multisetOutcome-above, multisetOutcome-not}
 use Rattle.order.proofs.compare.+compare+covers+exceeds+flattened+greater+rows_greater.Proof.Measures.{
   compare-at,
   covers-below,
@@ -27,7 +27,7 @@ compare-returns t c =
     let a = c .before .before .before .before .before .args in
     let T = a .table .now .now in
     let e = c .before .before .cancel .ensures in
-    outcome-equal T (termsAt T (a .s .now .now) (a .ps .now) (a .n)) (termsAt T (a .t .now .now) (a .qs .now) (a .m))
+    multisetOutcome-equal T (termsAt T (a .s .now .now) (a .ps .now) (a .n)) (termsAt T (a .t .now .now) (a .qs .now) (a .m))
     (e .0) (e .1) (c .before .if1 .taken) (c .if2 .taken)
 
 compare-returns-2 : (t : ℕ) → compare-lts.Need-returns-2 (compare-claims t) (compare-at t) compare.Post
@@ -35,7 +35,7 @@ compare-returns-2 t c =
     let a = c .before .before .before .before .before .args in
     let T = a .table .now .now in
     let e = c .before .before .cancel .ensures in
-    outcome-short T (termsAt T (a .s .now .now) (a .ps .now) (a .n)) (termsAt T (a .t .now .now) (a .qs .now) (a .m))
+    multisetOutcome-short T (termsAt T (a .s .now .now) (a .ps .now) (a .n)) (termsAt T (a .t .now .now) (a .qs .now) (a .m))
     (e .0) (e .1) (c .before .if1 .taken) (c .if2 .left)
 
 compare-covers-requires : (t : ℕ) → compare-lts.Need-covers-requires (compare-claims t) (compare-at t) compare.Post
@@ -57,7 +57,7 @@ compare-returns-3 t c =
     let a = p .before .before .before .args in
     let T = a .table .now .now in
     let e = p .cancel .ensures in
-    outcome-above T (termsAt T (a .s .now .now) (a .ps .now) (a .n)) (termsAt T (a .t .now .now) (a .qs .now) (a .m))
+    multisetOutcome-above T (termsAt T (a .s .now .now) (a .ps .now) (a .n)) (termsAt T (a .t .now .now) (a .qs .now) (a .m))
     (e .0) (e .1) (c .before .before .before .before .if1 .left) (sym (c .if3 .taken) ∙ c .before .covers .ensures)
 
 compare-returns-4 : (t : ℕ) → compare-lts.Need-returns-4 (compare-claims t) (compare-at t) compare.Post
@@ -66,7 +66,7 @@ compare-returns-4 t c =
     let a = p .before .before .before .args in
     let T = a .table .now .now in
     let e = p .cancel .ensures in
-    outcome-not T (termsAt T (a .s .now .now) (a .ps .now) (a .n)) (termsAt T (a .t .now .now) (a .qs .now) (a .m))
+    multisetOutcome-not T (termsAt T (a .s .now .now) (a .ps .now) (a .n)) (termsAt T (a .t .now .now) (a .qs .now) (a .m))
     (e .0) (e .1) (c .before .before .before .before .if1 .left) (sym (c .if3 .left) ∙ c .before .covers .ensures)
 
 pub compare-closed : {M : Type 1} (t : ℕ) → compare-lts.Closed (compare-claims t) (compare-at t) compare.Post M

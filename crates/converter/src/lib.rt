@@ -10,6 +10,11 @@ use answers::Answer;
 use answers::refusal;
 use operations::NumberReply;
 
+// How many words the sheet of a file may have: of one of at most 2,048 bytes, and of any.
+const MIDDLE_WORDS: usize = symbols::TABLE_WORDS + decoder::MIDDLE_NODES;
+
+const LONG_WORDS: usize = symbols::TABLE_WORDS + decoder::LONG_NODES;
+
 // Converts a packed file into the front of the output, by way of its sheet, in which the variables are in order of
 // first use; nothing is written until no fault is left to find.
 fn convert_through(book: &[u8], out: &mut [u8], sheet: &mut [u16]) -> NumberReply
@@ -36,10 +41,10 @@ pub fn convert(book: &[u8], out: &mut [u8]) -> NumberReply
     ensures { λ r. ⌜ numberReply r ≡ converted (now (book .entry)) (now (out .entry)) .reply ⌝ }
     ensures { λ r. ⌜ now (out .exit) ≡ converted (now (book .entry)) (now (out .entry)) .output ⌝ }
 {
-    if book.len() <= 2048 {
-        let mut sheet = [0u16; 4301];
+    if book.len() <= decoder::MIDDLE_BYTES {
+        let mut sheet = [0u16; MIDDLE_WORDS];
         return convert_through(book, out, &mut sheet);
     }
-    let mut sheet = [0u16; 53453];
+    let mut sheet = [0u16; LONG_WORDS];
     convert_through(book, out, &mut sheet)
 }

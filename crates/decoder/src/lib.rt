@@ -14,6 +14,18 @@ use answers::refusal;
 use operations::NumberReply;
 use sides::put_words;
 
+// A node takes five bits or more: so many nodes at most are in a file of at most 256 bytes, in one of at most 2,048, and
+// in any.
+const SHORT_NODES: usize = 410;
+
+pub const MIDDLE_NODES: usize = 3277;
+
+pub const LONG_NODES: usize = 52429;
+
+const SHORT_BYTES: usize = 256;
+
+pub const MIDDLE_BYTES: usize = 2048;
+
 // Stores the words of a sheet, so many from the front of a table and so many nodes after them.
 fn put_sheet(words: &mut [u16], table: &[u16], front: usize, nodes: &[u16], count: usize)
     requires { ⌜ (front ≤ length (now table)) × (count ≤ length (now nodes)) × (front + count ≤ length (now words)) ⌝ }
@@ -49,22 +61,22 @@ fn unpack_through(book: &[u8], form: u16, nodes: &mut [u16], words: &mut [u16]) 
     Answer::Got { value: total, next }
 }
 
-// The same, with room for the nodes by the length of the file: a node takes five bits or more.
+// The same, with room for the nodes by the length of the file.
 pub fn unpack(book: &[u8], form: u16, words: &mut [u16]) -> Answer
     ensures { λ r. ⌜
         Unpacked form (now (book .entry)) (readBytesIn form (now (book .entry))) r (now (words .entry))
         (now (words .exit))
         ⌝ }
 {
-    if book.len() <= 256 {
-        let mut nodes = [0u16; 410];
+    if book.len() <= SHORT_BYTES {
+        let mut nodes = [0u16; SHORT_NODES];
         return unpack_through(book, form, &mut nodes, words);
     }
-    if book.len() <= 2048 {
-        let mut nodes = [0u16; 3277];
+    if book.len() <= MIDDLE_BYTES {
+        let mut nodes = [0u16; MIDDLE_NODES];
         return unpack_through(book, form, &mut nodes, words);
     }
-    let mut nodes = [0u16; 52429];
+    let mut nodes = [0u16; LONG_NODES];
     unpack_through(book, form, &mut nodes, words)
 }
 

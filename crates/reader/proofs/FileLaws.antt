@@ -2,8 +2,6 @@
 --     read-parts                                    the whole file by its form and what follows
 --     symbols-fault, head-read, head-answer, table-of     what follows a header
 --     rest-unread, rest-unended, rest-ended         what follows the symbols
---     packed-unread, packed-unended, packed-read    a packed file
---     sheet-unread, sheet-unended, sheet-read       a sheet
 use mathlib.Core.Path.{_≡_, refl, sym, ap, _∙_}
 use mathlib.Core.List.{List, [], _∷_}
 use mathlib.Core.Bool.{Bool, true, false, false≢true}
@@ -13,31 +11,25 @@ use lib.Dec.{eqb, leb}
 use lib.ListN.{length, take}
 use lib.Seq.{sets, length-take-le}
 use Rattle.terms.specs.Signature.{Symbol, Signature, Admissible}
-use Rattle.format.specs.Errors.{noSymbols, variableWeightless, badPadding, wordsLeftOver}
+use Rattle.format.specs.Errors.{noSymbols, variableWeightless}
 use Rattle.format.specs.Layout.{formNumber, formWidth, symbolCountWidth, weightWidth, ruleCountWidth, maxBytes}
-use Rattle.format.specs.Reading.{Reading, Reader, andThen, give, require, Source, isPadding, bitSource, wordSource}
+use Rattle.format.specs.Reading.{Reading, Reader, andThen, give, require, Source}
 use Rattle.format.specs.Reading.Reading.{got, fault}
 use Rattle.format.specs.Format.{Sides, RuleFile, unusedOf, formError, symbolsReader, rulesReader, bodyReader}
 use Rattle.format.specs.Format.{fileReader}
-use Rattle.format.specs.Files.{wholeReader, readBytesIn, readWords}
+use Rattle.format.specs.Files.{wholeReader}
 use Rattle.format.proofs.ReadingLaws.{andThen-assoc, andThen-same, holds-got}
-use Rattle.format.proofs.FormatLaws.{symbols-read, rules-length}
-use Rattle.format.proofs.FileLaws.{words-unpacked}
+use Rattle.format.proofs.FormatLaws.{symbols-read}
 use Rattle.format.proofs.SymbolLaws.{admissible-of-symbols}
 use Rattle.symbols.specs.Table.{symbolsAt, signatureOf, weightOf, tableWords, maxTableWords, symbolsWords, frontWords}
 use Rattle.symbols.proofs.TableLaws.{length-symbols}
 use Rattle.symbols.proofs.EntryLaws.{table-le, table-entries, signature-front, front-weight, front-words}
 use Rattle.answers.specs.declared.Answer.{Answer}
 use Rattle.answers.specs.declared.Answer.the-variants.{Got, Fault}
-use Rattle.sides.specs.Side.{WordsRead, rulesWords}
-use Rattle.sides.proofs.UnpackedLaws.{unpacked-length}
-use Rattle.reader.specs.Source.{sourceOf, Reached, tableOf, Room, Stored, tested, readSource}
-use Rattle.reader.specs.File.{restReader, tableReader, countsReader, rulesIn, HeadParts, HeadRead, PackedRead}
-use Rattle.reader.specs.File.{SheetRead}
+use Rattle.reader.specs.Source.{sourceOf, Reached, tableOf, Room, Stored, tested}
+use Rattle.reader.specs.File.{restReader, tableReader, countsReader, HeadParts, HeadRead}
 use Rattle.reader.specs.Symbol.{SymbolsRead}
 use Rattle.reader.proofs.SourceLaws.{tested-then, field-fits, reached-symbols, room-table, room-same}
-use Rattle.reader.proofs.SourceLaws.{read-packed, read-words}
-use Rattle.reader.proofs.NodesLaws.{nodes-fit, as-long, rules-short}
 
 -- ---- the whole file by its form and what follows
 
@@ -212,104 +204,3 @@ module _ (form : ℕ) (packed : Bool) (bytes words : List ℕ) (σ : Signature) 
         restReader form packed bytes words σ count at ≡ got (record { signature = σ; rules = rules }) last
     unfolding restReader
     rest-ended last f = rw (e, f)
-
--- ---- a packed file
-
-module _ (form : ℕ) (bytes table before after : List ℕ) (symbols rules start : ℕ)
-    (read : HeadRead form true bytes [] (readSource form true bytes []) (Got symbols start) table rules) where
-  abbrev τ : Signature
-  τ = signatureOf (take (tableWords symbols) table)
-
-  pub packed-unread : (code offset : ℕ) →
-      rulesReader (bitSource bytes) (unusedOf form) τ rules start ≡ fault code offset →
-      readBytesIn form bytes ≡ fault code offset
-  unfolding sourceOf
-  packed-unread code offset e =
-      sym (read-packed form bytes []) ∙ read .0 ∙ rest-unread form true bytes [] τ rules start code offset e
-
-  module _ (nodes next : ℕ) (stored : WordsRead (λ (rules : List Sides). rulesWords (rulesIn form rules))
-      (rulesReader (bitSource bytes) (unusedOf form) τ rules start) 0 before (Got nodes next) after) where
-    pub packed-unended : isPadding bytes next ≡ false → readBytesIn form bytes ≡ fault badPadding next
-    unfolding sourceOf
-    packed-unended e =
-        sym (read-packed form bytes []) ∙ read .0
-        ∙ rest-unended form true bytes [] τ rules start (stored .0) next (stored .1) badPadding next (rw e)
-
-    pub packed-read : (front : ℕ) → front ≡ tableWords symbols → front ≤ maxTableWords → isPadding bytes next ≡ true →
-        PackedRead form bytes (readBytesIn form bytes) (Got nodes front) table before after
-    unfolding sourceOf Reached
-    packed-read front size few e =
-        let (rs, rulesRead, count, put) = stored in
-        let file : RuleFile = record { signature = τ; rules = rs } in
-        let n = rules-length (bitSource bytes) (unusedOf form) τ rules start rs next rulesRead in (
-          file,
-          next,
-          sym (read-packed form bytes []) ∙ read .0
-              ∙ rest-ended form true bytes [] τ rules start rs next rulesRead next (rw e),
-          record {
-            short = read .1 .short;
-            size = size ∙ ap tableWords (read .1 .symbolCount);
-            few = few;
-            words = rw (size, n) (read .1 .front refl);
-            signature = rw size;
-            admissible = read .1 .admissible;
-            narrow = omega (
-              arith,
-              count,
-              as-long form rs,
-              nodes-fit bytes (unusedOf form) τ rules start rs next rulesRead (read .1 .within),
-            );
-            nodeCount = omega (arith, count);
-            stored = put;
-          },
-        )
-
--- ---- a sheet
-
-module _ (words table : List ℕ) (symbols rules start : ℕ)
-    (read : HeadRead formNumber false [] words (readSource formNumber false [] words) (Got symbols start) table rules)
-  where
-    abbrev υ : Signature
-    υ = signatureOf (take (tableWords symbols) words)
-
-    pub sheet-unread : (code offset : ℕ) →
-        rulesReader (wordSource words) (unusedOf formNumber) υ rules start ≡ fault code offset →
-        readWords words ≡ fault code offset
-    unfolding sourceOf
-    sheet-unread code offset e =
-        sym (read-words words) ∙ read .0 ∙ rest-unread formNumber false [] words υ rules start code offset e
-
-    module _ (rs : List Sides) (next : ℕ)
-        (rulesRead : rulesReader (wordSource words) (unusedOf formNumber) υ rules start ≡ got rs next) where
-      pub sheet-unended : eqb next (length words) ≡ false → readWords words ≡ fault wordsLeftOver next
-      unfolding sourceOf
-      sheet-unended e =
-          sym (read-words words) ∙ read .0
-          ∙ rest-unended formNumber false [] words υ rules start rs next rulesRead wordsLeftOver next (rw e)
-
-      pub sheet-read : eqb next (length words) ≡ true → SheetRead words (readWords words) (Got symbols start)
-      unfolding sourceOf Reached
-      sheet-read e =
-          let file : RuleFile = record { signature = υ; rules = rs } in
-          let whole : readWords words ≡ got file next = sym (read-words words) ∙ read .0
-          ∙ rest-ended formNumber false [] words υ rules start rs next rulesRead next (rw e) in
-          let few = holds-got _ _ rs next (rules-short (wordSource words) (unusedOf formNumber) υ rules start)
-          rulesRead in (
-            file,
-            next,
-            whole,
-            record {
-              symbolCount = read .1 .symbolCount;
-              begin = read .1 .within .0;
-              within = read .1 .within .1;
-              short = omega (
-                arith,
-                ap length (words-unpacked words file next whole),
-                unpacked-length file,
-                few,
-                read .1 .symbolCount,
-                read .1 .fewSymbols,
-                read .1 .fewRules,
-              );
-            },
-          )

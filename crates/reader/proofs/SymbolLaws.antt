@@ -1,6 +1,8 @@
 -- Laws of reading the symbols.
 --     taken-none, taken-put                the marks before the first symbol, and with one rank more
 --     symbol-parts                         a symbol by its four fields, the last two with their tests
+--     arity-unread, mark-unread, mark-refused, weight-unread, rank-unread     a symbol that is refused, by the answers
+--                                          to its fields
 --     symbols-fault, symbols-past          reading some symbols by reading one
 --     symbols-done, symbols-headed         reading so many by a loop, and the header
 --     stored-same, stored-more, stored-none   what is stored of a packed file
@@ -26,10 +28,19 @@ use Rattle.format.proofs.ReadingLaws.{andThen-same}
 use Rattle.reader.specs.Source.{Stored, tested}
 use Rattle.symbols.specs.Table.{tableWords, symbolsWords}
 use Rattle.symbols.proofs.EntryLaws.{entries-more}
+use Rattle.answers.specs.Answer.{readingOf}
 use Rattle.answers.specs.declared.Answer.{Answer}
 use Rattle.answers.specs.declared.Answer.the-variants.{Got, Fault}
 use Rattle.reader.specs.Symbol.{TakenBy, SymbolsRead}
 use Rattle.reader.proofs.SourceLaws.{tested-then}
+
+not-true : (b : Bool) → not b ≡ true → b ≡ false
+not-true false e = refl
+not-true true e = sym e
+
+pub not-false : (b : Bool) → not b ≡ false → b ≡ true
+not-false true e = refl
+not-false false e = sym e
 
 -- ---- the marks
 
@@ -145,3 +156,51 @@ stored-more false table before after n ss s e f g = tt
 pub stored-none : (packed : Bool) (table : List ℕ) → Stored packed 4 (symbolsWords []) table table
 stored-none true table = refl
 stored-none false table = tt
+
+-- ---- a symbol, by the answers to its fields
+
+module _ (source : Source) (w0 : ℕ) (earlier : List Symbol) (at : ℕ) where
+  abbrev symbol : Reading Symbol
+  symbol = symbolReader source w0 earlier at
+
+  abbrev Fielded : Answer → ℕ → ℕ → Type 0
+  Fielded x width offset = readingOf (λ (v : ℕ). v) x ≡ source .field width offset
+
+  pub arity-unread : (x : Answer) (code offset : ℕ) → x ≡ Fault offset code → Fielded x arityWidth at →
+      symbol ≡ fault code offset
+  arity-unread x code offset e f = symbol-parts source w0 earlier at ∙ rw (sym (rw e at f))
+
+  module _ (x : Answer) (arity n : ℕ) (e : x ≡ Got arity n) (f : Fielded x arityWidth at) where
+    pub mark-unread : (y : Answer) (code offset : ℕ) → y ≡ Fault offset code → Fielded y acWidth n →
+        symbol ≡ fault code offset
+    mark-unread y code offset g h = symbol-parts source w0 earlier at ∙ rw (sym (rw e at f), sym (rw g at h))
+
+    module _ (y : Answer) (ac m : ℕ) (g : y ≡ Got ac m) (h : Fielded y acWidth n) (b : Bool)
+        (binary : b ≡ (eqb ac 0 || eqb arity 2)) where
+      pub mark-refused : not b ≡ true → symbol ≡ fault acNotBinary at
+      mark-refused wrong =
+          symbol-parts source w0 earlier at
+          ∙ rw (sym (rw e at f), sym (rw g at h), sym binary ∙ not-true b wrong)
+
+      pub weight-unread : not b ≡ false → (l k : ℕ) → l ≡ k → k ≡ leastWeight w0 arity → (z : Answer)
+          (code offset : ℕ) → z ≡ Fault offset code →
+          readingOf (λ (v : ℕ). v) z ≡ tested source weightWidth (leb l) weightInadmissible m →
+          symbol ≡ fault code offset
+      weight-unread right l k p q z code offset i j =
+          symbol-parts source w0 earlier at
+          ∙ rw (sym (rw e at f), sym (rw g at h), sym binary ∙ not-false b right, sym (rw (i, p ∙ q) at j))
+
+      pub rank-unread : not b ≡ false → (l k : ℕ) → l ≡ k → k ≡ leastWeight w0 arity → (z : Answer) (weight o : ℕ) →
+          z ≡ Got weight o → readingOf (λ (v : ℕ). v) z ≡ tested source weightWidth (leb l) weightInadmissible m →
+          (taken : List Bool) → TakenBy earlier taken → (r : Answer) (code offset : ℕ) → r ≡ Fault offset code →
+          ((es : List Symbol) → TakenBy es taken → readingOf (λ (v : ℕ). v) r
+          ≡ tested source rankWidth (λ (rank : ℕ). not (heldBy es rank)) rankTaken o) → symbol ≡ fault code offset
+      rank-unread right l k p q z weight o i j taken t r code offset u v =
+          symbol-parts source w0 earlier at
+          ∙ rw (
+            sym (rw e at f),
+            sym (rw g at h),
+            sym binary ∙ not-false b right,
+            sym (rw (i, p ∙ q) at j),
+            sym (rw u at (v earlier t)),
+          )

@@ -1,13 +1,11 @@
 -- The head is read, the rules under the front of its table, and what may follow them.
-use mathlib.Core.Path.{_≡_, sym, ap, _∙_}
+use mathlib.Core.Path.{sym, _∙_}
 use mathlib.Core.List.{[]}
 use native.Mathlib.Omega.{arith}
-use lib.ListN.{length, take}
 use lib.Seq.{length-take-le}
-use Rattle.symbols.specs.Table.{signatureOf, tableWords}
 use Rattle.reader.specs.Source.{Reached}
 use Rattle.reader.proofs.SourceLaws.{read-packed}
-use Rattle.reader.proofs.FileLaws.{packed-unread, packed-unended, packed-read}
+use Rattle.reader.proofs.WholeLaws.{packed-unread, packed-unended, packed-read}
 use borrow.Author.Needs.{needs}
 use Rattle.reader.proofs.file.read_packed.Statement.{statement}
 use Rattle.reader.proofs.file.read_packed.Tie as tie
@@ -17,8 +15,7 @@ unfolding Reached
 returns c =
     let c4 = c .before .before .before .before in
     let c11 = c4 .before .before .before .before .before .before .before in
-    let a = c11 .args in
-    rw (c .enum-told .given .1) (sym (read-packed (a .form) (a .book .now) [])
+    rw (c .enum-told .given .1) (sym (read-packed (c11 .args .form) (c11 .args .book .now) [])
     ∙ rw (c .enum-told .given .1) at (c4 .read-head .ensures))
 
 front-requires : tie.Need-front-requires
@@ -62,11 +59,10 @@ returns-2 c =
     let c15 = c11 .before .before .before .before in
     let c22 = c15 .before .before .before .before .before .before .before in
     let a = c22 .args in
-    let head = rw (c11 .read .given .1) at (c15 .read-head .ensures) in
-    let σ = signatureOf (take (tableWords (c11 .read .given .0 .0)) (c15 .read-head .last .1 .1 .1 .1 .0)) in
-    let rules = c4 .read-packed-rules .ensures σ (rw (c9 .front .ensures .0) at (c7 .arities .ensures)) in
     rw (c .enum-told2 .given .1) (packed-unread (a .form) (a .book .now) (c15 .read-head .last .1 .1 .1 .1 .0)
-    (a .words .now) (a .words .now) _ _ _ head _ _ (rw (c .enum-told2 .given .1) at rules))
+    (a .words .now) (c4 .read-packed-rules .last .1 .1 .0) _ _ _ _ (c11 .read .given .1) (c15 .read-head .ensures) _
+    (c9 .front .ensures .0) (c7 .arities .result)
+    (c7 .arities .ensures) _ (c4 .read-packed-rules .ensures) _ _ (c .enum-told2 .given .1))
 
 is-padding-requires : tie.Need-is-padding-requires
 unfolding Reached
@@ -86,12 +82,12 @@ returns-3 c =
     let c18 = c14 .before .before .before .before in
     let c25 = c18 .before .before .before .before .before .before .before in
     let a = c25 .args in
-    let head = rw (c14 .read .given .1) at (c18 .read-head .ensures) in
-    let σ = signatureOf (take (tableWords (c14 .read .given .0 .0)) (c18 .read-head .last .1 .1 .1 .1 .0)) in
-    let rules = c7 .read-packed-rules .ensures σ (rw (c12 .front .ensures .0) at (c10 .arities .ensures)) in
     packed-read (a .form) (a .book .now) (c18 .read-head .last .1 .1 .1 .1 .0) (a .words .now)
-    (c7 .read-packed-rules .last .1 .1 .0) _ _ _ head _ _ (rw (c3 .read2 .given .1) at rules) (c12 .front .result)
-    (c12 .front .ensures .0) (c12 .front .ensures .1) (sym (c .before .is-padding .ensures) ∙ c .if1 .taken)
+    (c7 .read-packed-rules .last .1 .1 .0) _ _ _ _ (c14 .read .given .1) (c18 .read-head .ensures) _
+    (c12 .front .ensures .0)
+    (c10 .arities .result) (c10 .arities .ensures) _ (c7 .read-packed-rules .ensures) _ _ (c3 .read2 .given .1) _
+    (c .before .is-padding .ensures)
+    (c .if1 .taken) (c12 .front .ensures .1)
 
 returns-4 : tie.Need-returns-4
 unfolding Reached
@@ -104,12 +100,12 @@ returns-4 c =
     let c18 = c14 .before .before .before .before in
     let c25 = c18 .before .before .before .before .before .before .before in
     let a = c25 .args in
-    let head = rw (c14 .read .given .1) at (c18 .read-head .ensures) in
-    let σ = signatureOf (take (tableWords (c14 .read .given .0 .0)) (c18 .read-head .last .1 .1 .1 .1 .0)) in
-    let rules = c7 .read-packed-rules .ensures σ (rw (c12 .front .ensures .0) at (c10 .arities .ensures)) in
     packed-unended (a .form) (a .book .now) (c18 .read-head .last .1 .1 .1 .1 .0) (a .words .now)
-    (c7 .read-packed-rules .last .1 .1 .0) _ _ _ head _ _ (rw (c3 .read2 .given .1) at rules)
-    (sym (c .before .is-padding .ensures) ∙ c .if1 .left)
+    (c7 .read-packed-rules .last .1 .1 .0) _ _ _ _ (c14 .read .given .1) (c18 .read-head .ensures) _
+    (c12 .front .ensures .0)
+    (c10 .arities .result) (c10 .arities .ensures) _ (c7 .read-packed-rules .ensures) _ _ (c3 .read2 .given .1) _
+    (c .before .is-padding .ensures)
+    (c .if1 .left)
 
 pub read-packed-spec : {M : Type 1} → statement M
 read-packed-spec =

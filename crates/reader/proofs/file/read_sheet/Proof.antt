@@ -1,19 +1,13 @@
 -- The head is read, the rules under the front of the sheet, which is its table, and all words are to be read then.
-use mathlib.Core.Path.{_≡_, sym, ap, _∙_}
-use mathlib.Core.List.{[]}
+use mathlib.Core.Path.{sym, _∙_}
 use native.Mathlib.Omega.{arith}
-use borrow.Author.Tests.{eq-eqb, ne-eqb}
-use lib.ListN.{length, take}
+use lib.ListN.{take}
 use lib.Seq.{length-take-le}
-use Rattle.symbols.specs.Table.{signatureOf, tableWords}
+use Rattle.symbols.specs.Table.{signatureOf}
 use Rattle.symbols.proofs.EntryLaws.{table-le}
-use Rattle.format.specs.Layout.{formNumber}
-use Rattle.format.specs.Reading.{wordSource}
-use Rattle.format.specs.Format.{unusedOf, rulesReader}
 use Rattle.reader.specs.Source.{Reached}
 use Rattle.reader.proofs.SourceLaws.{read-words}
-use Rattle.reader.proofs.RuleLaws.{end-fault, end-got}
-use Rattle.reader.proofs.FileLaws.{sheet-unread, sheet-unended, sheet-read}
+use Rattle.reader.proofs.WholeLaws.{sheet-unread, sheet-unended, sheet-read}
 use borrow.Author.Needs.{needs}
 use Rattle.reader.proofs.file.read_sheet.Statement.{statement}
 use Rattle.reader.proofs.file.read_sheet.Tie as tie
@@ -69,12 +63,10 @@ returns-2 c =
     let c8 = c6 .before .before in
     let c11 = c8 .before .before .before in
     let c16 = c11 .before .before .before .before .before in
-    let a = c16 .args in
-    let head = rw (c8 .head .given .1) at (c11 .read-head .ensures) in
-    let σ = signatureOf (take (tableWords (c8 .head .given .0 .0)) (a .sheet .now)) in
-    let rules = rw (c6 .unused-at-start .ensures .0, c .enum-told2 .given .1) at
-    (c .before .before .read-word-rules .ensures σ (rw (head .1 .within .0) at (c4 .arities .ensures))) in
-    rw (c .enum-told2 .given .1) (sheet-unread (a .sheet .now) _ _ _ _ head _ _ (end-fault _ _ _ _ (sym rules)))
+    rw (c .enum-told2 .given .1) (sheet-unread (c16 .args .sheet .now) (c11 .read-head .last .1 .1 .1 .1 .0) _ _ _ _
+    (c8 .head .given .1) (c11 .read-head .ensures) (c4 .arities .result) (c4 .arities .ensures) _
+    (c6 .unused-at-start .ensures .0) _
+    (c .before .before .read-word-rules .ensures) _ _ (c .enum-told2 .given .1))
 
 returns-3 : tie.Need-returns-3
 unfolding Reached
@@ -85,13 +77,10 @@ returns-3 c =
     let c10 = c8 .before .before in
     let c13 = c10 .before .before .before in
     let c18 = c13 .before .before .before .before .before in
-    let a = c18 .args in
-    let head = rw (c10 .head .given .1) at (c13 .read-head .ensures) in
-    let σ = signatureOf (take (tableWords (c10 .head .given .0 .0)) (a .sheet .now)) in
-    let rules = rw (c8 .unused-at-start .ensures .0, c .before .before .read .given .1) at
-    (c4 .read-word-rules .ensures σ (rw (head .1 .within .0) at (c6 .arities .ensures))) in
-    let (rs, read, none) = end-got _ _ _ _ (sym rules) in
-    sheet-read (a .sheet .now) _ _ _ _ head rs _ read (eq-eqb _ _ (c .if1 .taken))
+    sheet-read (c18 .args .sheet .now) (c13 .read-head .last .1 .1 .1 .1 .0) _ _ _ _ (c10 .head .given .1)
+    (c13 .read-head .ensures) (c6 .arities .result) (c6 .arities .ensures) _ (c8 .unused-at-start .ensures .0) _
+    (c4 .read-word-rules .ensures) _ _
+    (c .before .before .read .given .1) (c .if1 .taken)
 
 returns-4 : tie.Need-returns-4
 unfolding Reached
@@ -102,13 +91,10 @@ returns-4 c =
     let c10 = c8 .before .before in
     let c13 = c10 .before .before .before in
     let c18 = c13 .before .before .before .before .before in
-    let a = c18 .args in
-    let head = rw (c10 .head .given .1) at (c13 .read-head .ensures) in
-    let σ = signatureOf (take (tableWords (c10 .head .given .0 .0)) (a .sheet .now)) in
-    let rules = rw (c8 .unused-at-start .ensures .0, c .before .before .read .given .1) at
-    (c4 .read-word-rules .ensures σ (rw (head .1 .within .0) at (c6 .arities .ensures))) in
-    let (rs, read, none) = end-got _ _ _ _ (sym rules) in
-    sheet-unended (a .sheet .now) _ _ _ _ head rs _ read (ne-eqb _ _ (c .if1 .left))
+    sheet-unended (c18 .args .sheet .now) (c13 .read-head .last .1 .1 .1 .1 .0) _ _ _ _ (c10 .head .given .1)
+    (c13 .read-head .ensures) (c6 .arities .result) (c6 .arities .ensures) _ (c8 .unused-at-start .ensures .0) _
+    (c4 .read-word-rules .ensures) _ _
+    (c .before .before .read .given .1) (c .if1 .left)
 
 pub read-sheet-spec : {M : Type 1} → statement M
 read-sheet-spec =

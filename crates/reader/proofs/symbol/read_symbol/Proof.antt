@@ -1,6 +1,5 @@
 -- The four fields are read and tested in the order of the definition; the entry is stored after the earlier ones.
 use mathlib.Core.Path.{_≡_, refl, sym, _∙_}
-use mathlib.Core.Bool.{Bool, true, false, not}
 use native.Mathlib.Omega.{arith}
 use lib.Dec.{eqb}
 use lib.ListN.{length-set}
@@ -11,27 +10,18 @@ use Rattle.format.specs.Errors.{weightInadmissible, rankTaken}
 use Rattle.format.specs.Layout.{weightWidth, rankWidth}
 use Rattle.reader.specs.Source.{sourceOf, tableOf}
 use Rattle.reader.proofs.SourceLaws.{tested-field, entry-stands, reached-entry}
-use Rattle.reader.proofs.SymbolLaws.{symbol-parts, taken-put, stored-same}
+use Rattle.reader.proofs.SymbolLaws.{not-false, symbol-parts, taken-put, stored-same}
+use Rattle.reader.proofs.SymbolLaws.{arity-unread, mark-unread, mark-refused, weight-unread, rank-unread}
 use borrow.Author.Needs.{needs}
 use Rattle.reader.proofs.symbol.read_symbol.Statement.{statement}
 use Rattle.reader.proofs.symbol.read_symbol.Tie as tie
 
-not-true : (b : Bool) → not b ≡ true → b ≡ false
-not-true false e = refl
-not-true true e = sym e
-
-not-false : (b : Bool) → not b ≡ false → b ≡ true
-not-false true e = refl
-not-false false e = sym e
+ruleset fields = (needs, arity-unread, mark-unread, mark-refused)
 
 returns : tie.Need-returns
 returns c =
     let c6 = c .before .before .before .before .before .before in
-    let a = c6 .args in
-    let earlier = symbolsAt (tableOf (a .packed) (a .sheet .now) (a .table .now)) 0 (a .number) in
-    let arity = sym (rw (c .enum-told .given .1) at (c .before .before .field .ensures .0)) in
-    let parts = symbol-parts (sourceOf (a .packed) (a .book .now) (a .sheet .now)) (a .w0) earlier (a .at) in
-    (rw (c .enum-told .given .1) (parts ∙ rw arity), c6 .pre .1 .1 .1)
+    rw (c .enum-told .given .1) (search fields, c6 .pre .1 .1 .1)
 
 cast-arity : tie.Need-cast-arity
 cast-arity c =
@@ -40,15 +30,8 @@ cast-arity c =
 
 returns-2 : tie.Need-returns-2
 returns-2 c =
-    let c4 = c .before .before .before .before in
-    let c6 = c4 .before .before in
-    let c10 = c6 .before .before .before .before in
-    let a = c10 .args in
-    let earlier = symbolsAt (tableOf (a .packed) (a .sheet .now) (a .table .now)) 0 (a .number) in
-    let arity = sym (rw (c4 .read .given .1) at (c6 .field .ensures .0)) in
-    let ac = sym (rw (c .enum-told2 .given .1) at (c .before .before .field2 .ensures .0)) in
-    let parts = symbol-parts (sourceOf (a .packed) (a .book .now) (a .sheet .now)) (a .w0) earlier (a .at) in
-    (rw (c .enum-told2 .given .1) (parts ∙ rw (arity, ac)), c10 .pre .1 .1 .1)
+    let c10 = c .before .before .before .before .before .before .before .before .before .before in
+    rw (c .enum-told2 .given .1) (search fields, c10 .pre .1 .1 .1)
 
 cast-ac : tie.Need-cast-ac
 cast-ac c =
@@ -64,17 +47,9 @@ binary-if-ac-requires c κs =
 
 returns-3 : tie.Need-returns-3
 returns-3 c =
-    let c3 = c .before .before .before in
-    let c5 = c3 .before .before in
-    let c7 = c5 .before .before in
-    let c9 = c7 .before .before in
-    let c13 = c9 .before .before .before .before in
-    let a = c13 .args in
-    let earlier = symbolsAt (tableOf (a .packed) (a .sheet .now) (a .table .now)) 0 (a .number) in
-    let arity = sym (rw (c7 .read .given .1) at (c9 .field .ensures .0)) in
-    let ac = sym (rw (c3 .read2 .given .1) at (c5 .field2 .ensures .0)) in
-    let parts = symbol-parts (sourceOf (a .packed) (a .book .now) (a .sheet .now)) (a .w0) earlier (a .at) in
-    (parts ∙ rw (arity, ac, sym (c .before .binary-if-ac .ensures) ∙ not-true _ (c .if1 .taken)), c13 .pre .1 .1 .1)
+    let c13 = c .before .before .before .before .before .before .before .before .before .before .before .before
+    .before in
+    (search fields, c13 .pre .1 .1 .1)
 
 least-weight-requires : tie.Need-least-weight-requires
 least-weight-requires c κs =
@@ -85,23 +60,17 @@ least-weight-requires c κs =
 returns-4 : tie.Need-returns-4
 returns-4 c =
     let c3 = c .before .before .before in
-    let c4 = c3 .before in
-    let c5 = c4 .before in
-    let c6 = c5 .before in
+    let c6 = c3 .before .before .before in
     let c8 = c6 .before .before in
-    let c10 = c8 .before .before in
-    let c12 = c10 .before .before in
-    let c14 = c12 .before .before in
-    let c18 = c14 .before .before .before .before in
-    let a = c18 .args in
-    let earlier = symbolsAt (tableOf (a .packed) (a .sheet .now) (a .table .now)) 0 (a .number) in
-    let arity = sym (rw (c12 .read .given .1) at (c14 .field .ensures .0)) in
-    let ac = sym (rw (c8 .read2 .given .1) at (c10 .field2 .ensures .0)) in
-    let binary = sym (c6 .binary-if-ac .ensures) ∙ not-false _ (c5 .if1 .left) in
-    let least = c3 .wide .ensures .0 ∙ c4 .least-weight .ensures in
-    let weight = sym (rw (c .enum-told3 .given .1, least) at (c .before .before .field-at-least .ensures .0)) in
-    let parts = symbol-parts (sourceOf (a .packed) (a .book .now) (a .sheet .now)) (a .w0) earlier (a .at) in
-    (rw (c .enum-told3 .given .1) (parts ∙ rw (arity, ac, binary, weight)), c18 .pre .1 .1 .1)
+    let c12 = c8 .before .before .before .before in
+    let c18 = c12 .before .before .before .before .before .before in
+    rw (c .enum-told3 .given .1) (
+      weight-unread _ _ _ _ _ _ _ (c12 .read .given .1) (c12 .before .before .field .ensures .0) _ _ _
+          (c8 .read2 .given .1) (c8 .before .before .field2 .ensures .0) _ (c6 .binary-if-ac .ensures)
+          (c3 .before .before .if1 .left) _ _ (c3 .wide .ensures .0) (c3 .before .least-weight .ensures) _ _ _
+          (c .enum-told3 .given .1) (c .before .before .field-at-least .ensures .0),
+      c18 .pre .1 .1 .1,
+    )
 
 cast-weight : tie.Need-cast-weight
 cast-weight c =
@@ -117,27 +86,20 @@ read-rank-requires c κs =
 returns-5 : tie.Need-returns-5
 returns-5 c =
     let c5 = c .before .before .before .before .before in
-    let c7 = c5 .before .before in
-    let c8 = c7 .before in
-    let c9 = c8 .before in
-    let c10 = c9 .before in
-    let c11 = c10 .before in
+    let c8 = c5 .before .before .before in
+    let c11 = c8 .before .before .before in
     let c13 = c11 .before .before in
-    let c15 = c13 .before .before in
-    let c17 = c15 .before .before in
-    let c19 = c17 .before .before in
-    let c23 = c19 .before .before .before .before in
-    let a = c23 .args in
-    let earlier = symbolsAt (tableOf (a .packed) (a .sheet .now) (a .table .now)) 0 (a .number) in
-    let arity = sym (rw (c17 .read .given .1) at (c19 .field .ensures .0)) in
-    let ac = sym (rw (c13 .read2 .given .1) at (c15 .field2 .ensures .0)) in
-    let binary = sym (c11 .binary-if-ac .ensures) ∙ not-false _ (c10 .if1 .left) in
-    let least = c8 .wide .ensures .0 ∙ c9 .least-weight .ensures in
-    let weight = sym (rw (c5 .read3 .given .1, least) at (c7 .field-at-least .ensures .0)) in
-    let rank = sym (rw (c .enum-told4 .given .1)
-    at (c .before .before .read-rank .ensures .0 earlier (c23 .pre .1 .1 .0))) in
-    let parts = symbol-parts (sourceOf (a .packed) (a .book .now) (a .sheet .now)) (a .w0) earlier (a .at) in
-    (rw (c .enum-told4 .given .1) (parts ∙ rw (arity, ac, binary, weight, rank)), c23 .pre .1 .1 .1)
+    let c17 = c13 .before .before .before .before in
+    let c23 = c17 .before .before .before .before .before .before in
+    rw (c .enum-told4 .given .1) (
+      rank-unread _ _ _ _ _ _ _ (c17 .read .given .1) (c17 .before .before .field .ensures .0) _ _ _
+          (c13 .read2 .given .1) (c13 .before .before .field2 .ensures .0) _ (c11 .binary-if-ac .ensures)
+          (c8 .before .before .if1 .left) _ _ (c8 .wide .ensures .0) (c8 .before .least-weight .ensures) _ _ _
+          (c5 .read3 .given .1) (c5 .before .before .field-at-least .ensures .0) (c23 .args .taken .now)
+          (c23 .pre .1 .1 .0) _ _ _
+          (c .enum-told4 .given .1) (c .before .before .read-rank .ensures .0),
+      c23 .pre .1 .1 .1,
+    )
 
 cast-put-entry : tie.Need-cast-put-entry
 cast-put-entry c =

@@ -1,0 +1,153 @@
+-- What the code that reads a whole file has to show at each of its ends, by the answers to its head and to its rules.
+--     packed-unread, packed-unended, packed-read    a packed file
+--     sheet-unread, sheet-unended, sheet-read       a sheet
+use mathlib.Core.Path.{_≡_, refl, sym, ap, _∙_}
+use mathlib.Core.List.{List, []}
+use mathlib.Core.Bool.{Bool, true, false}
+use Prim.Native.Nat.{ℕ, _≤_}
+use native.Mathlib.Omega.{arith}
+use borrow.Author.Tests.{eq-eqb, ne-eqb}
+use lib.ListN.{length, take}
+use Rattle.terms.specs.Signature.{Signature}
+use Rattle.format.specs.Errors.{badPadding, wordsLeftOver}
+use Rattle.format.specs.Layout.{formNumber}
+use Rattle.format.specs.Reading.{isPadding, bitSource, wordSource}
+use Rattle.format.specs.Reading.Reading.{got, fault}
+use Rattle.format.specs.Format.{Sides, RuleFile, unusedOf, rulesReader}
+use Rattle.format.specs.Files.{readBytesIn, readWords}
+use Rattle.format.proofs.ReadingLaws.{holds-got}
+use Rattle.format.proofs.FormatLaws.{rules-length}
+use Rattle.format.proofs.FileLaws.{words-unpacked}
+use Rattle.symbols.specs.Table.{signatureOf, tableWords, maxTableWords, frontWords}
+use Rattle.symbols.specs.Arities.{Arities}
+use Rattle.answers.specs.Answer.{endOf}
+use Rattle.answers.specs.declared.Answer.{Answer}
+use Rattle.answers.specs.declared.Answer.the-variants.{Got, Fault}
+use Rattle.sides.specs.Side.{WordsRead, rulesWords}
+use Rattle.sides.proofs.UnpackedLaws.{unpacked-length}
+use Rattle.reader.specs.Source.{sourceOf, Reached, readSource}
+use Rattle.reader.specs.File.{restReader, rulesIn, HeadParts, HeadRead, PackedRead}
+use Rattle.reader.specs.File.{SheetRead}
+use Rattle.reader.proofs.SourceLaws.{read-packed, read-words}
+use Rattle.reader.proofs.RuleLaws.{end-fault, end-got}
+use Rattle.reader.proofs.NodesLaws.{nodes-fit, as-long, rules-short}
+use Rattle.reader.proofs.FileLaws.{rest-unread, rest-unended, rest-ended}
+
+module _ (form : ℕ) (bytes table before after : List ℕ) (h : Answer) (symbols rules start : ℕ)
+    (e : h ≡ Got symbols start)
+    (read : HeadRead form true bytes [] (readSource form true bytes []) h table rules) (front : ℕ)
+    (size : front ≡ tableWords symbols) (cells : List ℕ) (a : Arities (signatureOf (take front table)) cells)
+    (x : Answer) (ruled : (σ : Signature) → Arities σ cells →
+    WordsRead (λ (rs : List Sides). rulesWords (rulesIn form rs))
+    (rulesReader (bitSource bytes) (unusedOf form) σ rules start) 0 before x after) where
+  abbrev τ : Signature
+  τ = signatureOf (take (tableWords symbols) table)
+
+  packedHead : (readBytesIn form bytes ≡ restReader form true bytes [] τ rules start)
+      × HeadParts true bytes [] table symbols rules start
+  packedHead = let (whole, parts) = rw e at read in (sym (read-packed form bytes []) ∙ whole, parts)
+
+  pub packed-unread : (code offset : ℕ) → x ≡ Fault offset code → readBytesIn form bytes ≡ fault code offset
+  unfolding sourceOf
+  packed-unread code offset g =
+      packedHead .0 ∙ rest-unread form true bytes [] τ rules start code offset (rw g at (ruled τ (rw size at a)))
+
+  module _ (nodes next : ℕ) (g : x ≡ Got nodes next) (b : Bool) (p : b ≡ isPadding bytes next) where
+    stored : WordsRead (λ (rs : List Sides). rulesWords (rulesIn form rs))
+        (rulesReader (bitSource bytes) (unusedOf form) τ rules start) 0 before (Got nodes next) after
+    stored = rw g at (ruled τ (rw size at a))
+
+    pub packed-unended : b ≡ false → readBytesIn form bytes ≡ fault badPadding next
+    unfolding sourceOf
+    packed-unended left =
+        packedHead .0 ∙ rest-unended form true bytes [] τ rules start (stored .0) next (stored .1) badPadding next
+        (rw (sym p ∙ left))
+
+    pub packed-read : b ≡ true → front ≤ maxTableWords →
+        PackedRead form bytes (readBytesIn form bytes) (Got nodes front) table before after
+    unfolding sourceOf Reached
+    packed-read ended few =
+        let (rs, rulesRead, count, put) = stored in
+        let n = rules-length (bitSource bytes) (unusedOf form) τ rules start rs next rulesRead in (
+          record { signature = τ; rules = rs },
+          next,
+          packedHead .0 ∙ rest-ended form true bytes [] τ rules start rs next rulesRead next (rw (sym p ∙ ended)),
+          record {
+            short = packedHead .1 .short;
+            size = size ∙ ap tableWords (packedHead .1 .symbolCount);
+            few = few;
+            words = ap (λ (k : ℕ). take k table) size ∙ packedHead .1 .front refl ∙ ap (frontWords τ) (sym n);
+            signature = ap (λ (k : ℕ). signatureOf (take k table)) size;
+            admissible = packedHead .1 .admissible;
+            narrow = omega (
+              arith,
+              count,
+              as-long form rs,
+              nodes-fit bytes (unusedOf form) τ rules start rs next rulesRead (packedHead .1 .within),
+            );
+            nodeCount = omega (arith, count);
+            stored = put;
+          },
+        )
+
+-- ---- a sheet
+
+module _ (words table : List ℕ) (h : Answer) (symbols rules start : ℕ) (e : h ≡ Got symbols start)
+    (read : HeadRead formNumber false [] words (readSource formNumber false [] words) h table rules)
+    (cells : List ℕ) (a : Arities (signatureOf (take start words)) cells) (unused : ℕ)
+    (u : unused ≡ unusedOf formNumber)
+    (x : Answer) (ruled : (σ : Signature) → Arities σ cells →
+    x ≡ endOf (rulesReader (wordSource words) unused σ rules start)) where
+  abbrev υ : Signature
+  υ = signatureOf (take (tableWords symbols) words)
+
+  sheetHead : (readWords words ≡ restReader formNumber false [] words υ rules start)
+      × HeadParts false [] words table symbols rules start
+  sheetHead = let (whole, parts) = rw e at read in (sym (read-words words) ∙ whole, parts)
+
+  rulesEnd : endOf (rulesReader (wordSource words) (unusedOf formNumber) υ rules start) ≡ x
+  unfolding Reached
+  rulesEnd = sym (rw u at (ruled υ (rw (sheetHead .1 .within .0) at a)))
+
+  pub sheet-unread : (code offset : ℕ) → x ≡ Fault offset code → readWords words ≡ fault code offset
+  unfolding sourceOf
+  sheet-unread code offset g =
+      sheetHead .0 ∙ rest-unread formNumber false [] words υ rules start code offset
+      (end-fault _ _ code offset (rulesEnd ∙ g))
+
+  module _ (value next : ℕ) (g : x ≡ Got value next) where
+    pub sheet-unended : (next ≡ length words → ⊥) → readWords words ≡ fault wordsLeftOver next
+    unfolding sourceOf
+    sheet-unended left =
+        let (rs, rulesRead, none) = end-got _ _ value next (rulesEnd ∙ g) in
+        sheetHead .0 ∙ rest-unended formNumber false [] words υ rules start rs next rulesRead wordsLeftOver next
+        (rw (ne-eqb next (length words) left))
+
+    pub sheet-read : next ≡ length words → SheetRead words (readWords words) (Got symbols start)
+    unfolding sourceOf Reached
+    sheet-read ended =
+        let (rs, rulesRead, none) = end-got _ _ value next (rulesEnd ∙ g) in
+        let file : RuleFile = record { signature = υ; rules = rs } in
+        let whole : readWords words ≡ got file next =
+        sheetHead .0 ∙ rest-ended formNumber false [] words υ rules start rs next rulesRead next
+        (rw (eq-eqb next (length words) ended)) in
+        let few = holds-got _ _ rs next (rules-short (wordSource words) (unusedOf formNumber) υ rules start)
+        rulesRead in (
+          file,
+          next,
+          whole,
+          record {
+            symbolCount = sheetHead .1 .symbolCount;
+            begin = sheetHead .1 .within .0;
+            within = sheetHead .1 .within .1;
+            short = omega (
+              arith,
+              ap length (words-unpacked words file next whole),
+              unpacked-length file,
+              few,
+              sheetHead .1 .symbolCount,
+              sheetHead .1 .fewSymbols,
+              sheetHead .1 .fewRules,
+            );
+          },
+        )

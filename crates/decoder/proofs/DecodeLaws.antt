@@ -23,7 +23,7 @@ use Rattle.format.specs.Files.{readBytes}
 use Rattle.format.specs.Packing.{unpacked}
 use Rattle.operations.specs.Replies.Reply.{accepted, refused}
 use Rattle.operations.specs.Coding.{decoded}
-use Rattle.symbols.specs.Table.{tableWords, maxTableWords}
+use Rattle.symbols.specs.Table.{maxTableWords}
 use Rattle.symbols.proofs.EntryLaws.{table-entries}
 use Rattle.answers.specs.declared.Answer.the-variants.{Got}
 use Rattle.sides.specs.Side.{rulesWords}

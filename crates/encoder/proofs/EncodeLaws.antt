@@ -1,12 +1,12 @@
 -- Laws of encoding.
 --     Listed, file-listed                    what words that were read say of their file
 --     encode-fault, encode-long, encode-short, encode-done     what encoding gives back, by the file
-use mathlib.Core.List.{List, [], _++_, flatMap}
+use mathlib.Core.List.{List, _++_, flatMap}
 use mathlib.Core.Path.{_≡_, refl, sym, ap, _∙_}
-use Prim.Native.Nat.{ℕ, suc, zero, _+_, _*_, _/_, _≤_, _<_}
+use Prim.Native.Nat.{ℕ, _+_, _*_, _/_, _≤_, _<_}
 use native.Mathlib.Nat.{zero-add}
 use native.Mathlib.Omega.{arith}
-use lib.ListN.{length, length-append, drop}
+use lib.ListN.{length, drop}
 use lib.Seq.{sets, sets-eq}
 use borrow.Author.Tests.{le-leb, lt-leb}
 use Rattle.format.specs.Reading.Reading.{got, fault}

@@ -3,13 +3,13 @@
 --     left-fault, right-fault, terms-read    two terms
 --     book-answer, book-fault, book-read     the file, and then the terms
 use mathlib.Core.List.{List}
-use mathlib.Core.Path.{_≡_, refl, sym, ap, _∙_}
+use mathlib.Core.Path.{_≡_, sym, ap, _∙_}
 use mathlib.Core.Bool.{Bool, true, false}
 use Prim.Native.Nat.{ℕ, _≤_}
 use native.Mathlib.Omega.{arith}
 use lib.ListN.{length, take}
 use lib.Seq.{length-take-le, take-all}
-use Rattle.terms.specs.Signature.{Signature, Admissible}
+use Rattle.terms.specs.Signature.{Signature}
 use Rattle.format.specs.Layout.{formNumber}
 use Rattle.format.specs.Reading.{Reading}
 use Rattle.format.specs.Reading.Reading.{got, fault}

@@ -16,8 +16,6 @@ use Rattle.operations.specs.declared.Relation.{Relation}
 use Rattle.operations.specs.declared.Relation.the-variants as relation
 use Rattle.operations.specs.declared.GreaterSide.{GreaterSide}
 use Rattle.operations.specs.declared.GreaterSide.the-variants.{Left, Right, Equivalent, Unrelated}
-use Rattle.operations.specs.declared.PickReply.{PickReply}
-use Rattle.operations.specs.Enums.{pickReply}
 use Rattle.operations.specs.Inputs.{Inputs, readInputs}
 use Rattle.operations.specs.Comparing.{relation as relationOf}
 use Rattle.operations.specs.Picking.{sideOf, picked, ofGreater, greaterPart}

@@ -5,7 +5,7 @@
 --     reached-start, reached-field, reached-entry, reached-symbols     where fields, and symbols, end
 --     entry-stands, w0-stands    what was read among words stands there
 --     room-le, room-same, room-table    room for a table
-use mathlib.Core.Path.{_≡_, refl, ap}
+use mathlib.Core.Path.{_≡_, refl}
 use mathlib.Core.List.{List, [], _∷_, flatMap}
 use mathlib.Core.Bool.{Bool, true, false}
 use Prim.Native.Nat.{ℕ, _+_, _*_, _^_, _≤_, _<_}

@@ -2,8 +2,10 @@
 --     fewer-allowed                        one node fewer is allowed
 --     terms-none, terms-many, terms-fault, terms-before     reading terms
 --     side-read                            a side, from the words where it was read
+--     side-within, side-front              its words stand first there, by the answer: the ruleset sides
 --     words-more, side-stored              words stored one by one, and a side
 --     within-wider, left-fault, right-stored    a rule
+use borrow.Author.Needs.{needs}
 use mathlib.Core.Path.{_≡_, refl, sym, _∙_}
 use mathlib.Core.List.{List, [], _∷_}
 use Prim.Native.Nat.{ℕ, suc, _+_, _-_, _≤_, _<_}
@@ -85,6 +87,17 @@ side-read unused words after lowest used r (got nodes next) long k (e, l, f, u) 
 side-read unused words after lowest used r (fault code offset) long k e = rw e
 
 -- ---- storing
+
+-- A side that was read stands at the front of the words.
+module _ (x : Answer) (value next : ℕ) (e : x ≡ Got value next) (last : ℕ) (within : Within maxNodes last x)
+    (words : List ℕ) (long : length words ≡ maxNodes) where
+  pub side-within : value ≤ length words
+  side-within = omega (arith, (rw e at within) .0)
+
+  pub side-front : value ≡ length (take value words)
+  side-front = sym (length-take-le value words side-within)
+
+pub ruleset sides = (needs, side-within, side-front)
 
 pub words-more : (words nodes : List ℕ) (index i : ℕ) → i < length nodes →
     set (sets words index (take i nodes)) (index + i) (getD nodes i 0) ≡ sets words index (take (i + 1) nodes)

@@ -9,7 +9,7 @@ use lib.ListN.{length, length-append}
 use Rattle.terms.specs.Signature.{Symbol}
 use Rattle.format.specs.Layout.{formNumber}
 use Rattle.format.specs.Format.{Sides, RuleFile}
-use Rattle.format.specs.Packing.{itemWord, symbolItems, ruleItems, itemsIn, items, unpacked}
+use Rattle.format.specs.Packing.{itemWord, symbolItems, ruleItems, itemsIn, unpacked}
 use Rattle.format.specs.Packing.Item.{node}
 use Rattle.symbols.specs.Table.{symbolsWords}
 use Rattle.symbols.proofs.EntryLaws.{length-symbolsWords}

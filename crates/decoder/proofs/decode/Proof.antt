@@ -1,5 +1,5 @@
 -- What was unpacked is the file's sheet, or the words were too short for it and are as they were.
-use mathlib.Core.Path.{sym, _∙_}
+use mathlib.Core.Path.{_∙_}
 use Prim.Native.Nat.{_≤_, _<_}
 use native.Mathlib.Omega.{arith}
 use lib.ListN.{length}

@@ -1,9 +1,8 @@
 -- The side is read into an array and stored from there.
-use mathlib.Core.Path.{sym}
 use native.Mathlib.Omega.{arith}
 use lib.ListN.{take}
 use lib.Seq.{length-take-le}
-use Rattle.sides.proofs.SideLaws.{side-stored}
+use Rattle.sides.proofs.SideLaws.{side-stored, sides}
 use borrow.Author.Needs.{needs}
 use Rattle.sides.proofs.read_side_into.Statement.{statement}
 use Rattle.sides.proofs.read_side_into.Tie as tie
@@ -14,20 +13,6 @@ returns c =
       λ σ k. rw (c .enum-told .given .1) at (c .before .before .read-side .ensures .0 σ k),
       (tt, c .before .before .read-side .ensures .1 .1 .1),
     )
-
-array-share-prefix-side : tie.Need-array-share-prefix-side
-array-share-prefix-side c =
-    let c4 = c .before .before .before .before in
-    let within = rw (c .before .before .read .given .1) at (c4 .read-side .ensures .1 .0) in
-    omega (arith, within, c4 .read-side .ensures .1 .1)
-
-slice-aggregate-put-words : tie.Need-slice-aggregate-put-words
-slice-aggregate-put-words c =
-    let c3 = c .before .before .before in
-    let c5 = c3 .before .before in
-    let within = rw (c3 .read .given .1) at (c5 .read-side .ensures .1 .0) in
-    sym (length-take-le (c3 .read .given .0 .0) (c5 .read-side .last .1 .1 .0)
-    (omega (arith, within, c5 .read-side .ensures .1 .1)))
 
 put-words-requires : tie.Need-put-words-requires
 put-words-requires c κs =
@@ -63,4 +48,4 @@ returns-2 c =
 pub read-side-into-spec : {M : Type 1} → statement M
 read-side-into-spec =
     tie.close (tie.spec (λ c κs. search needs) (λ c. search needs) (λ c. search needs) returns
-    array-share-prefix-side slice-aggregate-put-words put-words-requires add-end (λ c. search needs) returns-2)
+    (λ c. search sides) (λ c. search sides) put-words-requires add-end (λ c. search needs) returns-2)

@@ -1,6 +1,6 @@
 -- A byte past the end leaves the list as it is.
 use mathlib.Core.Logic.{⊎-elim}
-use mathlib.Core.Path.{_≡_, refl, sym, ap, _∙_}
+use mathlib.Core.Path.{_≡_, refl, ap, _∙_}
 use lib.ListN.{length, set, length-set}
 use lib.Seq.{set-out}
 use native.Mathlib.Omega.{arith}

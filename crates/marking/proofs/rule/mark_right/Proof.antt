@@ -1,24 +1,10 @@
 -- The right side is read as the definition reads it, and the rule is marked with it.
-use mathlib.Core.Path.{sym}
-use native.Mathlib.Omega.{arith}
-use lib.Seq.{length-take-le}
 use Rattle.symbols.specs.Table.{signatureOf}
+use Rattle.sides.proofs.SideLaws.{sides}
 use Rattle.marking.proofs.SideLaws.{side-term, right-marked}
 use borrow.Author.Needs.{needs}
 use Rattle.marking.proofs.rule.mark_right.Statement.{statement}
 use Rattle.marking.proofs.rule.mark_right.Tie as tie
-
-array-share-prefix-right : tie.Need-array-share-prefix-right
-array-share-prefix-right c =
-    let c3 = c .before .before .before in
-    let within = rw (c .before .value .given .1) at (c3 .read-side .ensures .1 .0) in
-    omega (arith, within, c3 .read-side .ensures .1 .1)
-
-slice-aggregate-mark-sides : tie.Need-slice-aggregate-mark-sides
-slice-aggregate-mark-sides c =
-    let c4 = c .before .before .before .before in
-    let within = rw (c .before .before .value .given .1) at (c4 .read-side .ensures .1 .0) in
-    sym (length-take-le _ (c4 .read-side .last .1 .1 .0) (omega (arith, within, c4 .read-side .ensures .1 .1)))
 
 mark-sides-requires : tie.Need-mark-sides-requires
 mark-sides-requires c κs =
@@ -56,8 +42,8 @@ mark-right-spec =
     (λ c κs. search needs)
     (λ c. search needs)
     (λ c. search needs)
-    array-share-prefix-right
-    slice-aggregate-mark-sides
+    (λ c. search sides)
+    (λ c. search sides)
     mark-sides-requires
     returns
     returns-2)

@@ -1,11 +1,10 @@
 -- The left side is read first, and what follows is what the right side, read on with its variables, makes of the rule.
-use mathlib.Core.Path.{refl, sym}
-use native.Mathlib.Omega.{arith}
-use lib.Seq.{length-take-le}
+use mathlib.Core.Path.{refl}
 use Rattle.format.specs.Layout.{formNumber}
 use Rattle.format.specs.Reading.{bitSource}
 use Rattle.format.specs.Format.{unusedOf}
 use Rattle.symbols.specs.Table.{signatureOf}
+use Rattle.sides.proofs.SideLaws.{sides}
 use Rattle.marking.proofs.SideLaws.{side-term, left-unread, rule-marked}
 use borrow.Author.Needs.{needs}
 use Rattle.marking.proofs.rule.mark_rule.Statement.{statement}
@@ -15,18 +14,6 @@ read-side-requires : tie.Need-read-side-requires
 read-side-requires c κs =
     let c5 = c .before .before .before .before .before in
     ((c5 .pre .0 .0, c5 .pre .0 .1, refl), c .before .before .unused-at-start .ensures .1)
-
-array-share-prefix-left : tie.Need-array-share-prefix-left
-array-share-prefix-left c =
-    let c3 = c .before .before .before in
-    let within = rw (c .before .value .given .1) at (c3 .read-side .ensures .1 .0) in
-    omega (arith, within, c3 .read-side .ensures .1 .1)
-
-slice-aggregate-mark-right : tie.Need-slice-aggregate-mark-right
-slice-aggregate-mark-right c =
-    let c4 = c .before .before .before .before in
-    let within = rw (c .before .before .value .given .1) at (c4 .read-side .ensures .1 .0) in
-    sym (length-take-le _ (c4 .read-side .last .1 .1 .0) (omega (arith, within, c4 .read-side .ensures .1 .1)))
 
 mark-right-requires : tie.Need-mark-right-requires
 mark-right-requires c κs =
@@ -73,8 +60,8 @@ mark-rule-spec =
     read-side-requires
     (λ c. search needs)
     (λ c. search needs)
-    array-share-prefix-left
-    slice-aggregate-mark-right
+    (λ c. search sides)
+    (λ c. search sides)
     mark-right-requires
     returns
     returns-2)

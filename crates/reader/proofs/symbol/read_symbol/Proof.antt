@@ -1,5 +1,5 @@
 -- The four fields are read and tested in the order of the definition; the entry is stored after the earlier ones.
-use mathlib.Core.Path.{_≡_, refl, sym, _∙_}
+use mathlib.Core.Path.{refl, sym, _∙_}
 use native.Mathlib.Omega.{arith}
 use lib.Dec.{eqb}
 use lib.ListN.{length-set}

@@ -1,9 +1,6 @@
 -- Each branch is the call for its source; a packed file has its header stored before.
-use mathlib.Core.Path.{_≡_, refl, sym, _∙_}
 use native.Mathlib.Omega.{arith}
-use Rattle.symbols.specs.Table.{symbolsAt}
 use Rattle.symbols.proofs.EntryLaws.{table-some}
-use Rattle.reader.proofs.SourceLaws.{room-same}
 use Rattle.reader.proofs.SymbolLaws.{symbols-headed}
 use borrow.Author.Needs.{needs}
 use Rattle.reader.proofs.symbol.read_symbols.Statement.{statement}

@@ -1,5 +1,6 @@
 -- The left side is read first, and what follows is what the right side, read on with its variables, makes of the rule.
 use mathlib.Core.Path.{refl}
+use native.Mathlib.Omega.{arith}
 use Rattle.format.specs.Layout.{formNumber}
 use Rattle.format.specs.Reading.{bitSource}
 use Rattle.format.specs.Format.{unusedOf}
@@ -23,8 +24,10 @@ mark-right-requires c κs =
     let σ = signatureOf (a .table .now) in
     let (T, A, N) = c10 .pre .1 in
     let (e, u) = rw (c .before .before .value .given .1) at (c4 .read-side .ensures .0 σ A) in
-    let (few, end) = rw (c .before .before .value .given .1) at (c4 .read-side .ensures .1 .0) in
-    ((c10 .pre .0 .0, end), ((T, A, side-term (a .book .now) _ σ (a .at) _ _ e, N), c4 .read-side .ensures .1 .1 .1))
+    let (few, end) = rw (c .before .before .value .given .1) at (c4 .read-side .ensures .1 .0) in (
+      (c10 .pre .0 .0, end),
+      ((T, A, side-term (a .book .now) _ σ (a .at) _ _ e, N), omega (arith, c4 .read-side .ensures .1 .1 .1)),
+    )
 
 returns : tie.Need-returns
 returns c =

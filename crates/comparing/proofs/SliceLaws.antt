@@ -1,15 +1,14 @@
 -- The fronts of the table and of the words, by the answer that has the ends of what was read.
---     front                                         a front within a list has as many words as it is said to
 --     table-within, table-small, table-admissible   the table
 --     left-within, left-term                        the left term, and so for the right one
 --     slices                                        all of these
 use mathlib.Core.List.{List}
-use mathlib.Core.Path.{_≡_, sym}
+use mathlib.Core.Path.{_≡_}
 use Prim.Native.Nat.{ℕ, _≤_}
 use native.Mathlib.Omega.{arith}
 use lib.ListN.{length, take}
-use lib.Seq.{length-take-le}
 use borrow.Author.Needs.{needs}
+use Rattle.multisets.proofs.ListLaws.{front}
 use Rattle.terms.specs.Signature.{Admissible}
 use Rattle.format.specs.Statements.{IsTerm}
 use Rattle.operations.specs.Replies.{Reply}
@@ -18,9 +17,6 @@ use Rattle.symbols.specs.Table.{signatureOf, maxTableWords}
 use Rattle.inputs.specs.Inputs.{InputsRead}
 use Rattle.inputs.specs.declared.Ends.{Ends}
 use Rattle.inputs.specs.declared.Ends.the-variants.{Read}
-
-pub front : (n : ℕ) (words : List ℕ) → n ≤ length words → n ≡ length (take n words)
-front n words h = sym (length-take-le n words h)
 
 module _ (table left right : List ℕ) (reading : Reply Inputs) (ends : Ends) (n l r : ℕ) (e : ends ≡ Read n l r)
     (read : InputsRead table left right reading ends) where

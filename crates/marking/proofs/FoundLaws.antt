@@ -1,6 +1,6 @@
 -- What the walk over a rule file found, by its answer.
 --     rules-below, decreasing-below        the counts
---     front, front-below, end-below        a front of what was stored
+--     front-below, end-below               a front of what was stored
 --     marks-within, margins-within         there are as many marks and margins as rules
 --     fronts-same                          of both
 --     length-kept, stored-fronts           they are those of the file's rules
@@ -10,8 +10,9 @@ use Prim.Native.Nat.{ℕ, _+_, _≤_, _<_}
 use native.Mathlib.Omega.{arith}
 use lib.IntN.{ℤ}
 use lib.ListN.{length, take, length-map}
-use lib.Seq.{length-sets, length-take-le}
+use lib.Seq.{length-sets}
 use borrow.Author.Needs.{needs}
+use Rattle.multisets.proofs.ListLaws.{front}
 use Rattle.format.specs.Reading.{Reading}
 use Rattle.format.specs.Format.{RuleFile, systemOf}
 use Rattle.operations.specs.Marking.{marksOf, marginsOf}
@@ -19,9 +20,6 @@ use Rattle.marking.specs.declared.walk.FileMarked.{FileMarked}
 use Rattle.marking.specs.declared.walk.FileMarked.the-variants.{Marked}
 use Rattle.marking.specs.Rule.{MarkedAs, WholeMarked}
 use Rattle.marking.proofs.WalkLaws.{stored-front}
-
-pub front : {A : Type 0} (n : ℕ) (l : List A) → n ≤ length l → n ≡ length (take n l)
-front n l h = sym (length-take-le n l h)
 
 module _ (file : RuleFile) (rules decreasing : ℕ) (marks₀ marks : List ℕ) (margins₀ margins : List ℤ)
     (m : MarkedAs file rules decreasing marks₀ marks margins₀ margins) where

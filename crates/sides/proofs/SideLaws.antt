@@ -6,6 +6,7 @@
 --     words-more, side-stored              words stored one by one, and a side
 --     within-wider, left-fault, right-stored    a rule
 use borrow.Author.Needs.{needs}
+use Rattle.multisets.proofs.ListLaws.{front}
 use mathlib.Core.Path.{_≡_, refl, sym, _∙_}
 use mathlib.Core.List.{List, [], _∷_}
 use Prim.Native.Nat.{ℕ, suc, _+_, _-_, _≤_, _<_}
@@ -95,7 +96,7 @@ module _ (x : Answer) (value next : ℕ) (e : x ≡ Got value next) (last : ℕ)
   side-within = omega (arith, (rw e at within) .0)
 
   pub side-front : value ≡ length (take value words)
-  side-front = sym (length-take-le value words side-within)
+  side-front = front value words side-within
 
 pub ruleset sides = (needs, side-within, side-front)
 

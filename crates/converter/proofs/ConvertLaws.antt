@@ -1,14 +1,13 @@
 -- What the code that converts has to show.
 --     convert-fault, convert-short, convert-written     the reply and the output afterwards
 --     sheet-short, sheet-begin, sheet-front, sheet-packed, sheet-bits     the sheet of the converted file, and its bits
-use mathlib.Core.Path.{_≡_, ap, _∙_}
+use mathlib.Core.Path.{_≡_, sym, ap, _∙_}
 use mathlib.Core.List.{List, [], _++_, flatMap}
-use Prim.Native.Nat.{ℕ, _+_, _*_, _≤_, _<_}
+use Prim.Native.Nat.{ℕ, _+_, _*_, _/_, _≤_, _<_}
 use native.Mathlib.Omega.{arith}
-use native.Mathlib.Nat.{zero-add}
 use borrow.Author.Tests.{lt-leb, le-leb}
 use lib.ListN.{length, take, drop}
-use lib.Seq.{sets, sets-eq, take-append-seam}
+use lib.Seq.{sets-eq, take-append-seam}
 use Rattle.format.specs.Errors.{bytesTooShort}
 use Rattle.format.specs.Layout.{firstForm, maxBytes}
 use Rattle.format.specs.Reading.Reading.{got, fault}
@@ -49,14 +48,12 @@ module _ (bytes output : List ℕ) where
 
     pub convert-written : length bytes ≤ length output →
         (accepted (length bytes) ≡ converted bytes output .reply)
-        × (sets output 0 (packed (convertedFile file)) ≡ converted bytes output .output)
+        × (packed (convertedFile file) ++ drop (length bytes) output ≡ converted bytes output .output)
     unfolding converted
     convert-written h =
         let new = packed (convertedFile file) in
         let fits = le-leb (length bytes) (length output) h in
-        let front : sets output 0 new ≡ new ++ drop (length new) output =
-        sets-eq new output 0 (omega (arith, as-long)) ∙ ap (λ (n : ℕ). new ++ drop n output) (zero-add (length new)) in
-        (rw (e, fits), rw (e, fits) front)
+        (rw (e, fits), rw (e, fits) (ap (λ (n : ℕ). new ++ drop n output) (sym as-long)))
 
 -- ---- the sheet of the converted file
 
@@ -86,6 +83,5 @@ module _ (bytes sheet stored : List ℕ) (file : RuleFile) (total front : ℕ)
       rw (sheet-front, parts .begin)
       (ap (λ (is : List Item). bytesOf (flatMap itemBits is)) (file-items (convertedFile file)))
 
-  pub sheet-bits : (end : ℕ) → readBytesIn firstForm bytes ≡ got file end → length bits ≤ 8 * length bytes
-  sheet-bits end e =
-      omega (arith, as-long bytes [] file end e, ap length sheet-packed, length-bytesOf bits)
+  pub sheet-bits : (end : ℕ) → readBytesIn firstForm bytes ≡ got file end → length bytes ≡ (length bits + 7) / 8
+  sheet-bits end e = sym (as-long bytes [] file end e) ∙ sym (ap length sheet-packed) ∙ length-bytesOf bits

@@ -30,7 +30,7 @@ fn convert_through(book: &[u8], out: &mut [u8], sheet: &mut [u16]) -> NumberRepl
             if out.len() < book.len() {
                 return NumberReply::Refused(refusal(format::BYTES_TOO_SHORT, 1, 0));
             }
-            encoder::write_items(&sheet[..value], next, out);
+            encoder::write_items(&sheet[..value], next, &mut out[..book.len()]);
             NumberReply::Accepted(book.len())
         }
     }

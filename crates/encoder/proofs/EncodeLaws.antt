@@ -4,10 +4,8 @@
 use mathlib.Core.List.{List, _++_, flatMap}
 use mathlib.Core.Path.{_≡_, refl, sym, ap, _∙_}
 use Prim.Native.Nat.{ℕ, _+_, _*_, _/_, _≤_, _<_}
-use native.Mathlib.Nat.{zero-add}
 use native.Mathlib.Omega.{arith}
 use lib.ListN.{length, drop}
-use lib.Seq.{sets, sets-eq}
 use borrow.Author.Tests.{le-leb, lt-leb}
 use Rattle.format.specs.Reading.Reading.{got, fault}
 use Rattle.format.specs.Format.{RuleFile}
@@ -78,11 +76,8 @@ module _ (words bytes : List ℕ) where
       unfolding encoded
       encode-short k = rw (read, size, le-leb count 32768 l, lt-leb count (length bytes) k) (refl, refl)
 
-      pub encode-done : count ≤ length bytes → Gives words bytes (accepted count) (sets bytes 0 (bytesOf bits))
+      pub encode-done : count ≤ length bytes → Gives words bytes (accepted count) (bytesOf bits ++ drop count bytes)
       unfolding encoded
       encode-done k =
-          let front = packed file in
-          let room : 0 + length front ≤ length bytes = omega (arith, size) in
-          let output : sets bytes 0 front ≡ front ++ drop (length front) bytes =
-          sets-eq front bytes 0 room ∙ ap (λ (n : ℕ). front ++ drop n bytes) (zero-add (length front)) in
-          rw (read, size, le-leb count 32768 l, le-leb count (length bytes) k, ← same-packed) (refl, output)
+          rw (read, size, le-leb count 32768 l, le-leb count (length bytes) k, ← same-packed)
+          (refl, ap (λ (n : ℕ). packed file ++ drop n bytes) (sym size))

@@ -2,7 +2,7 @@
 --     symbol-bits, variable-bits               the bits of a node
 --     field-bits, node-bits                    the bits of an item
 --     flat-nil, bits-more, bits-le, bits-mono  the bits of the first items; an item takes at most 16
---     node-more, two-more, room-one, room-two  one node more, or two, and that there is room for them
+--     node-more                                one node more
 --     pair-more, symbol-widths, fields-length  two fields more; how many bits the fields take
 use mathlib.Core.List.{List, [], _∷_, _++_, flatMap, append-nil}
 use mathlib.Core.Path.{_≡_, refl, sym, ap, _∙_}
@@ -103,37 +103,9 @@ module _ (words : List ℕ) (nodes : ℕ) where
       ∙ length-append (bitsTo words nodes i) (flatMap itemBits later) in
       omega arith
 
-  -- ---- a node more, and two
-
   pub node-more : (i : ℕ) → nodes ≤ i →
       bitsTo words nodes (i + 1) ≡ bitsTo words nodes i ++ itemBits (node (getD words i 0))
   node-more i h = bits-more i ∙ rw (node-bits i h)
-
-  pub two-more : (i : ℕ) → nodes ≤ i → bitsTo words nodes (i + 2) ≡
-      (bitsTo words nodes i ++ itemBits (node (getD words i 0))) ++ itemBits (node (getD words (i + 1) 0))
-  two-more i h =
-      let e : i + 2 ≡ i + 1 + 1 = omega arith in
-      rw (e, node-more (i + 1) (omega arith), node-more i h)
-
-  pub room-one : (i : ℕ) → nodes ≤ i → i < length words →
-      length (bitsTo words nodes i) + length (itemBits (node (getD words i 0))) ≤
-      length (bitsTo words nodes (length words))
-  room-one i h l = omega (
-    arith,
-    ap length (node-more i h),
-    length-append (bitsTo words nodes i) (itemBits (node (getD words i 0))),
-    bits-mono (i + 1) (length words) (omega arith),
-  )
-
-  pub room-two : (i : ℕ) → nodes ≤ i → i + 1 < length words →
-      length (bitsTo words nodes i) + length (itemBits (node (getD words i 0))) +
-      length (itemBits (node (getD words (i + 1) 0))) ≤ length (bitsTo words nodes (length words))
-  room-two i h l = omega (
-    arith,
-    ap length (node-more i h),
-    length-append (bitsTo words nodes i) (itemBits (node (getD words i 0))),
-    room-one (i + 1) (omega arith) l,
-  )
 
   -- ---- the bits of the fields
 
@@ -143,21 +115,12 @@ module _ (words : List ℕ) (nodes : ℕ) where
   field-more i j w e h k =
       length-more i j e ∙ rw (field-bits i h, length-bits (fieldWidth i) (getD words i 0), k)
 
-  -- Two fields of widths m and n more, for which there is room.
-  pub pair-more : (i m n : ℕ) → i + 1 < nodes → fieldWidth i ≡ m → fieldWidth (i + 1) ≡ n →
-      (bitsTo words nodes (i + 2)
-      ≡ (bitsTo words nodes i ++ bitsOf m (getD words i 0)) ++ bitsOf n (getD words (i + 1) 0))
-      × (length (bitsTo words nodes i) + m + n ≤ length (bitsTo words nodes nodes))
+  -- Two fields of widths m and n more.
+  pub pair-more : (i m n : ℕ) → i + 1 < nodes → fieldWidth i ≡ m → fieldWidth (i + 1) ≡ n → bitsTo words nodes (i + 2)
+      ≡ (bitsTo words nodes i ++ bitsOf m (getD words i 0)) ++ bitsOf n (getD words (i + 1) 0)
   pair-more i m n h e f =
-      let k : i + 2 ≡ i + 1 + 1 = omega arith in (
-        rw (k, bits-more (i + 1), bits-more i, field-bits i (omega arith), field-bits (i + 1) h, e, f),
-        omega (
-          arith,
-          field-more i (i + 1) m refl (omega arith) e,
-          field-more (i + 1) (i + 2) n k h f,
-          bits-mono (i + 2) nodes (omega arith),
-        ),
-      )
+      let k : i + 2 ≡ i + 1 + 1 = omega arith in
+      rw (k, bits-more (i + 1), bits-more i, field-bits i (omega arith), field-bits (i + 1) h, e, f)
 
   pub symbol-widths : (i : ℕ) → i % 4 ≡ 0 → 4 ≤ i → (fieldWidth i ≡ 3) × (fieldWidth (i + 1) ≡ 1)
       × (fieldWidth (i + 2) ≡ 16) × (fieldWidth (i + 2 + 1) ≡ 8)

@@ -15,6 +15,8 @@ use Rattle.format.specs.Layout.{
 }
 use Rattle.format.specs.Packing.{Item, itemBits}
 use Rattle.format.specs.Packing.Item.{field, node}
+use Rattle.writer.specs.Writer.{Writes}
+use Rattle.writer.specs.declared.BitWriter.{BitWriter}
 
 -- The width of the field at word i: four in the header, four in each symbol.
 abbrev pub fieldWidth : ℕ → ℕ
@@ -34,3 +36,8 @@ itemsFrom words nodes i (suc n) = itemAt words nodes i ∷ itemsFrom words nodes
 -- The bits of the items before word i, where the nodes begin at word `nodes`.
 abbrev pub bitsTo : List ℕ → ℕ → ℕ → List ℕ
 bitsTo words nodes i = flatMap itemBits (itemsFrom words nodes 0 i)
+
+-- What was written with one writer before word i is written with the other before word j.
+abbrev pub Follows : List ℕ → ℕ → ℕ → ℕ → BitWriter → BitWriter → Type 0
+Follows words nodes i j before after =
+    (bytes : List ℕ) → Writes (bitsTo words nodes i) before bytes → Writes (bitsTo words nodes j) after bytes

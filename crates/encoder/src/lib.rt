@@ -25,7 +25,7 @@ pub fn encode(words: &[u16], bytes: &mut [u8]) -> NumberReply
             if bytes.len() < count {
                 return NumberReply::Refused(refusal(format::BYTES_TOO_SHORT, 1, 0));
             }
-            write_items(words, next, bytes);
+            write_items(words, next, &mut bytes[..count]);
             NumberReply::Accepted(count)
         }
     }

@@ -92,7 +92,7 @@ length-bytesFrom bits at (suc n) = ap suc (length-bytesFrom bits (at + 8) n)
 pub length-bytesOf : (bits : List ℕ) → length (bytesOf bits) ≡ (length bits + 7) / 8
 length-bytesOf bits = length-bytesFrom bits 0 ((length bits + 7) / 8)
 
-getD-bytesFrom : (bits : List ℕ) (at n j : ℕ) → j < n →
+pub getD-bytesFrom : (bits : List ℕ) (at n j : ℕ) → j < n →
     getD (bytesFrom bits at n) j 0 ≡ spelt (λ i. getD bits i 0) (at + 8 * j) 8
 getD-bytesFrom bits at zero j h = absurd (omega arith)
 getD-bytesFrom bits at (suc n) zero h =

@@ -1,8 +1,7 @@
--- Laws of the bits that a number spells, and of the bytes that bits make up.
+-- Laws of the number that bits spell, and of the bits of a number.
 --     spelt-same, spelt-add, spelt-lt, spelt-zeros     the number that bits spell
 --     length-bits, bits-binary, spelt-bits             the bits of a number
 --     bits-same, bits-last, bits-add                   the last bits of a number, the bits of two fields side by side
---     bytes-more, bytes-same, length-bytes             bytes one by one
 use mathlib.Core.List.{List, [], _∷_, _++_}
 use mathlib.Core.Path.{_≡_, refl, sym, ap, _∙_}
 use Prim.Native.Nat.{ℕ, suc, zero, _+_, _-_, _*_, _/_, _%_, _^_, _≤_, _<_}
@@ -23,7 +22,7 @@ use lib.ListN.{length, getD, List·getD-append}
 use lib.Pow.{pow-add, pow-lt, mod-pow-add, mod-mod-pow, field, high, shr-shr}
 use lib.Arith.{digits-lt}
 use Rattle.format.specs.Reading.{spelt}
-use Rattle.format.specs.Packing.{bitsOf, bytesFrom}
+use Rattle.format.specs.Packing.{bitsOf}
 
 -- ---- the number that bits spell
 
@@ -100,25 +99,3 @@ bits-add (suc m) n u v h =
     ap (λ (k : ℕ). (u * 2 ^ n + v) / 2 ^ k) (add-comm m n) ∙ sym (shr-shr (u * 2 ^ n + v) n m)
     ∙ ap (λ (k : ℕ). k / 2 ^ m) (high u n h) in
     rw (suc-add, top, bits-add m n u v h)
-
--- ---- bytes one by one
-
-pub bytes-more : (bits : List ℕ) (at n : ℕ) →
-    bytesFrom bits at (suc n) ≡ bytesFrom bits at n ++ (spelt (λ (i : ℕ). getD bits i 0) (at + 8 * n) 8 ∷ [])
-bytes-more bits at zero = ap (λ (k : ℕ). spelt (λ (i : ℕ). getD bits i 0) k 8 ∷ []) (sym (add-zero at))
-bytes-more bits at (suc n) =
-    let e : at + 8 + 8 * n ≡ at + 8 * suc n = omega arith in
-    ap (λ (l : List ℕ). spelt (λ (i : ℕ). getD bits i 0) at 8 ∷ l) (bytes-more bits (at + 8) n ∙ rw e)
-
-pub bytes-same : (xs ys : List ℕ) (at n : ℕ) → at + 8 * n ≤ length xs → bytesFrom (xs ++ ys) at n ≡ bytesFrom xs at n
-bytes-same xs ys at zero h = refl
-bytes-same xs ys at (suc n) h =
-    let first : spelt (λ (i : ℕ). getD (xs ++ ys) i 0) at 8 ≡ spelt (λ (i : ℕ). getD xs i 0) at 8 =
-    spelt-same (λ (i : ℕ). getD (xs ++ ys) i 0) (λ (i : ℕ). getD xs i 0) at at 8
-    (λ i l. List·getD-append xs ys 0 (at + i) (omega arith)) in
-    ap (λ (b : ℕ). b ∷ bytesFrom (xs ++ ys) (at + 8) n) first
-    ∙ ap (λ (l : List ℕ). spelt (λ (i : ℕ). getD xs i 0) at 8 ∷ l) (bytes-same xs ys (at + 8) n (omega arith))
-
-pub length-bytes : (bits : List ℕ) (at n : ℕ) → length (bytesFrom bits at n) ≡ n
-length-bytes bits at zero = refl
-length-bytes bits at (suc n) = ap suc (length-bytes bits (at + 8) n)

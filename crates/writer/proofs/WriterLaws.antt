@@ -1,45 +1,130 @@
 -- Laws of the bit writer.
---     writes-none                     nothing is written at first
---     pending-lt                      the bits that wait, as a number
---     writes-push, writes-store       a field, a byte stored
---     writes-last                     what is there with the last byte
+--     shl-add-lt, shl-add-mod        a number shifted left, with a field behind it
+--     writes-none, writes-push       nothing is written at first; a field
+--     first-more, shift-more         the first of eight bytes, one by one
+--     writes-first                   whole bytes are stored
+--     writes-end                     all is stored, with zeros
 use mathlib.Core.List.{List, [], _∷_, _++_}
 use mathlib.Core.Path.{_≡_, refl, sym, ap, _∙_}
 use Prim.Native.Nat.{ℕ, suc, zero, _+_, _-_, _*_, _/_, _%_, _^_, _≤_, _<_}
-use native.Mathlib.Nat.{add-zero, zero-add, mod-lt, mod-eq-of-lt, lt-of-lt-of-le}
-use native.Mathlib.Decide.{decLt}
+use native.Mathlib.Nat.{add-zero, zero-add, zero-div, mul-assoc, mod-lt, mod-mod, mod-eq-of-lt}
 use native.Mathlib.Numerals.{add-one}
 use native.Mathlib.Omega.{arith}
-use lib.ListN.{length, getD, set, length-append, List·getD-append, List·getD-eq-default}
-use lib.Seq.{sets, getD-append-add}
-use lib.Pow.{high, low, pow-pos, pow-add, pow-mono, shr-lt, shl-lt}
+use lib.ListN.{length, getD, set, take, length-set, length-append, List·getD-append}
+use lib.Seq.{sets, length-take-le, take-suc, getD-take, getD-append-add, getD-set-same, getD-set-other, ext-getD}
+use lib.Pow.{high, low, field, mod-pow-add, mod-mod-pow, pow-pos, pow-add, shl-shr, shr-shr}
 use lib.Arith.{digits-lt}
-use borrow.Author.Tests.{lt-ltb, le-ltb}
 use Rattle.multisets.proofs.ListLaws.{sets-append}
+use Rattle.multisets.proofs.Relations.{byOrder}
 use Rattle.format.specs.Reading.{spelt}
-use Rattle.format.specs.Packing.{bitsOf, bytesFrom, bytesOf}
+use Rattle.format.specs.Packing.{bitsOf, bytesOf}
+use Rattle.format.proofs.PackingLaws.{getD-bytesFrom, length-bytesOf}
 use Rattle.writer.specs.declared.BitWriter.{BitWriter}
-use Rattle.writer.specs.Writer.{Writes, pushed, shifted, byteOut, fourBytes}
+use Rattle.writer.specs.Writer.{Writes, byteBefore, eightBytes, byteOf}
 use Rattle.writer.proofs.BitsLaws.{
   spelt-same,
   spelt-add,
   spelt-lt,
-  spelt-zeros,
   length-bits,
   bits-binary,
   spelt-bits,
 }
-use Rattle.writer.proofs.BitsLaws.{bytes-more, bytes-same, length-bytes}
 
-abbrev pub bitOf : List ℕ → ℕ → ℕ
+abbrev bitOf : List ℕ → ℕ → ℕ
 bitOf bits i = getD bits i 0
 
--- The number that the bits of byte n spell.
-abbrev byteOf : List ℕ → ℕ → ℕ
-byteOf bits n = spelt (bitOf bits) (8 * n) 8
+-- ---- shifts to the left
 
-pub writes-none : (old : List ℕ) → Writes old [] (record { stored = 0; pending = 0; count = 0 }) old
-writes-none old = record { binary = λ i. omega arith; total = refl; waiting = refl; front = refl }
+-- What goes over the top is lost.
+shl-mod : (p k w n : ℕ) → k + w ≡ n → p * 2 ^ w % 2 ^ n ≡ p % 2 ^ k * 2 ^ w
+shl-mod p k w n e =
+    let zeros : p * 2 ^ w % 2 ^ w ≡ 0 = rw add-zero at (low p w (pow-pos w)) in
+    rw (← e) (mod-pow-add (p * 2 ^ w) k w ∙ rw (shl-shr p w, zeros) (add-zero (p % 2 ^ k * 2 ^ w)))
+
+module _ (p w v : ℕ) (h : v < 2 ^ w) where
+  pub shl-add-lt : w ≤ 64 → p * 2 ^ w % 2 ^ 64 + v < 2 ^ 64
+  shl-add-lt l =
+      let k = 64 - w in
+      let e : k + w ≡ 64 = omega arith in
+      let s : 2 ^ k * 2 ^ w ≡ 2 ^ 64 = sym (pow-add 2 k w) ∙ ap (λ (n : ℕ). 2 ^ n) e in
+      rw (shl-mod p k w 64 e) (rw s at (digits-lt (mod-lt p (pow-pos k)) h))
+
+  pub shl-add-mod : (c : ℕ) → c + w ≤ 64 → (p * 2 ^ w % 2 ^ 64 + v) % 2 ^ (c + w) ≡ p % 2 ^ c * 2 ^ w + v
+  shl-add-mod c l =
+      let k = 64 - w in
+      let x = p % 2 ^ k in
+      let e : k + w ≡ 64 = omega arith in
+      let d : k - c + c ≡ k = omega arith in
+      let shorter : x % 2 ^ c ≡ p % 2 ^ c = rw d at (mod-mod-pow p (k - c) c) in
+      ap (λ (n : ℕ). (n + v) % 2 ^ (c + w)) (shl-mod p k w 64 e)
+      ∙ mod-pow-add (x * 2 ^ w + v) c w ∙ rw (high x w h, low x w h, shorter)
+
+-- ---- stores by index
+
+before-sets : (vs l : List ℕ) (i n : ℕ) → n < i → getD (sets l i vs) n 0 ≡ getD l n 0
+before-sets [] l i n h = refl
+before-sets (v ∷ vs) l i n h =
+    before-sets vs (set l i v) (suc i) n (omega arith) ∙ getD-set-other l i n v 0 λ e. absurd (omega (arith, e))
+
+within-sets : (vs l : List ℕ) (i j : ℕ) → j < length vs → i + length vs ≤ length l →
+    getD (sets l i vs) (i + j) 0 ≡ getD vs j 0
+within-sets [] l i j h k = absurd (omega arith)
+within-sets (v ∷ vs) l i zero h k =
+    rw (add-zero i) (before-sets vs (set l i v) (suc i) i (omega arith) ∙ getD-set-same l i v 0 (omega arith))
+within-sets (v ∷ vs) l i (suc j) h k =
+    let e : i + suc j ≡ suc i + j = omega arith in
+    rw e (within-sets vs (set l i v) (suc i) j (omega arith) (omega (arith, length-set l i v)))
+
+eight-by-index : (n j : ℕ) → j < 8 → getD (eightBytes n) j 0 ≡ byteBefore (56 - 8 * j) n
+eight-by-index n zero h = refl
+eight-by-index n (suc zero) h = refl
+eight-by-index n (suc (suc zero)) h = refl
+eight-by-index n (suc (suc (suc zero))) h = refl
+eight-by-index n (suc (suc (suc (suc zero)))) h = refl
+eight-by-index n (suc (suc (suc (suc (suc zero))))) h = refl
+eight-by-index n (suc (suc (suc (suc (suc (suc zero)))))) h = refl
+eight-by-index n (suc (suc (suc (suc (suc (suc (suc zero))))))) h = refl
+eight-by-index n (suc (suc (suc (suc (suc (suc (suc (suc j)))))))) h = absurd (omega arith)
+
+-- The first byte of a number shifted left by k bytes.
+byte-shifted : (v k : ℕ) → k < 8 → byteBefore 56 (v * 2 ^ (8 * k) % 2 ^ 64) ≡ byteBefore (56 - 8 * k) v
+byte-shifted v k h =
+    let s = 8 * k in
+    let r = 56 - s in
+    let e : 8 + r + s ≡ 64 = omega arith in
+    let f : 56 ≡ s + r = omega arith in
+    let x = v % 2 ^ (8 + r) in
+    ap (byteBefore 56) (shl-mod v (8 + r) s 64 e)
+    ∙ ap (λ (n : ℕ). byteBefore n (x * 2 ^ s)) f
+    ∙ ap (λ (n : ℕ). n % 256) (sym (shr-shr (x * 2 ^ s) s r) ∙ ap (λ (n : ℕ). n / 2 ^ r) (shl-shr x s) ∙ field v 8 r)
+    ∙ mod-mod (v / 2 ^ r) 256
+
+-- One byte more of the first ones.
+pub first-more : (bytes : List ℕ) (i v k : ℕ) → k < 8 →
+    set (sets bytes i (take k (eightBytes v))) (i + k) (byteBefore 56 (v * 2 ^ (8 * k) % 2 ^ 64))
+    ≡ sets bytes i (take (k + 1) (eightBytes v))
+first-more bytes i v k h =
+    let all = eightBytes v in
+    let long : length (take k all) ≡ k = length-take-le k all (omega arith) in
+    sym (ap (sets bytes i) (ap (λ (n : ℕ). take n all) (add-one k) ∙ take-suc all k 0 h)
+    ∙ sets-append bytes i (take k all) (getD all k 0 ∷ [])
+    ∙ rw (long, eight-by-index v k h, byte-shifted v k h))
+
+-- A shift by one byte more.
+pub shift-more : (v k : ℕ) → k < 8 → v * 2 ^ (8 * k) % 2 ^ 64 * 2 ^ 8 % 2 ^ 64 ≡ v * 2 ^ (8 * (k + 1)) % 2 ^ 64
+shift-more v k h =
+    let s = 8 * k in
+    let r = 56 - s in
+    let x = v % 2 ^ (8 + r) in
+    let e : 8 + r + s ≡ 64 = omega arith in
+    let f : r + (s + 8) ≡ 64 = omega arith in
+    let g : 8 * (k + 1) ≡ s + 8 = omega arith in
+    ap (λ (n : ℕ). n * 2 ^ 8 % 2 ^ 64) (shl-mod v (8 + r) s 64 e)
+    ∙ ap (λ (n : ℕ). n % 2 ^ 64) (mul-assoc x (2 ^ s) (2 ^ 8) ∙ ap (λ (n : ℕ). x * n) (sym (pow-add 2 s 8)))
+    ∙ shl-mod x r (s + 8) 64 f ∙ ap (λ (n : ℕ). n * 2 ^ (s + 8)) (mod-mod-pow v 8 r)
+    ∙ sym (shl-mod v r (s + 8) 64 f) ∙ ap (λ (n : ℕ). v * 2 ^ n % 2 ^ 64) (sym g)
+
+-- ---- bits, and bytes of them
 
 append-binary : (xs ys : List ℕ) → ((i : ℕ) → getD xs i 0 < 2) → ((i : ℕ) → getD ys i 0 < 2) → (i : ℕ) →
     getD (xs ++ ys) i 0 < 2
@@ -47,206 +132,145 @@ append-binary [] ys h k i = k i
 append-binary (x ∷ xs) ys h k zero = h zero
 append-binary (x ∷ xs) ys h k (suc i) = append-binary xs ys (λ j. h (suc j)) k i
 
--- After a byte is stored the count is below n, where it was below 8 + n.
-pub shifted-facts : (w : BitWriter) (n : ℕ) → 8 ≤ n → w .count < 8 + n → w .pending < 2 ^ w .count →
-    (shifted w .count < n) × (shifted w .stored ≤ w .stored + 1) × (shifted w .pending < 2 ^ shifted w .count)
-shifted-facts w n k l p =
-    elim (decLt (w .count) 8) [
-      | yes a ↦ rw (lt-ltb (w .count) 8 a) (omega arith, omega arith, p)
-      | no a ↦
-          let b : 8 ≤ w .count = omega arith in
-          rw (le-ltb (w .count) 8 b) (omega arith, omega arith, mod-lt (w .pending) (pow-pos (w .count - 8)))
-    ]
+byte-append : (bits more : List ℕ) (n : ℕ) → 8 * n + 8 ≤ length bits → byteOf (bits ++ more) n ≡ byteOf bits n
+byte-append bits more n h =
+    spelt-same (bitOf (bits ++ more)) (bitOf bits) (8 * n) (8 * n) 8
+    λ i l. List·getD-append bits more 0 (8 * n + i) (omega arith)
 
--- The bits pushed are no more than the count.
-pub pushed-lt : (w : BitWriter) (width v : ℕ) → v < 2 ^ width → w .pending < 2 ^ w .count →
-    pushed w width v .pending < 2 ^ (w .count + width)
-pushed-lt w width v h p = rw (pow-add 2 (w .count) width) (digits-lt p h)
+no-bits : (n i : ℕ) → getD (bitsOf n 0) i 0 ≡ 0
+no-bits zero i = refl
+no-bits (suc n) zero = rw zero-div
+no-bits (suc n) (suc i) = no-bits n i
 
-pub push-fits : (n width v : ℕ) → v < 2 ^ width → n < 2 ^ 48 → width ≤ 16 → n * 2 ^ width + v < 2 ^ 64
-push-fits n width v l h k =
-    let e : 48 + width ≤ 64 = omega arith in
-    let m : 2 ^ (48 + width) ≤ 2 ^ 64 = pow-mono e in
-    let p : n * 2 ^ width + v < 2 ^ (48 + width) = rw (pow-add 2 48 width) (digits-lt h l) in
-    omega arith
+-- Zeros after the bits are there already.
+zeros-after : (bits : List ℕ) (n i : ℕ) → getD (bits ++ bitsOf n 0) i 0 ≡ getD bits i 0
+zeros-after [] n i = no-bits n i
+zeros-after (b ∷ bits) n zero = refl
+zeros-after (b ∷ bits) n (suc i) = zeros-after bits n i
 
--- The first byte of a number of at least eight bits.
-pub byte-lt : (n k : ℕ) → 8 ≤ k → n < 2 ^ k → n / 2 ^ (k - 8) < 256
-byte-lt n k h l = let e : 8 + (k - 8) ≡ k = omega arith in shr-lt 8 (k - 8) (rw e l)
+-- A byte of the number that bits spell.
+spelt-byte : (b : ℕ → ℕ) → ((i : ℕ) → b i < 2) → (at m r : ℕ) → spelt b at (m + 8 + r) / 2 ^ r % 256 ≡ spelt b
+    (at + m) 8
+spelt-byte b small at m r =
+    ap (λ (n : ℕ). n / 2 ^ r % 256) (spelt-add b at (m + 8) r)
+    ∙ ap (λ (n : ℕ). n % 256) (high (spelt b at (m + 8)) r (spelt-lt b small (at + (m + 8)) r))
+    ∙ ap (λ (n : ℕ). n % 256) (spelt-add b at m 8) ∙ low (spelt b at m) 8 (spelt-lt b small (at + m) 8)
 
--- Fewer than 48 bits are a number of 48 bits.
-pub below-48 : (n k : ℕ) → k < 48 → n < 2 ^ k → n < 2 ^ 48
-below-48 n k h l = let e : k ≤ 48 = omega arith in lt-of-lt-of-le l (pow-mono e)
+-- ---- what is written
 
--- The first 32 bits of a number of at least as many.
-pub word-lt : (n k : ℕ) → 32 ≤ k → n < 2 ^ k → n / 2 ^ (k - 32) < 2 ^ 32
-word-lt n k h l = let e : 32 + (k - 32) ≡ k = omega arith in shr-lt 32 (k - 32) (rw e l)
+pub writes-none : (bytes : List ℕ) → Writes [] (record { stored = 0; pending = 0; count = 0 }) bytes
+writes-none bytes = record {
+  binary = λ i. omega arith;
+  total = refl;
+  waiting = refl;
+  front = λ n h. absurd (omega arith);
+}
 
--- The last byte, with zeros.
-pub padded-lt : (n k : ℕ) → k < 8 → n < 2 ^ k → n * 2 ^ (8 - k) < 256
-padded-lt n k h l = let e : k + (8 - k) ≡ 8 = omega arith in rw e at (shl-lt k (8 - k) l)
+module _ (bits : List ℕ) (w : BitWriter) (bytes : List ℕ) (h : Writes bits w bytes) where
+  abbrev b : ℕ → ℕ
+  b = bitOf bits
 
--- One byte more.
-byte-more : (old bits bytes : List ℕ) (n : ℕ) → bytes ≡ sets old 0 (bytesFrom bits 0 n) →
-    set bytes n (spelt (bitOf bits) (8 * n) 8) ≡ sets old 0 (bytesFrom bits 0 (suc n))
-byte-more old bits bytes n e =
-    let b : ℕ = spelt (bitOf bits) (8 * n) 8 in
-    let front : List ℕ = bytesFrom bits 0 n in
-    let last : spelt (bitOf bits) (0 + 8 * n) 8 ≡ b = ap (λ (k : ℕ). spelt (bitOf bits) k 8) (zero-add (8 * n)) in
-    ap (λ (l : List ℕ). set l n b) e
-    ∙ sym (ap (sets old 0) (bytes-more bits 0 n ∙ ap (λ (k : ℕ). front ++ (k ∷ [])) last) ∙ sets-append old 0 front
-    (b ∷ [])
-    ∙ ap (λ (k : ℕ). set (sets old 0 front) k b) (zero-add (length front) ∙ length-bytes bits 0 n))
-
--- Four bytes more.
-four-more : (old bits bytes : List ℕ) (n : ℕ) → bytes ≡ sets old 0 (bytesFrom bits 0 n) →
-    set (set (set (set bytes n (byteOf bits n)) (suc n) (byteOf bits (suc n))) (suc (suc n)) (byteOf bits (suc (suc
-    n))))
-    (suc (suc (suc n))) (byteOf bits (suc (suc (suc n))))
-    ≡ sets old 0 (bytesFrom bits 0 (suc (suc (suc (suc n)))))
-four-more old bits bytes n e =
-    byte-more old bits _ (suc (suc (suc n)))
-    (byte-more old bits _ (suc (suc n)) (byte-more old bits _ (suc n) (byte-more old bits bytes n e)))
-
--- A number of four digits.
-four-digits : (n a b c d : ℕ) → n ≡ ((a * 256 + b) * 256 + c) * 256 + d → b < 256 → c < 256 → d < 256 →
-    fourBytes n ≡ a ∷ b ∷ c ∷ d ∷ []
-four-digits n a b c d e h k l =
-    let e₁ : n / 2 ^ 24 ≡ a = omega arith in
-    let e₂ : n / 2 ^ 16 % 256 ≡ b = omega arith in
-    let e₃ : n / 2 ^ 8 % 256 ≡ c = omega arith in
-    let e₄ : n % 256 ≡ d = omega arith in
-    rw (e₁, e₂, e₃, e₄)
-
--- The bytes of 32 bits, each at its place.
-spelt-four : (b : ℕ → ℕ) → ((i : ℕ) → b i < 2) → (at at₁ at₂ at₃ m : ℕ) → m ≡ 8 → at + m ≡ at₁ → at + (m + m) ≡ at₂ →
-    at + (m + m + m) ≡ at₃ →
-    fourBytes (spelt b at (m + m + m + m)) ≡ spelt b at m ∷ spelt b at₁ m ∷ spelt b at₂ m ∷ spelt b at₃ m ∷ []
-spelt-four b h at at₁ at₂ at₃ m e e₁ e₂ e₃ =
-    let p : 2 ^ m ≡ 256 = ap (λ (k : ℕ). 2 ^ k) e in
-    let small : (i : ℕ) → spelt b i m < 256 = λ i. rw p at (spelt-lt b h i m) in
-    let s₂ : spelt b at (m + m) ≡ spelt b at m * 256 + spelt b at₁ m = rw (p, e₁) at (spelt-add b at m m) in
-    let s₃ : spelt b at (m + m + m) ≡ spelt b at (m + m) * 256 + spelt b at₂ m =
-    rw (p, e₂) at (spelt-add b at (m + m) m) in
-    let s₄ : spelt b at (m + m + m + m) ≡ spelt b at (m + m + m) * 256 + spelt b at₃ m =
-    rw (p, e₃) at (spelt-add b at (m + m + m) m) in
-    four-digits _ _ _ _ _ (s₄ ∙ rw (s₃, s₂)) (small at₁) (small at₂) (small at₃)
-
-module _ (old bits : List ℕ) (w : BitWriter) (bytes : List ℕ) (h : Writes old bits w bytes) where
-  pub pending-lt : w .pending < 2 ^ w .count
-  pending-lt = rw (h .waiting) (spelt-lt (bitOf bits) (h .binary) (8 * w .stored) (w .count))
-
-  spelt-pushed : (width v : ℕ) → v < 2 ^ width →
-      w .pending * 2 ^ width + v ≡ spelt (bitOf (bits ++ bitsOf width v)) (8 * w .stored) (w .count + width)
+  spelt-pushed : (width v : ℕ) → v < 2 ^ width → w .pending % 2 ^ w .count * 2 ^ width + v
+      ≡ spelt (bitOf (bits ++ bitsOf width v)) (8 * w .stored) (w .count + width)
   spelt-pushed width v k =
-      let b = bitOf (bits ++ bitsOf width v) in
-      let old : spelt b (8 * w .stored) (w .count) ≡ w .pending =
-      spelt-same b (bitOf bits) (8 * w .stored) (8 * w .stored) (w .count)
-      (λ i l. List·getD-append bits (bitsOf width v) 0 (8 * w .stored + i) (omega (arith, h .total))) ∙ sym
-      (h .waiting) in
-      let new : spelt b (8 * w .stored + w .count) width ≡ v =
-      ap (λ (k : ℕ). spelt b k width) (sym (h .total))
-      ∙ spelt-same b (bitOf (bitsOf width v)) (length bits) 0 width
-      (λ i l. getD-append-add bits (bitsOf width v) i 0 ∙ ap (bitOf (bitsOf width v)) (sym (zero-add i)))
+      let more = bitsOf width v in
+      let all = bitOf (bits ++ more) in
+      let at = 8 * w .stored in
+      let old : spelt all at (w .count) ≡ w .pending % 2 ^ w .count =
+      spelt-same all b at at (w .count)
+      (λ i l. List·getD-append bits more 0 (at + i) (omega (arith, h .total))) ∙ sym (h .waiting) in
+      let new : spelt all (at + w .count) width ≡ v =
+      ap (λ (k : ℕ). spelt all k width) (sym (h .total))
+      ∙ spelt-same all (bitOf more) (length bits) 0 width
+      (λ i l. getD-append-add bits more i 0 ∙ ap (bitOf more) (sym (zero-add i)))
       ∙ spelt-bits width v ∙ mod-eq-of-lt k in
-      sym (spelt-add b (8 * w .stored) (w .count) width ∙ rw (old, new))
+      sym (spelt-add all at (w .count) width ∙ rw (old, new))
 
-  pub writes-push : (width v : ℕ) → v < 2 ^ width → Writes old (bits ++ bitsOf width v) (pushed w width v) bytes
-  writes-push width v k = record {
+  pub writes-push : (width v : ℕ) → v < 2 ^ width → w .count + width ≤ 64 → Writes (bits ++ bitsOf width v)
+      (record {
+        stored = w .stored;
+        pending = w .pending * 2 ^ width % 2 ^ 64 + v;
+        count = w .count + width;
+      })
+      bytes
+  writes-push width v k l = record {
     binary = append-binary bits (bitsOf width v) (h .binary) (bits-binary width v);
     total = simp (length-append, length-bits) (omega (arith, h .total));
-    waiting = spelt-pushed width v k;
-    front = h .front ∙ ap (sets old 0) (sym (bytes-same bits (bitsOf width v) 0 (w .stored)
-        (omega (arith, h .total))));
+    waiting = shl-add-mod (w .pending) width v k (w .count) l ∙ spelt-pushed width v k;
+    front = λ n m. h .front n m ∙ sym (byte-append bits (bitsOf width v) n (omega (arith, h .total)));
   }
 
-  -- The bits that wait are a byte and the others.
-  first-byte : 8 ≤ w .count → w .pending ≡ spelt (bitOf bits) (8 * w .stored) 8 * 2 ^ (w .count - 8)
-      + spelt (bitOf bits) (8 * w .stored + 8) (w .count - 8)
-  first-byte k =
-      let e : 8 + (w .count - 8) ≡ w .count = omega arith in
-      h .waiting ∙ ap (spelt (bitOf bits) (8 * w .stored)) (sym e) ∙ spelt-add (bitOf bits) (8 * w .stored) 8
-      (w .count - 8)
+  -- A byte of the bits that wait, by the bits after it.
+  waiting-byte : (j r : ℕ) → 8 * j + 8 + r ≡ w .count →
+      byteBefore r (w .pending % 2 ^ w .count) ≡ byteOf bits (w .stored + j)
+  waiting-byte j r e =
+      let at : 8 * w .stored + 8 * j ≡ 8 * (w .stored + j) = omega arith in
+      ap (byteBefore r) (h .waiting ∙ ap (spelt b (8 * w .stored)) (sym e))
+      ∙ spelt-byte b (h .binary) (8 * w .stored) (8 * j) r ∙ ap (λ (k : ℕ). spelt b k 8) at
 
-  pub writes-store : 8 ≤ w .count → Writes old bits
-      (record { stored = w .stored + 1; pending = w .pending % 2 ^ (w .count - 8); count = w .count - 8 })
-      (set bytes (w .stored) (w .pending / 2 ^ (w .count - 8)))
-  writes-store k =
-      let left = w .count - 8 in
+  -- A byte of the bits that wait, where they are shifted to the front of 64.
+  shifted-byte : w .count ≤ 64 → (j : ℕ) → 8 * j + 8 ≤ w .count →
+      byteBefore (56 - 8 * j) (w .pending * 2 ^ (64 - w .count) % 2 ^ 64) ≡ byteOf bits (w .stored + j)
+  shifted-byte l j k =
+      let c = w .count in
+      let r = c - (8 * j + 8) in
+      let s = 64 - c in
+      let x = w .pending % 2 ^ c in
+      let e : c + s ≡ 64 = omega arith in
+      let f : 8 * j + 8 + r ≡ c = omega arith in
+      let g : 56 - 8 * j ≡ s + r = omega arith in
+      ap (byteBefore (56 - 8 * j)) (shl-mod (w .pending) c s 64 e)
+      ∙ ap (λ (n : ℕ). byteBefore n (x * 2 ^ s)) g
+      ∙ ap (λ (n : ℕ). n % 256) (sym (shr-shr (x * 2 ^ s) s r) ∙ ap (λ (n : ℕ). n / 2 ^ r) (shl-shr x s))
+      ∙ waiting-byte j r f
+
+  -- So many bytes more are stored, and m bits go on waiting.
+  writes-stored : (k m : ℕ) (after : List ℕ) → 8 * k + m ≡ w .count →
+      ((n : ℕ) → n < w .stored → getD after n 0 ≡ getD bytes n 0) →
+      ((j : ℕ) → j < k → getD after (w .stored + j) 0 ≡ byteOf bits (w .stored + j)) →
+      Writes bits (record { stored = w .stored + k; pending = w .pending; count = m }) after
+  writes-stored k m after e kept new =
       let at = 8 * w .stored in
-      let l : spelt (bitOf bits) (at + 8) left < 2 ^ left = spelt-lt (bitOf bits) (h .binary) (at + 8) left in
-      let top : w .pending / 2 ^ left ≡ spelt (bitOf bits) at 8 =
-      ap (λ (n : ℕ). n / 2 ^ left) (first-byte k) ∙ high (spelt (bitOf bits) at 8) left l in
-      let rest : w .pending % 2 ^ left ≡ spelt (bitOf bits) (at + 8) left =
-      ap (λ (n : ℕ). n % 2 ^ left) (first-byte k) ∙ low (spelt (bitOf bits) at 8) left l in
-      let e : at + 8 ≡ 8 * (w .stored + 1) = omega arith in
+      let f : at + 8 * k ≡ 8 * (w .stored + k) = omega arith in
+      let all : w .pending % 2 ^ (8 * k + m) ≡ spelt b at (8 * k) * 2 ^ m + spelt b (at + 8 * k) m =
+      rw e (h .waiting) ∙ ap (spelt b at) (sym e) ∙ spelt-add b at (8 * k) m in
       record {
         binary = h .binary;
         total = omega (arith, h .total);
-        waiting = rest ∙ ap (λ (n : ℕ). spelt (bitOf bits) n left) e;
-        front = ap (set bytes (w .stored)) top ∙ byte-more old bits bytes (w .stored) (h .front)
-            ∙ ap (λ (n : ℕ). sets old 0 (bytesFrom bits 0 n)) (sym (add-one (w .stored)));
+        waiting = sym (mod-mod-pow (w .pending) (8 * k) m) ∙ ap (λ (n : ℕ). n % 2 ^ m) all
+            ∙ low (spelt b at (8 * k)) m (spelt-lt b (h .binary) (at + 8 * k) m) ∙ ap (λ (n : ℕ). spelt b n m) f;
+        front = λ n l.
+            byOrder n (w .stored) (λ i. kept n i ∙ h .front n i)
+            λ i.
+            let d : w .stored + (n - w .stored) ≡ n = omega arith in
+            rw d at (new (n - w .stored) (omega arith));
       }
 
-  pub writes-shifted : Writes old bits (shifted w) (byteOut w bytes)
-  writes-shifted =
-      elim (decLt (w .count) 8) [
-        | yes l ↦ rw (lt-ltb (w .count) 8 l) h
-        | no l ↦ let k : 8 ≤ w .count = omega arith in rw (le-ltb (w .count) 8 k) (writes-store k)
-      ]
+  -- The first of the eight bytes are stored, at least the whole ones.
+  pub writes-first : (n : ℕ) → w .count / 8 ≤ n → n ≤ 8 → w .count ≤ 64 → w .stored + n ≤ length bytes →
+      Writes bits (record { stored = w .stored + w .count / 8; pending = w .pending; count = w .count % 8 })
+      (sets bytes (w .stored) (take n (eightBytes (w .pending * 2 ^ (64 - w .count) % 2 ^ 64))))
+  writes-first n k few l room =
+      let v = w .pending * 2 ^ (64 - w .count) % 2 ^ 64 in
+      let first = take n (eightBytes v) in
+      let long : length first ≡ n = length-take-le n (eightBytes v) few in
+      writes-stored (w .count / 8) (w .count % 8) (sets bytes (w .stored) first) (omega arith)
+      (before-sets first bytes (w .stored))
+      λ j m.
+      within-sets first bytes (w .stored) j (omega (arith, long)) (omega (arith, long))
+      ∙ getD-take n (eightBytes v) j 0 (omega arith) ∙ eight-by-index v j (omega arith)
+      ∙ shifted-byte l j (omega arith)
 
-  -- The bits that wait are 32 and the others.
-  first-word : 32 ≤ w .count → w .pending ≡ spelt (bitOf bits) (8 * w .stored) 32 * 2 ^ (w .count - 32)
-      + spelt (bitOf bits) (8 * w .stored + 32) (w .count - 32)
-  first-word k =
-      let e : 32 + (w .count - 32) ≡ w .count = omega arith in
-      h .waiting ∙ ap (spelt (bitOf bits) (8 * w .stored)) (sym e) ∙ spelt-add (bitOf bits) (8 * w .stored) 32
-      (w .count - 32)
-
-  pub writes-four : 32 ≤ w .count → Writes old bits
-      (record { stored = w .stored + 4; pending = w .pending % 2 ^ (w .count - 32); count = w .count - 32 })
-      (sets bytes (w .stored) (fourBytes (w .pending / 2 ^ (w .count - 32))))
-  writes-four k =
-      let left = w .count - 32 in
-      let at = 8 * w .stored in
-      let l : spelt (bitOf bits) (at + 32) left < 2 ^ left = spelt-lt (bitOf bits) (h .binary) (at + 32) left in
-      let top : w .pending / 2 ^ left ≡ spelt (bitOf bits) at 32 =
-      ap (λ (n : ℕ). n / 2 ^ left) (first-word k) ∙ high (spelt (bitOf bits) at 32) left l in
-      let rest : w .pending % 2 ^ left ≡ spelt (bitOf bits) (at + 32) left =
-      ap (λ (n : ℕ). n % 2 ^ left) (first-word k) ∙ low (spelt (bitOf bits) at 32) left l in
-      let e : at + 32 ≡ 8 * (w .stored + 4) = omega arith in
-      let e₁ : at + 8 ≡ 8 * suc (w .stored) = omega arith in
-      let e₂ : at + 16 ≡ 8 * suc (suc (w .stored)) = omega arith in
-      let e₃ : at + 24 ≡ 8 * suc (suc (suc (w .stored))) = omega arith in
-      let n : suc (suc (suc (suc (w .stored)))) ≡ w .stored + 4 = omega arith in
-      let four : fourBytes (w .pending / 2 ^ left) ≡ byteOf bits (w .stored) ∷ byteOf bits (suc (w .stored)) ∷
-      byteOf bits (suc (suc (w .stored))) ∷ byteOf bits (suc (suc (suc (w .stored)))) ∷ [] =
-      ap fourBytes top ∙ spelt-four (bitOf bits) (h .binary) at _ _ _ 8 refl e₁ e₂ e₃ in
-      record {
-        binary = h .binary;
-        total = omega (arith, h .total);
-        waiting = rest ∙ ap (λ (n : ℕ). spelt (bitOf bits) n left) e;
-        front = ap (sets bytes (w .stored)) four ∙ four-more old bits bytes (w .stored) (h .front)
-            ∙ ap (λ (n : ℕ). sets old 0 (bytesFrom bits 0 n)) n;
-      }
-
-  pub writes-last : w .count < 8 → 0 < w .count →
-      set bytes (w .stored) (w .pending * 2 ^ (8 - w .count)) ≡ sets old 0 (bytesOf bits)
-  writes-last k l =
-      let left = 8 - w .count in
-      let at = 8 * w .stored in
-      let e : w .count + left ≡ 8 = omega arith in
-      let zeros : spelt (bitOf bits) (at + w .count) left ≡ 0 =
-      spelt-zeros (bitOf bits) (at + w .count) left
-      (λ i m. List·getD-eq-default bits 0 (omega (arith, h .total))) in
-      let last : spelt (bitOf bits) at 8 ≡ w .pending * 2 ^ left =
-      ap (spelt (bitOf bits) at) (sym e) ∙ spelt-add (bitOf bits) at (w .count) left
-      ∙ rw (zeros, ← h .waiting) (add-zero (w .pending * 2 ^ left)) in
-      let n : suc (w .stored) ≡ (length bits + 7) / 8 = omega (arith, h .total) in
-      ap (set bytes (w .stored)) (sym last) ∙ byte-more old bits bytes (w .stored) (h .front)
-      ∙ ap (λ (n : ℕ). sets old 0 (bytesFrom bits 0 n)) n
-
-  pub writes-whole : w .count ≡ 0 → bytes ≡ sets old 0 (bytesOf bits)
-  writes-whole k =
-      let n : w .stored ≡ (length bits + 7) / 8 = omega (arith, h .total) in
-      h .front ∙ ap (λ (n : ℕ). sets old 0 (bytesFrom bits 0 n)) n
+-- With zeros up to a whole byte all is stored.
+pub writes-end : (bits : List ℕ) (n : ℕ) (w : BitWriter) (bytes : List ℕ) → Writes (bits ++ bitsOf n 0) w bytes →
+    n < 8 → (length bits + n) % 8 ≡ 0 → w .count < 8 → length bytes ≡ (length bits + 7) / 8 → bytes ≡ bytesOf bits
+writes-end bits n w bytes h k e l size =
+    let count = (length bits + 7) / 8 in
+    let all : length bits + n ≡ 8 * w .stored + w .count =
+    sym (length-append bits (bitsOf n 0) ∙ rw (length-bits n 0)) ∙ h .total in
+    ext-getD 0 bytes (bytesOf bits) (size ∙ sym (length-bytesOf bits))
+    λ i m.
+    h .front i (omega arith)
+    ∙ spelt-same (bitOf (bits ++ bitsOf n 0)) (bitOf bits) (8 * i) (0 + 8 * i) 8
+    (λ j o. zeros-after bits n (8 * i + j) ∙ rw (zero-add (8 * i)))
+    ∙ sym (getD-bytesFrom bits 0 count i (omega arith))

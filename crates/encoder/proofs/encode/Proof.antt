@@ -1,7 +1,8 @@
 -- The words that were read are those of the file's items, so that their bits are its packed form.
 use native.Mathlib.Omega.{arith}
-use mathlib.Core.Path.{_∙_}
+use mathlib.Core.Path.{sym, _∙_}
 use lib.ListN.{length}
+use lib.Seq.{length-take-le}
 use Rattle.encoder.proofs.ItemBits.{bits-le}
 use Rattle.encoder.proofs.EncodeLaws.{file-listed, encode-fault, encode-long, encode-short, encode-done}
 use borrow.Author.Needs.{needs}
@@ -50,15 +51,22 @@ returns-2 c =
     (rw (c3 .packed-bits .ensures) at (c .before .before .if1 .left))
     (rw (c3 .packed-bits .ensures) at (c .before .if2 .taken)))
 
+slice-aggregate-write-items : tie.Need-slice-aggregate-write-items
+slice-aggregate-write-items c =
+    let c10 = c .before .before .before .before .before .before .before .before .before .before in
+    sym (length-take-le _ (c10 .args .bytes .now) (c .before .if2 .left))
+
 write-items-requires : tie.Need-write-items-requires
 write-items-requires c κs =
     let c3 = c .before .before .before in
     let c5 = c3 .before .before in
     let c7 = c5 .before .before in
-    let c10 = c7 .before .before .before in
+    let a = c7 .before .before .before .args in
     let (file, end, read, parts) = rw (c5 .value .given .1) at (c7 .read-sheet .ensures) in
-    let listed = file-listed (c10 .args .words .now) file end _ _ read parts in
-    (((_, listed .begin), listed .within), omega (arith, rw (c3 .packed-bits .ensures) at (c .before .if2 .left)))
+    let listed = file-listed (a .words .now) file end _ _ read parts in (
+      ((_, listed .begin), listed .within),
+      length-take-le _ (a .bytes .now) (c .before .if2 .left) ∙ rw (c3 .packed-bits .ensures),
+    )
 
 returns-3 : tie.Need-returns-3
 returns-3 c =
@@ -78,13 +86,13 @@ returns-4 c =
     let c13 = c10 .before .before .before in
     let a = c13 .args in
     let (file, end, read, parts) = rw (c8 .value .given .1) at (c10 .read-sheet .ensures) in
-    let x = encode-done (a .words .now) (a .bytes .now) file end _ _ read
+    let (reply, output) = encode-done (a .words .now) (a .bytes .now) file end _ _ read
     (file-listed (a .words .now) file end _ _ read parts) (rw (c6 .packed-bits .ensures) at (c5 .if1 .left))
     (rw (c6 .packed-bits .ensures) at (c4 .if2 .left)) in
-    rw (c6 .packed-bits .ensures) (x .0, c .before .before .write-items .ensures ∙ x .1)
+    rw (c .before .before .write-items .ensures, c6 .packed-bits .ensures) (reply, output)
 
 pub encode-spec : {M : Type 1} → statement M
 encode-spec =
     tie.close (tie.spec (λ c κs. search needs) (λ c. search needs) (λ c κs. search needs) (λ c. search needs)
     packed-bits-requires add-count (λ c κs. search needs) returns (λ c κs. search needs) returns-2
-    write-items-requires returns-3 (λ c. search needs) returns-4)
+    (λ c. search needs) slice-aggregate-write-items write-items-requires returns-3 (λ c. search needs) returns-4)

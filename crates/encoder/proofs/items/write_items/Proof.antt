@@ -2,23 +2,18 @@
 use borrow.Author.Needs.{needs}
 use native.Mathlib.Omega.{arith}
 use Prim.Native.Nat.{ℕ, _+_, _-_, _≤_, _<_}
-use mathlib.Core.List.{List}
-use mathlib.Core.Path.{_≡_, refl, sym, ap, _∙_}
+use mathlib.Core.Path.{_≡_, refl, _∙_}
 use lib.ListN.{length}
-use lib.Seq.{sets}
-use Rattle.format.specs.Packing.{bytesOf}
 use Rattle.writer.specs.Writer.{Writes}
-use Rattle.writer.proofs.WriterLaws.{pending-lt}
 use Rattle.encoder.specs.Items.{bitsTo}
-use Rattle.encoder.proofs.ItemBits.{bits-le, bits-mono, node-more, two-more, room-one, room-two}
+use Rattle.encoder.proofs.ItemBits.{bits-mono}
 use Rattle.encoder.proofs.items.write_items.Statement.{statement}
 use Rattle.encoder.proofs.items.write_items.Tie as tie
 
 abbrev Inv-loop : tie.InvT-loop
 Inv-loop words nodes bytes₀ writer₀ i₀ bytes writer i =
-    (nodes ≤ i) × (i ≤ length words) × (length bytes ≡ length bytes₀) × (writer .count < 32) ×
-    ((old : List ℕ) → Writes old (bitsTo words nodes nodes) writer₀ bytes₀ →
-    Writes old (bitsTo words nodes i) writer bytes)
+    (nodes ≤ i) × (i ≤ length words) × (length bytes ≡ length bytes₀) × (writer .count < 8) ×
+    Writes (bitsTo words nodes i) writer bytes
 
 abbrev μ-loop : tie.MeasureT-loop
 μ-loop words nodes bytes₀ writer₀ i₀ bytes writer i = length words - i
@@ -28,147 +23,85 @@ write-fields-requires c κs =
     let c3 = c .before .before .before in
     let l = c3 .args .words .now in
     let n = c3 .args .nodes in
-    (c3 .pre .0, omega (arith, bits-mono l n n (length l) (c3 .pre .0 .1)))
+    (c3 .pre .0, omega (arith, c3 .pre .1, bits-mono l n n (length l) (c3 .pre .0 .1)))
 
 loop-holds : tie.Need-loop-holds Inv-loop μ-loop
-loop-holds c = (omega arith, omega arith, refl, c .before .before .write-fields .ensures .0, λ old h. h)
+loop-holds c =
+    let c6 = c .before .before .before .before .before .before in
+    let (few, written) = c .before .before .write-fields .ensures in
+    (omega arith, c6 .pre .0 .1, refl, few, written)
 
-write-two-requires : tie.Need-write-two-requires Inv-loop μ-loop
-write-two-requires c κs =
-    let c3 = c .before .before .before in
-    let c7 = c3 .before .before .before .before in
+push-three-requires : tie.Need-push-three-requires Inv-loop μ-loop
+push-three-requires c κs = (omega arith, omega (arith, c .before .loop .inv .3))
+
+push-three-requires-2 : tie.Need-push-three-requires-2 Inv-loop μ-loop
+push-three-requires-2 c κs = (omega arith, omega (arith, c .before .before .loop .inv .3, c .push-three .ensures .0))
+
+flush-requires : tie.Need-flush-requires Inv-loop μ-loop
+flush-requires c κs =
+    let c2 = c .before .before in
+    let c4 = c2 .before .before in
+    let c7 = c4 .before .before .before in
     let c11 = c7 .before .before .before .before in
-    let h = c3 .before .loop .inv .4 _ (c7 .write-fields .ensures .1) in (
-      (c3 .before .loop .inv .3, pending-lt _ _ _ _ h),
-      omega (
-        arith,
-        h .total,
-        room-two (c11 .args .words .now) (c11 .args .nodes) (c3 .before .loop .i) (c3 .before .loop .inv .0)
-            (c3 .loop-test .taken),
-        c11 .pre .1,
-        c3 .before .loop .inv .2,
-        c7 .write-fields .kept .1 .1 .0,
-      ),
+    let v = c4 .loop .inv in
+    let i = c4 .loop .i in
+    let l = c11 .args .words .now in
+    let n = c11 .args .nodes in
+    let h = c .before .push-three2 .ensures .1 n (omega (arith, v .0)) _ (c2 .push-three .ensures .1 n (v .0) _ (v .4)) in
+    let room = bits-mono l n (i + 3 + 3) (length l) (omega (arith, c2 .before .loop-test .taken)) in (
+      omega (arith, v .3, c2 .push-three .ensures .0, c .before .push-three2 .ensures .0),
+      omega (arith, h .total, room, c11 .pre .1, v .2, c7 .write-fields .kept .1 .1 .0),
     )
 
 loop-again : tie.Need-loop-again Inv-loop μ-loop
 loop-again c =
-    let c7 = c .before .before .before .before .before .before .before in
+    let c2 = c .before .before in
+    let c4 = c2 .before .before in
+    let c5 = c4 .before in
+    let c7 = c5 .before .before in
     let c14 = c7 .before .before .before .before .before .before .before in
-    let l = c14 .args .words .now in
-    let n = c14 .args .nodes in (
-      omega arith,
-      omega arith,
-      c .before .before .write-two .kept .1 .1 .1 .0 ∙ c7 .loop .inv .2,
-      c .before .before .write-two .ensures .0,
-      λ old h. rw (two-more l n (c7 .loop .i) (c7 .loop .inv .0)) (c .before .before .write-two .ensures .1 old _
-          (c7 .loop .inv .4 old h)),
+    let v = c7 .loop .inv in
+    let n = c14 .args .nodes in
+    let e : c7 .loop .i + 6 ≡ c7 .loop .i + 3 + 3 = omega arith in (
+      omega (arith, v .0),
+      omega (arith, c5 .before .loop-test .taken),
+      c2 .flush .kept .1 .0 ∙ v .2,
+      c2 .flush .ensures .0 .0,
+      rw e (c2 .flush .ensures .1 _ (c4 .push-three2 .ensures .1 n (omega (arith, v .0)) _
+          (c5 .push-three .ensures .1 n (v .0) _ (v .4)))),
     )
+
+push-rest-requires : tie.Need-push-rest-requires Inv-loop μ-loop
+push-rest-requires c κs = (c .before .loop .inv .1, omega arith, c .before .loop .inv .3)
 
 finish-requires : tie.Need-finish-requires Inv-loop μ-loop
 finish-requires c κs =
     let c3 = c .before .before .before in
     let c6 = c3 .before .before .before in
     let c10 = c6 .before .before .before .before in
-    let h = c3 .loop .inv .4 _ (c6 .write-fields .ensures .1) in (
-      omega (
-        arith,
-        h .total,
-        bits-le (c10 .args .words .now) (c10 .args .nodes) (c3 .loop .i),
-      ),
-      c3 .loop .inv .3,
-      pending-lt _ _ _ _ h,
-    )
+    let v = c3 .loop .inv in
+    let (few, written) = c .before .push-rest .ensures in
+    let h = written (c10 .args .nodes) (v .0) _ (v .4) in
+    (omega (arith, few), omega (arith, h .total, c10 .pre .1, v .2, c6 .write-fields .kept .1 .1 .0))
 
 same-length : tie.Need-same-length Inv-loop μ-loop
 same-length c =
     let c6 = c .before .before .before .before .before .before in
-    let c9 = c6 .before .before .before in
-    c .before .before .finish .kept .1 .0 ∙
-    c6 .loop .inv .2 ∙
-    c9 .write-fields .kept .1 .1 .0
+    c .before .before .finish .kept .1 .0 ∙ c6 .loop .inv .2 ∙ c6 .before .before .before .write-fields .kept .1 .1 .0
 
 returns : tie.Need-returns Inv-loop μ-loop
 returns c =
-    let c4 = c .before .before .before .before in
+    let c2 = c .before .before in
+    let c4 = c2 .before .before in
     let c6 = c4 .before .before in
     let c9 = c6 .before .before .before in
-    let c11 = c9 .before .before in
-    let a = c11
-    .before .before .args in
-    c .before .before .finish .ensures _ _
-    (c6 .loop .inv .4 _
-    (c9 .write-fields .ensures .1))
-    ∙ ap (λ (k : ℕ). sets (a .bytes .now) 0 (bytesOf (bitsTo (a .words .now) (a .nodes) k)))
-    (c4 .if1 .taken)
-
-write-node-requires : tie.Need-write-node-requires Inv-loop μ-loop
-write-node-requires c κs =
-    let c4 = c .before .before .before .before in
-    let c7 = c4 .before .before .before in
-    let c11 = c7 .before .before .before .before in
-    let h = c4 .loop .inv .4 _ (c7 .write-fields .ensures .1) in (
-      (c4 .loop .inv .3, pending-lt _ _ _ _ h),
-      omega (
-        arith,
-        h .total,
-        room-one (c11 .args .words .now) (c11 .args .nodes) (c4 .loop .i) (c4 .loop .inv .0) (omega arith),
-        c11 .pre .1,
-        c4 .loop .inv .2,
-        c7 .write-fields .kept .1 .1 .0,
-      ),
-    )
-
-finish-requires-2 : tie.Need-finish-requires-2 Inv-loop μ-loop
-finish-requires-2 c κs =
-    let c3 = c .before .before .before in
-    let c8 = c3 .before .before .before .before .before in
-    let c11 = c8 .before .before .before in
-    let c15 = c11 .before .before .before .before in
-    let h = c3 .write-node .ensures .1 _ _ (c8 .loop .inv .4 _ (c11 .write-fields .ensures .1)) in
-    let a = c15 .args in (
-      omega (
-        arith,
-        h .total,
-        ap length (node-more (a .words .now) (a .nodes) (c8 .loop .i) (c8 .loop .inv .0)),
-        bits-le (a .words .now) (a .nodes) (c8 .loop .i + 1),
-      ),
-      c3 .write-node .ensures .0,
-      pending-lt _ _ _ _ h,
-    )
-
-same-length-2 : tie.Need-same-length-2 Inv-loop μ-loop
-same-length-2 c =
-    let c6 = c .before .before .before .before .before .before in
-    let c11 = c6 .before .before .before .before .before in
-    let c12 = c11 .before in
-    c .before .before .finish2 .kept .1 .0 ∙
-    c6 .write-node .kept .1 .1 .0 ∙
-    c11 .loop .inv .2 ∙
-    c12
-    .before .before .write-fields .kept .1 .1 .0
-
-returns-2 : tie.Need-returns-2 Inv-loop μ-loop
-returns-2 c =
-    let c6 = c .before .before .before .before .before .before in
-    let c11 = c6 .before .before .before .before .before in
-    let c14 = c11 .before .before .before in
-    let c18 = c14 .before .before .before .before in
-    let a = c18 .args in
-    let e : c11 .loop .i + 1 ≡ length (a .words .now) = omega arith in
-    c .before .before .finish2 .ensures _ _
-    (c6 .write-node .ensures .1 _ _
-    (c11 .loop .inv .4 _
-    (c14 .write-fields .ensures .1)))
-    ∙ ap (λ (bits : List ℕ). sets (a .bytes .now) 0 (bytesOf bits))
-    (sym (node-more (a .words .now) (a .nodes)
-    (c11 .loop .i)
-    (c11 .loop .inv .0))
-    ∙ ap (bitsTo (a .words .now) (a .nodes)) e)
+    let c13 = c9 .before .before .before .before in
+    let v = c6 .loop .inv in
+    c2 .finish .ensures _ (c4 .push-rest .ensures .1 (c13 .args .nodes) (v .0) _ (v .4))
+    (v .2 ∙ c9 .write-fields .kept .1 .1 .0 ∙ c13 .pre .1)
 
 pub write-items-spec : {M : Type 1} → statement M
 write-items-spec =
-    tie.close (tie.spec Inv-loop μ-loop write-fields-requires loop-holds (λ c. search needs) (λ c. search needs)
-    (λ c. search needs) (λ c. search needs) (λ c. search needs) (λ c. search needs) write-two-requires
-    (λ c. search needs) (λ c. search needs) loop-again finish-requires same-length returns (λ c. search needs)
-    (λ c. search needs) write-node-requires finish-requires-2 same-length-2 returns-2)
+    tie.close (tie.spec Inv-loop μ-loop write-fields-requires loop-holds (λ c. search needs) push-three-requires
+    (λ c. search needs) push-three-requires-2 flush-requires (λ c. search needs) (λ c. search needs) loop-again
+    push-rest-requires finish-requires same-length returns)

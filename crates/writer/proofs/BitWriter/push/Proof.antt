@@ -1,32 +1,21 @@
--- A value behind the bits that wait is a number of their widths together.
+-- The bits that wait and the value behind them are the last bits of the sum; no carry leaves 64 bits.
+use mathlib.Core.Path.{refl}
+use Rattle.writer.proofs.WriterLaws.{shl-add-lt, writes-push}
 use native.Mathlib.Omega.{arith}
-use Rattle.writer.proofs.WriterLaws.{push-fits}
 use borrow.Author.Needs.{needs}
 use Rattle.writer.proofs.BitWriter.push.Statement.{statement}
 use Rattle.writer.proofs.BitWriter.push.Tie as tie
 
-mul-t5 : tie.Need-mul-t5
-mul-t5 c =
-    let a = c .before .before .args in
-    rw (c .before .two-to .ensures .0)
-    (omega (
-      arith,
-      push-fits (a .self .pending) (a .width) (a .value) (c .before .before .pre .3) (omega arith)
-          (omega arith),
-    ))
-
 add-t7 : tie.Need-add-t7
 add-t7 c =
-    let a = c .before .before .args in
-    rw (c .before .two-to .ensures .0)
-    (record {
-      fits = push-fits (a .self .pending) (a .width) (a .value) (c .before .before .pre .3) (omega arith)
-          (omega arith);
-    })
+    let a = c .before .args in
+    record { fits = shl-add-lt (a .self .pending) (a .width) (a .value) (c .before .pre .1) (omega arith) }
 
 returns : tie.Need-returns
-returns c = rw (c .before .before .two-to .ensures .0)
+returns c =
+    let a = c .before .before .args in
+    let (narrow, small, fits) = c .before .before .pre in
+    ((refl, refl), λ bits bytes h. writes-push bits (a .self) bytes h (a .width) (a .value) small fits)
 
 pub push-spec : {M : Type 1} → statement M
-push-spec =
-    tie.close (tie.spec (λ c κs. search needs) mul-t5 add-t7 (λ c. search needs) returns)
+push-spec = tie.close (tie.spec (λ c. search needs) add-t7 (λ c. search needs) returns)

@@ -3,17 +3,13 @@
 --     rest-fits            a remainder by a power of 2 fits a word
 --     field-three          the bits of a field, spelt from the three bytes
 --     field-two, field-one, field-last   a node's nine bits from two bytes or one, the last bits of a byte
---     spelt-lt, spelt-add  a field is below 2 to its width; a field of m + n bits is one of m bits and one of n bits
 use mathlib.Core.Path.{_≡_, sym, ap, _∙_}
 use mathlib.Core.List.{List}
 use Prim.Native.Nat.{ℕ, zero, suc, _+_, _*_, _-_, _/_, _%_, _^_, _≤_, _<_}
-use native.Mathlib.Nat.{mod-one, pow-suc, mod-lt, lt-of-lt-of-le, mul-assoc, mul-add-mod-self-right}
-use native.Mathlib.Nat.{add-zero, add-suc, add-assoc}
+use native.Mathlib.Nat.{mod-one, mod-lt, lt-of-lt-of-le, mul-assoc, mul-add-mod-self-right}
 use native.Mathlib.Omega.{arith}
 use lib.ListN.{getD}
 use lib.Pow.{pow-add, pow-pos, pow-mono, shr-shr, field, mod-pow-add}
-use lib.Arith.{digits-lt}
-use lib.Dec.{lit<}
 use Rattle.multisets.proofs.Relations.{byOrder}
 use Rattle.format.specs.Reading.{spelt, bitAt}
 
@@ -84,19 +80,6 @@ module _ (bytes : List ℕ) (small : (i : ℕ) → getD bytes i 0 < 256) (at : �
       let e₂ : 23 - (at % 8 + w) ≡ e = omega arith in
       let e₃ : w + 1 ≡ suc w = omega arith in
       cc (mod-pow-add (v / 2 ^ e) w 1, shr-shr v e 1)
-
-pub spelt-lt : (bytes : List ℕ) (at w : ℕ) → spelt (bitAt bytes) at w < 2 ^ w
-spelt-lt bytes at zero = lit< tt
-spelt-lt bytes at (suc w) = rw (pow-suc 2 w) (digits-lt (spelt-lt bytes at w) (mod-lt _ (lit< tt)))
-
-pub spelt-add : (bit : ℕ → ℕ) (at m n : ℕ) → spelt bit at (m + n) ≡ spelt bit at m * 2 ^ n + spelt bit (at + m) n
-spelt-add bit at m zero = rw add-zero (omega arith)
-spelt-add bit at m (suc n) =
-    rw (add-suc, spelt-add bit at m n, add-assoc at m n, pow-suc 2 n) (omega (
-      arith,
-      mul-assoc (spelt bit at m) (2 ^ n)
-          2,
-    ))
 
 -- The nine bits of a node lie in two bytes.
 pub field-two : (bytes : List ℕ) → ((i : ℕ) → getD bytes i 0 < 256) → (at : ℕ) →

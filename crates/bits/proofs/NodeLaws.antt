@@ -1,13 +1,13 @@
 -- Fields and nodes of a packed file as its reader gets them.
 --     field-got, field-missing      a field that fits, and one that does not
---     field-next                    a field that was read ends its width further on
+--     field-next, node-next         a field that was read ends its width further on, and so does a node
 --     node-got, node-cut, node-none a node from nine bits, one whose number does not fit, one that has no tag
 --     word-by-tag, width-by-tag     a node's word and width by its tag, with no test
 --     word-lt, tag-first            a node's word is below 272; its tag is the first of its bits
 use mathlib.Core.Path.{_≡_, refl, sym, _∙_}
 use mathlib.Core.List.{List}
 use mathlib.Core.Bool.{Bool, true, false, cond}
-use Prim.Native.Nat.{ℕ, _+_, _*_, _-_, _/_, _%_, _^_, _≤_, _<_}
+use Prim.Native.Nat.{ℕ, suc, zero, _+_, _*_, _-_, _/_, _%_, _^_, _≤_, _<_}
 use native.Mathlib.Nat.{add-assoc, add-zero, zero-add}
 use native.Mathlib.Omega.{arith}
 use lib.ListN.{length, getD}
@@ -15,10 +15,10 @@ use lib.Dec.{leb}
 use borrow.Author.Tests.{le-leb, lt-leb, lt-ltb, le-ltb}
 use Rattle.format.specs.Errors.{fieldMissing}
 use Rattle.multisets.proofs.Relations.{byOrder}
-use Rattle.format.specs.Reading.{spelt, bitAt, bitField, bitSource}
+use Rattle.format.specs.Reading.{Node, spelt, bitAt, bitField, bitSource}
 use Rattle.format.specs.Reading.Reading.{got, fault}
+use Rattle.format.proofs.CodingLaws.{bit-lt, spelt-lt, spelt-add}
 use Rattle.bits.specs.Cursor.{nodeWidth, nodeWord}
-use Rattle.bits.proofs.BitLaws.{spelt-lt, spelt-add}
 
 -- The word and the width by the first of the nine bits, with no test.
 pub word-by-tag : (n : ℕ) → n < 512 → n / 2 ^ (4 * (n / 256)) + 240 * (n / 256) ≡ nodeWord n
@@ -40,6 +40,9 @@ pub width-le : (n : ℕ) → nodeWidth n ≤ 9
 width-le n = byOrder n 256 (λ h. rw (lt-ltb n 256 h) (omega arith)) λ h. rw (le-ltb n 256 h) (omega arith)
 
 module _ (bytes : List ℕ) where
+  bits-lt : (at n : ℕ) → spelt (bitAt bytes) at n < 2 ^ n
+  bits-lt = spelt-lt (bitAt bytes) (bit-lt bytes)
+
   pub field-got : (width at : ℕ) → at + width ≤ 8 * length bytes →
       bitField bytes width at ≡ got (spelt (bitAt bytes) at width) (at + width)
   unfolding bitField
@@ -67,7 +70,7 @@ module _ (bytes : List ℕ) where
     pub tag-first : getD bytes (at / 8) 0 / 2 ^ (7 - at % 8) % 2 ≡ n / 256
     tag-first =
         let one : spelt (bitAt bytes) at 1 ≡ getD bytes (at / 8) 0 / 2 ^ (7 - at % 8) % 2 = rw (add-zero, zero-add) in
-        sym one ∙ omega (arith, halves, spelt-lt bytes (at + 1) 8)
+        sym one ∙ omega (arith, halves, bits-lt (at + 1) 8)
 
     quarters : spelt (bitAt bytes) (at + 1) 8 ≡ spelt (bitAt bytes) (at + 1) 4 * 16 + spelt (bitAt bytes) (at + 1 + 4) 4
     quarters = spelt-add (bitAt bytes) (at + 1) 4 4
@@ -78,7 +81,7 @@ module _ (bytes : List ℕ) where
 
     variable-bits : 256 ≤ n → (spelt (bitAt bytes) at 1 ≡ 1) × (256 + spelt (bitAt bytes) (at + 1) 4 ≡ n / 16 + 240)
     variable-bits h =
-        omega (arith, halves, quarters, spelt-lt bytes at 1, spelt-lt bytes (at + 1) 8, spelt-lt bytes (at + 1 + 4) 4)
+        omega (arith, halves, quarters, bits-lt at 1, bits-lt (at + 1) 8, bits-lt (at + 1 + 4) 4)
 
     pub node-got : at + nodeWidth n ≤ 8 * length bytes →
         bitSource bytes .node at ≡ got (record { word = nodeWord n; offset = at + 1 }) (at + nodeWidth n)
@@ -106,3 +109,21 @@ module _ (bytes : List ℕ) where
 
   pub node-none : (at : ℕ) → 8 * length bytes ≤ at → bitSource bytes .node at ≡ fault fieldMissing at
   node-none at h = rw (field-missing 1 at (omega arith))
+
+  -- A node that was read ends its width further on, within the bytes.
+  pub node-next : (at : ℕ) (node : Node) (next : ℕ) → bitSource bytes .node at ≡ got node next →
+      (next ≡ at + nodeWidth (spelt (bitAt bytes) at 9)) × (next ≤ 8 * length bytes)
+  node-next at node next e =
+      let n = spelt (bitAt bytes) at 9 in
+      byOrder (8 * length bytes) (at + nodeWidth n)
+      (λ cut. byOrder at (8 * length bytes)
+      (λ begun. none (sym (node-cut at n refl begun cut) ∙ e))
+      λ ended. none (sym (node-none at ended) ∙ e))
+      λ fits. let end : at + nodeWidth n ≡ next = last (sym (node-got at n refl fits) ∙ e) in (sym end, rw end at fits)
+    where
+      none : {code offset : ℕ} → fault code offset ≡ got node next →
+          (next ≡ at + nodeWidth (spelt (bitAt bytes) at 9)) × (next ≤ 8 * length bytes)
+      none f = let absurdity : suc zero ≡ zero = cc in absurd (omega (arith, absurdity))
+
+      last : {x : Node} {y : ℕ} → got x y ≡ got node next → y ≡ next
+      last f = cc

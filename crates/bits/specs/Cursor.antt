@@ -1,13 +1,17 @@
 -- What the bit cursor's answers stand for.
+use mathlib.Core.Path.{_≡_}
+use mathlib.Core.List.{List}
 use mathlib.Core.Bool.{cond}
-use Prim.Native.Nat.{ℕ, _+_, _/_}
+use Prim.Native.Nat.{ℕ, _+_, _-_, _*_, _/_, _^_, _≤_}
 use lib.Dec.{ltb}
+use lib.ListN.{length, getD}
 use Rattle.terms.specs.Term.{variableCount}
 use Rattle.terms.specs.Words.{firstVariable}
 use Rattle.format.specs.Layout.{tagWidth}
-use Rattle.format.specs.Reading.{Reading, Node}
+use Rattle.format.specs.Reading.{Reading, Node, spelt, bitAt}
 use Rattle.answers.specs.declared.Answer.{Answer}
 use Rattle.answers.specs.Answer.{readingOf}
+use Rattle.bits.specs.declared.Window.{Window}
 
 -- The reading of a node at an offset; its number stands after its tag.
 abbrev pub nodeReading : ℕ → Answer → Reading Node
@@ -24,3 +28,14 @@ nodeWidth nine = cond (ltb nine 256) 9 5
 
 abbrev pub nodeWord : ℕ → ℕ
 nodeWord nine = cond (ltb nine 256) nine (nine / 16 + 240)
+
+-- The four bytes from an index on as one number.
+abbrev pub four : List ℕ → ℕ → ℕ
+four bytes i =
+    ((getD bytes i 0 * 256 + getD bytes (i + 1) 0) * 256 + getD bytes (i + 2) 0) * 256 + getD bytes (i + 3) 0
+
+-- A window has bits of the bytes from an offset on.
+pub record Ahead (bytes : List ℕ) (at : ℕ) (w : Window) : Type 0 where
+  pub most : w .count ≤ 64
+  pub within : at + w .count ≤ 8 * length bytes
+  pub same : w .bits / 2 ^ (64 - w .count) ≡ spelt (bitAt bytes) at (w .count)

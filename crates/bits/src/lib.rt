@@ -1,19 +1,26 @@
 // The bit cursor: fields and nodes of a packed file, each with the offset past it.
 ghost use mathlib.Core.Path.{_≡_};
+ghost use mathlib.Core.List.{List};
 ghost use Prim.Native.Nat.{ℕ, _+_, _-_, _*_, _/_, _%_, _^_, _<_, _≤_};
 ghost use lib.ListN.{length, getD};
 ghost use Rattle.format.specs.Layout.{maxBytes, tagWidth};
-ghost use Rattle.format.specs.Reading.{bitField, isPadding, bitSource};
+ghost use Rattle.format.specs.Reading.{Node, bitField, isPadding, bitSource};
 ghost use Rattle.format.specs.Reading.Reading.{got};
 ghost use Rattle.answers.specs.declared.Answer.the-variants.{Got};
 ghost use Rattle.answers.specs.Answer.{readingOf, Below};
-ghost use Rattle.bits.specs.Cursor.{nodeReading, nodeWords, nodeWidth, nodeWord};
+ghost use Rattle.bits.specs.Cursor.{nodeReading, nodeWords, nodeWidth, nodeWord, four, Ahead};
 use answers::Answer;
 use format::FIELD_MISSING;
 
 // An offset in bits.
 pub struct BitCursor {
     pub at: usize,
+}
+
+// The bits from an offset on that are at hand: the first ones of a number, and how many.
+pub struct Window {
+    pub bits: u64,
+    pub count: usize,
 }
 
 // The byte at an index, and 0 past the end.
@@ -75,6 +82,62 @@ fn node_of(nine: u32, tag: u32, at: usize) -> Answer
     }
 }
 
+// The byte at an index, which is there, as a number of 64 bits.
+fn wide_byte(book: &[u8], i: usize) -> u64
+    requires { ⌜ i < length (now book) ⌝ }
+    ensures { λ r. ⌜ (r ≡ getD (now (book .entry)) i 0) × (r < 256) ⌝ }
+{
+    book[i] as u64
+}
+
+// The four bytes from an index on as one number.
+fn four_at(book: &[u8], i: usize) -> u64
+    requires { ⌜ i + 4 ≤ length (now book) ⌝ }
+    ensures { λ r. ⌜ (r ≡ four (now (book .entry)) i) × (r < 2 ^ 32) ⌝ }
+{
+    let two = wide_byte(book, i) * 256 + wide_byte(book, i + 1);
+    (two * 256 + wide_byte(book, i + 2)) * 256 + wide_byte(book, i + 3)
+}
+
+impl Window {
+    // The window at an offset, with more bits where it has fewer than nine and eight bytes are left to take them from.
+    pub fn refilled(self, book: &[u8], at: usize) -> Window
+        requires { ⌜ (length (now book) ≤ maxBytes) × Ahead (now book) at self ⌝ }
+        ensures { λ r. ⌜ Ahead (now (book .entry)) at r ⌝ }
+    {
+        if 9 <= self.count {
+            return self;
+        }
+        let index = at / 8;
+        if book.len() < index + 8 {
+            return self;
+        }
+        let eight = four_at(book, index) * 4294967296 + four_at(book, index + 4);
+        Window {
+            bits: eight << (at % 8),
+            count: 64 - at % 8,
+        }
+    }
+
+    // The window past the node that it begins with, and an empty one where not all of the node's bits are at hand.
+    pub fn past(self) -> Window
+        ensures { λ r. ⌜
+            ((bytes : List ℕ) (at next : ℕ) (node : Node) → Ahead bytes at self →
+            bitSource bytes .node at ≡ got node next → Ahead bytes next r)
+            ⌝ }
+    {
+        let width = 9 - 4 * (self.bits >> 63) as usize;
+        let bits = self.bits << width;
+        if self.count < width {
+            return Window { bits, count: 0 };
+        }
+        Window {
+            bits,
+            count: self.count - width,
+        }
+    }
+}
+
 impl BitCursor {
     // The field of that width here, where fewer than three bytes are left.
     fn late_field(self, book: &[u8], width: usize) -> Answer
@@ -125,8 +188,8 @@ impl BitCursor {
         node_of(nine, nine / 256, at)
     }
 
-    // The node here. Before the last byte its bits lie in two bytes, whatever it is.
-    pub fn node(self, book: &[u8]) -> Answer
+    // The node here, none of its bits at hand. Before the last byte they lie in two bytes, whatever it is.
+    fn far_node(self, book: &[u8]) -> Answer
         requires { ⌜ length (now book) ≤ maxBytes ⌝ }
         ensures { λ r. ⌜ nodeReading (self .at) r ≡ bitSource (now (book .entry)) .node (self .at) ⌝ }
         ensures { λ r. ⌜ Below nodeWords r ⌝ }
@@ -140,6 +203,22 @@ impl BitCursor {
         let after = 7 - at % 8;
         let nine = ((first * 256 + byte_at(book, index + 1)) >> after) % 512;
         node_of(nine, (first >> after) % 2, at)
+    }
+
+    // The node here, from the window where its bits are at hand.
+    pub fn node(self, book: &[u8], window: Window) -> Answer
+        requires { ⌜ (length (now book) ≤ maxBytes) × Ahead (now book) (self .at) window ⌝ }
+        ensures { λ r. ⌜ nodeReading (self .at) r ≡ bitSource (now (book .entry)) .node (self .at) ⌝ }
+        ensures { λ r. ⌜ Below nodeWords r ⌝ }
+    {
+        if window.count < 9 {
+            return self.far_node(book);
+        }
+        node_of(
+            (window.bits >> 55) as u32,
+            (window.bits >> 63) as u32,
+            self.at,
+        )
     }
 
     // Whether fewer than eight bits are left here, and all of them zeros.

@@ -18,7 +18,8 @@ use Rattle.format.specs.Packing.{bitsOf, itemBits}
 use Rattle.format.specs.Packing.Item.{node}
 use Rattle.encoder.specs.Items.{fieldWidth, itemAt, itemsFrom, bitsTo}
 use Rattle.encoder.proofs.ItemsLaws.{flat-append, items-add}
-use Rattle.writer.proofs.BitsLaws.{length-bits, bits-add, bits-same}
+use Rattle.format.proofs.CodingLaws.{length-bitsOf}
+use Rattle.writer.proofs.BitsLaws.{bits-add, bits-same}
 
 pub flat-nil : {A B : Type 0} (f : A → List B) → flatMap f [] ≡ []
 unfolding flatMap
@@ -67,7 +68,7 @@ module _ (words : List ℕ) (nodes : ℕ) where
   item-le : (i : ℕ) → length (itemBits (itemAt words nodes i)) ≤ 16
   item-le i =
       byOrder i nodes
-      (λ h. rw (field-bits i h, length-bits (fieldWidth i) (getD words i 0)) (width-le i))
+      (λ h. rw (field-bits i h, length-bitsOf (fieldWidth i) (getD words i 0)) (width-le i))
       λ h. rw (node-bits i h) (node-le (getD words i 0))
 
   -- ---- the bits of the first items
@@ -113,7 +114,7 @@ module _ (words : List ℕ) (nodes : ℕ) where
   pub field-more : (i j w : ℕ) → j ≡ i + 1 → i < nodes → fieldWidth i ≡ w →
       length (bitsTo words nodes j) ≡ length (bitsTo words nodes i) + w
   field-more i j w e h k =
-      length-more i j e ∙ rw (field-bits i h, length-bits (fieldWidth i) (getD words i 0), k)
+      length-more i j e ∙ rw (field-bits i h, length-bitsOf (fieldWidth i) (getD words i 0), k)
 
   -- Two fields of widths m and n more.
   pub pair-more : (i m n : ℕ) → i + 1 < nodes → fieldWidth i ≡ m → fieldWidth (i + 1) ≡ n → bitsTo words nodes (i + 2)

@@ -1,13 +1,13 @@
 -- The two sources as runs of cells: the words of a file, and its bits.
 --     word-coding    an item is one word
---     spelt-first, spelt-lt, spelt→agrees, agrees→spelt    the number that bits spell
+--     spelt-first, spelt-add, spelt-lt, spelt-same, spelt→agrees, agrees→spelt    the number that bits spell
 --     bit-coding     an item is the bits of its number, after a node's tag
 --     spells-fit     items that are read from bits fit
 use mathlib.Core.Path.{_≡_, refl, sym, ap, _∙_}
 use mathlib.Core.List.{List, [], _∷_, _++_}
 use mathlib.Core.Bool.{cond}
 use Prim.Native.Nat.{ℕ, suc, zero, _+_, _-_, _*_, _/_, _%_, _^_, _≤_, _<_}
-use native.Mathlib.Nat.{mod-lt, mod-one, pow-suc, mul-assoc, add-zero, mod-eq-of-lt}
+use native.Mathlib.Nat.{mod-lt, mod-one, pow-suc, mul-assoc, add-zero, add-suc, add-assoc, mod-eq-of-lt}
 use native.Mathlib.Omega.{arith}
 use lib.ListN.{length, getD}
 use lib.Dec.{eqb, ltb, leb, lit<}
@@ -84,6 +84,13 @@ module _ (bit : ℕ → ℕ) where
       let d : bit at * 2 ^ suc n ≡ bit at * 2 ^ n * 2 = rw pow-suc (sym (mul-assoc (bit at) (2 ^ n) 2)) in
       rw (ih, e, d) (omega arith)
 
+  -- Bits one after the other.
+  pub spelt-add : (at m n : ℕ) → spelt bit at (m + n) ≡ spelt bit at m * 2 ^ n + spelt bit (at + m) n
+  spelt-add at m zero = rw add-zero (omega arith)
+  spelt-add at m (suc n) =
+      rw (add-suc, spelt-add at m n, add-assoc at m n, pow-suc 2 n)
+      (omega (arith, mul-assoc (spelt bit at m) (2 ^ n) 2))
+
   pub spelt-lt : ((i : ℕ) → bit i < 2) → (at n : ℕ) → spelt bit at n < 2 ^ n
   spelt-lt small at zero = lit< tt
   spelt-lt small at (suc n) = rw (pow-suc 2 n) (digits-lt (spelt-lt small at n) (small (at + n)))
@@ -106,6 +113,12 @@ module _ (bit : ℕ → ℕ) where
       let lv = mod-lt v (pow-pos n) in
       let rest = sym (low (bit at) n lo) ∙ ap (λ (k : ℕ). k % 2 ^ n) same ∙ low b n lv in
       (sym (high (bit at) n lo) ∙ ap (λ (k : ℕ). k / 2 ^ n) same ∙ high b n lv, spelt→agrees small (suc at) n v rest)
+
+pub spelt-same : (bit cit : ℕ → ℕ) (at to n : ℕ) → ((i : ℕ) → i < n → bit (at + i) ≡ cit (to + i)) →
+    spelt bit at n ≡ spelt cit to n
+spelt-same bit cit at to zero h = refl
+spelt-same bit cit at to (suc n) h =
+    rw (spelt-same bit cit at to n (λ i l. h i (omega arith)), h n (omega arith))
 
 pub length-bitsOf : (n v : ℕ) → length (bitsOf n v) ≡ n
 length-bitsOf zero v = refl

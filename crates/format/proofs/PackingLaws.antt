@@ -3,14 +3,15 @@
 --     bitAt-bytesOf       the bits of packed bits
 --     bytesOf-bitAt       bytes that hold the bits, and no others, are the packed bits
 --     Padded              fewer than eight bits are left, and they are zeros: padded-zero, zero-padded
---     one-shl             a power of 2, as code shifts it
+--     one-shl, shl-mod    a power of 2, and a number, as code shifts them
+--     bits-append, bitsOf-bits, getD-bytesFrom, byte-spelt   lists of bits and bytes by index
 use mathlib.Core.Path.{_≡_, refl, sym, ap, _∙_}
 use mathlib.Core.List.{List, [], _∷_, _++_, flatMap}
 use Prim.Native.Nat.{ℕ, suc, zero, _+_, _-_, _*_, _/_, _%_, _^_, _≤_, _<_}
-use native.Mathlib.Nat.{mod-lt, zero-add, zero-div, zero-mod, mod-eq-of-lt}
+use native.Mathlib.Nat.{mod-lt, add-zero, zero-add, zero-div, zero-mod, mod-eq-of-lt}
 use native.Mathlib.Omega.{arith}
 use lib.ListN.{length, getD, List·getD-eq-default}
-use lib.Pow.{pow-lt}
+use lib.Pow.{pow-pos, pow-lt, low, mod-pow-add, shl-shr}
 use lib.Seq.{ext-getD}
 use lib.Dec.{ltb, lit<}
 use Rattle.multisets.proofs.Relations.{byTest, byOrder}
@@ -20,11 +21,17 @@ use Rattle.format.specs.Reading.{spelt, bitAt}
 use Rattle.format.specs.Packing.{Item, bitsOf, itemBits, bytesFrom, bytesOf}
 use Rattle.format.specs.Packing.Item.{field, node}
 use Rattle.format.proofs.SpellingLaws.{agrees-at, agrees-of}
-use Rattle.format.proofs.CodingLaws.{bit-lt, spelt-lt, spelt→agrees, agrees→spelt, length-bitsOf}
+use Rattle.format.proofs.CodingLaws.{bit-lt, spelt-lt, spelt-same, spelt→agrees, agrees→spelt, length-bitsOf}
 
 -- 1 shifted left, in so many bits.
 pub one-shl : (bits w : ℕ) → w < bits → 1 * 2 ^ w % 2 ^ bits ≡ 2 ^ w
 one-shl bits w h = let e : 1 * 2 ^ w ≡ 2 ^ w = omega arith in rw e (mod-eq-of-lt (pow-lt h))
+
+-- What goes over the top of n bits is lost.
+pub shl-mod : (p k w n : ℕ) → k + w ≡ n → p * 2 ^ w % 2 ^ n ≡ p % 2 ^ k * 2 ^ w
+shl-mod p k w n e =
+    let zeros : p * 2 ^ w % 2 ^ w ≡ 0 = rw add-zero at (low p w (pow-pos w)) in
+    rw (← e) (mod-pow-add (p * 2 ^ w) k w ∙ rw (shl-shr p w, zeros) (add-zero (p % 2 ^ k * 2 ^ w)))
 
 -- ---- lists of bits
 
@@ -38,11 +45,11 @@ bits-cons : (b : ℕ) (bs : List ℕ) → b < 2 → Bits bs → Bits (b ∷ bs)
 bits-cons b bs h hs zero = h
 bits-cons b bs h hs (suc i) = hs i
 
-bits-append : (bs cs : List ℕ) → Bits bs → Bits cs → Bits (bs ++ cs)
+pub bits-append : (bs cs : List ℕ) → Bits bs → Bits cs → Bits (bs ++ cs)
 bits-append [] cs h k = k
 bits-append (b ∷ bs) cs h k = bits-cons b (bs ++ cs) (h 0) (bits-append bs cs (λ i. h (suc i)) k)
 
-bitsOf-bits : (n v : ℕ) → Bits (bitsOf n v)
+pub bitsOf-bits : (n v : ℕ) → Bits (bitsOf n v)
 bitsOf-bits zero v = bits-nil
 bitsOf-bits (suc n) v = bits-cons (v / 2 ^ n % 2) (bitsOf n v) (mod-lt (v / 2 ^ n) (lit< tt)) (bitsOf-bits n v)
 
@@ -79,10 +86,6 @@ spelt-bit bit small at n i h =
     let a = spelt→agrees bit small at n v (sym (mod-eq-of-lt (spelt-lt bit small at n))) in
     sym (getD-bitsOf n v i h) ∙ sym (agrees-at bit at (bitsOf n v) a i (rw (length-bitsOf n v) h))
 
-spelt-same : (bit cit : ℕ → ℕ) → ((i : ℕ) → bit i ≡ cit i) → (at n : ℕ) → spelt bit at n ≡ spelt cit at n
-spelt-same bit cit e at zero = refl
-spelt-same bit cit e at (suc n) = rw (spelt-same bit cit e at n, e (at + n))
-
 -- ---- bytes
 
 length-bytesFrom : (bits : List ℕ) (at n : ℕ) → length (bytesFrom bits at n) ≡ n
@@ -117,7 +120,7 @@ bitAt-bytesOf bits small i =
     zero-bit (bytesOf bits) i (rw (length-bytesOf bits) h) ∙ sym (List·getD-eq-default bits 0 (omega arith))
 
 -- A byte from its bits.
-byte-spelt : (bytes : List ℕ) (j : ℕ) → getD bytes j 0 < 256 → spelt (bitAt bytes) (8 * j) 8 ≡ getD bytes j 0
+pub byte-spelt : (bytes : List ℕ) (j : ℕ) → getD bytes j 0 < 256 → spelt (bitAt bytes) (8 * j) 8 ≡ getD bytes j 0
 byte-spelt bytes j h =
     let b = getD bytes j 0 in
     let each : (i : ℕ) → i < length (bitsOf 8 b) → bitAt bytes (8 * j + i) ≡ getD (bitsOf 8 b) i 0 =
@@ -135,7 +138,8 @@ bytesOf-bitAt bits bytes small len same =
     λ j h.
     getD-bytesFrom bits 0 ((length bits + 7) / 8) j (rw (length-bytesOf bits) at h)
     ∙ ap (λ (k : ℕ). spelt (λ i. getD bits i 0) k 8) (zero-add (8 * j))
-    ∙ spelt-same (λ i. getD bits i 0) (bitAt bytes) (λ i. sym (same i)) (8 * j) 8 ∙ byte-spelt bytes j (small j)
+    ∙ spelt-same (λ i. getD bits i 0) (bitAt bytes) (8 * j) (8 * j) 8 (λ i _. sym (same (8 * j + i)))
+    ∙ byte-spelt bytes j (small j)
 
 -- ---- the bits after the last item
 

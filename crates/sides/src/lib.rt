@@ -10,16 +10,19 @@ ghost use Rattle.format.specs.Reading.{bitSource};
 ghost use Rattle.format.specs.Format.{forestReader, ruleReader};
 ghost use Rattle.symbols.specs.Arities.{Arities};
 ghost use Rattle.answers.specs.Answer.{answerOf, Within};
+ghost use Rattle.bits.specs.Cursor.{Ahead};
 ghost use Rattle.sides.specs.Side.{ForestRead, SideRead, SideStored, WordsRead, sideWords};
 use answers::Answer;
+use bits::Window;
 use format::FIRST_VARIABLE;
 use format::MAX_NODES;
 use format::NODE_WORDS;
 
 // Reads as many terms as are owed from an offset on, their words stored after the first ones, and moves the word of the
 // lowest unused variable, the count of words and the offset past them, or the offset to a fault. It reads a node and
-// calls itself for what is then owed, with one node fewer allowed. The answer is an error's code, 0 where it is none,
-// and no enum, so that this call in last place is a jump.
+// calls itself for what is then owed, with one node fewer allowed. The bits from the offset on that are held ahead go
+// from call to call as two numbers, and the answer is an error's code, 0 where it is none: with a struct or an enum
+// there this call in last place would be no jump.
 fn read_terms(
     book: &&[u8],
     arities: &[u32; NODE_WORDS],
@@ -27,9 +30,14 @@ fn read_terms(
     lowest: &mut usize,
     count: &mut usize,
     at: &mut usize,
+    ahead: u64,
+    held: usize,
     owed: usize,
 ) -> u8
-    requires { ⌜ (length (now (now book)) ≤ maxBytes) × (now at ≤ 8 * length (now (now book))) ⌝ }
+    requires { ⌜
+        (length (now (now book)) ≤ maxBytes)
+        × Ahead (now (now book)) (now at) (record { bits = ahead; count = held })
+        ⌝ }
     requires { ⌜
         (now count ≤ maxNodes) × (owed + 2 ^ 32 * (maxNodes - now count) ≤ 2 ^ 60) × (length (now words) ≡ maxNodes)
         ⌝ }
@@ -56,8 +64,13 @@ fn read_terms(
         return format::TOO_MANY_NODES;
     }
     let here = *at;
+    let before = Window {
+        bits: ahead,
+        count: held,
+    };
+    let window = before.refilled(*book, here);
     let cursor = bits::BitCursor { at: here };
-    match cursor.node(*book) {
+    match cursor.node(*book, window) {
         Answer::Fault { code, offset } => {
             *at = offset;
             code
@@ -76,6 +89,7 @@ fn read_terms(
             *lowest = variables::unused_after(*lowest, value);
             *count += 1;
             *at = next;
+            let after = window.past();
             read_terms(
                 book,
                 arities,
@@ -83,6 +97,8 @@ fn read_terms(
                 lowest,
                 count,
                 at,
+                after.bits,
+                after.count,
                 cell - 1 + (owed - 1),
             )
         }
@@ -112,7 +128,17 @@ pub fn read_side(
     let mut lowest = FIRST_VARIABLE as usize + *unused;
     let mut count = 0;
     let mut end = at;
-    let code = read_terms(&book, arities, words, &mut lowest, &mut count, &mut end, 1);
+    let code = read_terms(
+        &book,
+        arities,
+        words,
+        &mut lowest,
+        &mut count,
+        &mut end,
+        0,
+        0,
+        1,
+    );
     *unused = lowest - FIRST_VARIABLE as usize;
     answers::answer_of(code, count, end)
 }

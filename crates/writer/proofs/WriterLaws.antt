@@ -18,28 +18,16 @@ use Rattle.multisets.proofs.ListLaws.{sets-append}
 use Rattle.multisets.proofs.Relations.{byOrder}
 use Rattle.format.specs.Reading.{spelt}
 use Rattle.format.specs.Packing.{bitsOf, bytesOf}
-use Rattle.format.proofs.PackingLaws.{getD-bytesFrom, length-bytesOf}
+use Rattle.format.proofs.CodingLaws.{spelt-same, spelt-add, spelt-lt, length-bitsOf}
+use Rattle.format.proofs.PackingLaws.{shl-mod, bits-append, bitsOf-bits, getD-bytesFrom, length-bytesOf}
 use Rattle.writer.specs.declared.BitWriter.{BitWriter}
 use Rattle.writer.specs.Writer.{Writes, byteBefore, eightBytes, byteOf}
-use Rattle.writer.proofs.BitsLaws.{
-  spelt-same,
-  spelt-add,
-  spelt-lt,
-  length-bits,
-  bits-binary,
-  spelt-bits,
-}
+use Rattle.writer.proofs.BitsLaws.{spelt-bits}
 
 abbrev bitOf : List ℕ → ℕ → ℕ
 bitOf bits i = getD bits i 0
 
 -- ---- shifts to the left
-
--- What goes over the top is lost.
-shl-mod : (p k w n : ℕ) → k + w ≡ n → p * 2 ^ w % 2 ^ n ≡ p % 2 ^ k * 2 ^ w
-shl-mod p k w n e =
-    let zeros : p * 2 ^ w % 2 ^ w ≡ 0 = rw add-zero at (low p w (pow-pos w)) in
-    rw (← e) (mod-pow-add (p * 2 ^ w) k w ∙ rw (shl-shr p w, zeros) (add-zero (p % 2 ^ k * 2 ^ w)))
 
 module _ (p w v : ℕ) (h : v < 2 ^ w) where
   pub shl-add-lt : w ≤ 64 → p * 2 ^ w % 2 ^ 64 + v < 2 ^ 64
@@ -126,12 +114,6 @@ shift-more v k h =
 
 -- ---- bits, and bytes of them
 
-append-binary : (xs ys : List ℕ) → ((i : ℕ) → getD xs i 0 < 2) → ((i : ℕ) → getD ys i 0 < 2) → (i : ℕ) →
-    getD (xs ++ ys) i 0 < 2
-append-binary [] ys h k i = k i
-append-binary (x ∷ xs) ys h k zero = h zero
-append-binary (x ∷ xs) ys h k (suc i) = append-binary xs ys (λ j. h (suc j)) k i
-
 byte-append : (bits more : List ℕ) (n : ℕ) → 8 * n + 8 ≤ length bits → byteOf (bits ++ more) n ≡ byteOf bits n
 byte-append bits more n h =
     spelt-same (bitOf (bits ++ more)) (bitOf bits) (8 * n) (8 * n) 8
@@ -194,8 +176,8 @@ module _ (bits : List ℕ) (w : BitWriter) (bytes : List ℕ) (h : Writes bits w
       })
       bytes
   writes-push width v k l = record {
-    binary = append-binary bits (bitsOf width v) (h .binary) (bits-binary width v);
-    total = simp (length-append, length-bits) (omega (arith, h .total));
+    binary = bits-append bits (bitsOf width v) (h .binary) (bitsOf-bits width v);
+    total = simp (length-append, length-bitsOf) (omega (arith, h .total));
     waiting = shl-add-mod (w .pending) width v k (w .count) l ∙ spelt-pushed width v k;
     front = λ n m. h .front n m ∙ sym (byte-append bits (bitsOf width v) n (omega (arith, h .total)));
   }
@@ -267,7 +249,7 @@ pub writes-end : (bits : List ℕ) (n : ℕ) (w : BitWriter) (bytes : List ℕ) 
 writes-end bits n w bytes h k e l size =
     let count = (length bits + 7) / 8 in
     let all : length bits + n ≡ 8 * w .stored + w .count =
-    sym (length-append bits (bitsOf n 0) ∙ rw (length-bits n 0)) ∙ h .total in
+    sym (length-append bits (bitsOf n 0) ∙ rw (length-bitsOf n 0)) ∙ h .total in
     ext-getD 0 bytes (bytesOf bits) (size ∙ sym (length-bytesOf bits))
     λ i m.
     h .front i (omega arith)

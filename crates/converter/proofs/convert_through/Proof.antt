@@ -38,8 +38,9 @@ slice-aggregate-write-items c =
 
 slice-aggregate-write-items-2 : tie.Need-slice-aggregate-write-items-2
 slice-aggregate-write-items-2 c =
-    let c13 = c .before .before .before .before .before .before .before .before .before .before .before .before .before in
-    sym (length-take-le (length (c13 .args .book .now)) (c13 .args .out .now) (c .before .before .if1 .left))
+    let c2 = c .before .before in
+    let c13 = c2 .before .before .before .before .before .before .before .before .before .before .before in
+    sym (length-take-le (length (c13 .args .book .now)) (c13 .args .out .now) (c2 .if1 .left))
 
 write-items-requires : tie.Need-write-items-requires
 write-items-requires c κs =

@@ -22,9 +22,9 @@ loop-holds c = (omega arith, omega (arith, c .before .fits), refl)
 
 slice-write-bytes : tie.Need-slice-write-bytes Inv-loop μ-loop
 slice-write-bytes c =
-    let c4 = c .before .before .before .before in
-    let v = c .before .before .loop .inv in
-    rw (v .2, length-sets (c4 .args .bytes .now) (c4 .args .i) (take (c .before .before .loop .k) (eightBytes (c4 .args .value)))) (omega arith)
+    let loop = c .before .before .loop in
+    let a = c .before .before .before .before .args in
+    rw (loop .inv .2, length-sets (a .bytes .now) (a .i) (take (loop .k) (eightBytes (a .value)))) (omega arith)
 
 loop-again : tie.Need-loop-again Inv-loop μ-loop
 loop-again c =
@@ -40,8 +40,9 @@ loop-again c =
 
 same-length : tie.Need-same-length Inv-loop μ-loop
 same-length c =
-    let c3 = c .before .before .before in
-    rw (c .before .loop .inv .2) (length-sets (c3 .args .bytes .now) (c3 .args .i) (take (c .before .loop .k) (eightBytes (c3 .args .value))))
+    let loop = c .before .loop in
+    let a = c .before .before .before .args in
+    rw (loop .inv .2) (length-sets (a .bytes .now) (a .i) (take (loop .k) (eightBytes (a .value))))
 
 returns : tie.Need-returns Inv-loop μ-loop
 returns c =

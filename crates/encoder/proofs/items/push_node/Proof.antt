@@ -2,7 +2,6 @@
 use native.Mathlib.Omega.{arith}
 use Prim.Native.Nat.{ℕ}
 use mathlib.Core.Path.{ap, _∙_}
-use lib.ListN.{getD}
 use Rattle.format.specs.Packing.{bitsOf}
 use Rattle.encoder.proofs.ItemBits.{node-more}
 use borrow.Author.Needs.{needs}

@@ -1,7 +1,7 @@
 -- The loop keeps: the bits of the items before word `i` are written, and `i` is a symbol's first word.
 use borrow.Author.Needs.{needs}
 use native.Mathlib.Omega.{arith}
-use Prim.Native.Nat.{ℕ, _+_, _-_, _*_, _%_, _≤_, _<_}
+use Prim.Native.Nat.{ℕ, _+_, _-_, _%_, _≤_, _<_}
 use mathlib.Core.List.{List}
 use mathlib.Core.Path.{_≡_, refl, _∙_}
 use lib.ListN.{length}
@@ -65,7 +65,8 @@ push-pair-requires-3 : tie.Need-push-pair-requires-3 Inv-loop μ-loop
 push-pair-requires-3 c κs =
     let c10 = c .before .before .before .before .before .before .before .before .before .before in
     let v = c .before .loop .inv in
-    let more : c .before .loop .i + 4 ≤ c10 .args .nodes = omega (arith, c10 .pre .0 .0 .1, v .0, c .loop-test .taken) in
+    let more : c .before .loop .i + 4 ≤ c10 .args .nodes =
+    omega (arith, c10 .pre .0 .0 .1, v .0, c .loop-test .taken) in
     (omega (arith, more, c10 .pre .0 .1), omega arith, omega arith, omega (arith, v .4))
 
 push-pair-requires-4 : tie.Need-push-pair-requires-4 Inv-loop μ-loop
@@ -92,7 +93,14 @@ flush-requires-2 c κs =
     let h = c .before .push-pair4 .ensures .1 n (omega (arith, more)) (wide .2) (wide .3) _
     (c2 .push-pair3 .ensures .1 n (omega (arith, more)) (wide .0) (wide .1) _ (v .5)) in (
       omega (arith, v .4, c2 .push-pair3 .ensures .0, c .before .push-pair4 .ensures .0),
-      omega (arith, h .total, bits-mono l n (i + 2 + 2) n (omega (arith, more)), c13 .pre .1, v .3, c7 .flush .kept .1 .0),
+      omega (
+        arith,
+        h .total,
+        bits-mono l n (i + 2 + 2) n (omega (arith, more)),
+        c13 .pre .1,
+        v .3,
+        c7 .flush .kept .1 .0,
+      ),
     )
 
 add-i : tie.Need-add-i Inv-loop μ-loop

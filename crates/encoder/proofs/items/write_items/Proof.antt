@@ -1,7 +1,7 @@
 -- The loop keeps: the bits of the items before word `i` are written; what waits is stored at the end.
 use borrow.Author.Needs.{needs}
 use native.Mathlib.Omega.{arith}
-use Prim.Native.Nat.{ℕ, _+_, _-_, _≤_, _<_}
+use Prim.Native.Nat.{_+_, _-_, _≤_, _<_}
 use mathlib.Core.Path.{_≡_, refl, _∙_}
 use lib.ListN.{length}
 use Rattle.writer.specs.Writer.{Writes}
@@ -47,7 +47,8 @@ flush-requires c κs =
     let i = c4 .loop .i in
     let l = c11 .args .words .now in
     let n = c11 .args .nodes in
-    let h = c .before .push-three2 .ensures .1 n (omega (arith, v .0)) _ (c2 .push-three .ensures .1 n (v .0) _ (v .4)) in
+    let h = c .before .push-three2 .ensures .1 n (omega (arith, v .0)) _
+    (c2 .push-three .ensures .1 n (v .0) _ (v .4)) in
     let room = bits-mono l n (i + 3 + 3) (length l) (omega (arith, c2 .before .loop-test .taken)) in (
       omega (arith, v .3, c2 .push-three .ensures .0, c .before .push-three2 .ensures .0),
       omega (arith, h .total, room, c11 .pre .1, v .2, c7 .write-fields .kept .1 .1 .0),

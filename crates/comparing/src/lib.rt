@@ -45,7 +45,8 @@ fn compare_read(table: &[u16], left: &[u16], right: &[u16]) -> Comparison
 {
     let mut left_sums = [0u64; SUMS];
     let mut right_sums = [0u64; SUMS];
-    let adds = measures::nodes::node_sums(table);
+    let mut adds = [0u64; measures::NODE_SUMS];
+    measures::nodes::put_node_sums(table, &mut adds);
     let s = sum_up(table, &adds, left, &mut left_sums);
     let t = sum_up(table, &adds, right, &mut right_sums);
     Comparison {

@@ -22,7 +22,8 @@ fn oftener_read(table: &[u16], left: &[u16], right: &[u16]) -> usize
         (termOf (signatureOf (now (table .entry))) (now (right .entry)))
         ⌝ }
 {
-    let adds = measures::nodes::node_sums(table);
+    let mut adds = [0u64; measures::NODE_SUMS];
+    measures::nodes::put_node_sums(table, &mut adds);
     let s = total(table, &adds, left);
     let t = total(table, &adds, right);
     measures::totals::first_oftener(s, t)

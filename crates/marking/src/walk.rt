@@ -117,7 +117,8 @@ fn mark_under(
         ⌝ }
 {
     let arities = symbols::arities(table);
-    let adds = measures::nodes::node_sums(table);
+    let mut adds = [0u64; measures::NODE_SUMS];
+    measures::nodes::put_node_sums(table, &mut adds);
     match mark_rules(book, table, &arities, &adds, marks, margins, count, at) {
         Answer::Fault { code, offset } => FileMarked::Fault { code, offset },
         Answer::Got { value, next } => {

@@ -3,7 +3,7 @@ use crate::NODE_SUMS;
 use crate::digits::occurrence;
 ghost use mathlib.Core.Path.{_≡_};
 ghost use Prim.Native.Nat.{_≤_};
-ghost use lib.ListN.{length};
+ghost use lib.ListN.{length, replicate};
 ghost use Rattle.symbols.specs.Table.{signatureOf, maxTableWords};
 ghost use Rattle.measures.specs.Nodes.{NodeSums, Weighed, Occurring};
 
@@ -40,13 +40,12 @@ fn put_variables(table: &[u16], adds: &mut [u64; NODE_SUMS])
     }
 }
 
-// What each node word adds to the sums.
-pub fn node_sums(table: &[u16]) -> [u64; NODE_SUMS]
-    requires { ⌜ length (now table) ≤ maxTableWords ⌝ }
-    ensures { λ r. ⌜ NodeSums (signatureOf (now (table .entry))) r ⌝ }
+// Stores what each node word adds to the sums, where nothing is stored yet. They are lent, since as an answer they would
+// be copied.
+pub fn put_node_sums(table: &[u16], adds: &mut [u64; NODE_SUMS])
+    requires { ⌜ (length (now table) ≤ maxTableWords) × (now adds ≡ replicate 816 0) ⌝ }
+    ensures { λ _. ⌜ NodeSums (signatureOf (now (table .entry))) (now (adds .exit)) ⌝ }
 {
-    let mut adds = [0u64; NODE_SUMS];
-    put_weights(table, &mut adds, symbols::count(table));
-    put_variables(table, &mut adds);
-    adds
+    put_weights(table, adds, symbols::count(table));
+    put_variables(table, adds);
 }

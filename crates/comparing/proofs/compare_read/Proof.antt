@@ -10,32 +10,33 @@ use Rattle.comparing.proofs.compare_read.Tie as tie
 
 sum-up-requires : tie.Need-sum-up-requires
 sum-up-requires c κs =
-    let c6 = c .before .before .before .before .before .before in
-    (c .before .before .node-sums .ensures, c6 .pre .1 .0, refl)
+    let c2 = c .before .before in
+    let c7 = c2 .before .before .before .before .before in
+    (c2 .put-node-sums .ensures, c7 .pre .1 .0, refl)
 
 sum-up-requires-2 : tie.Need-sum-up-requires-2
 sum-up-requires-2 c κs =
     let c5 = c .before .before .before .before .before in
-    let c9 = c5 .before .before .before .before in
-    (c5 .node-sums .ensures, c9 .pre .1 .1, refl)
+    let c10 = c5 .before .before .before .before .before in
+    (c5 .put-node-sums .ensures, c10 .pre .1 .1, refl)
 
 relation-requires : tie.Need-relation-requires
 relation-requires c κs =
     let c3 = c .before .before .before in
     let c6 = c3 .before .before .before in
     let c9 = c6 .before .before .before in
-    let c13 = c9 .before .before .before .before in
-    let ((small, admissible), (left, right)) = c13 .pre in
+    let c14 = c9 .before .before .before .before .before in
+    let ((small, admissible), (left, right)) = c14 .pre in
     let (S, A) = c6 .sum-up .ensures in
     let (T, B) = c3 .sum-up2 .ensures in
-    (whole-terms small admissible left right, ((A, B, c9 .node-sums .ensures), (S, T)))
+    (whole-terms small admissible left right, ((A, B, c9 .put-node-sums .ensures), (S, T)))
 
 returns : tie.Need-returns
 returns c =
     let c5 = c .before .before .before .before .before in
     let c8 = c5 .before .before .before in
-    let c15 = c8 .before .before .before .before .before .before .before in
-    let a = c15 .args in
+    let c16 = c8 .before .before .before .before .before .before .before .before in
+    let a = c16 .args in
     let margin = c .margin .ensures (signatureOf (a .table .now)) (a .left .now) (a .right .now)
     (c8 .sum-up .ensures .1)
     (c5 .sum-up2 .ensures .1) in

@@ -18,26 +18,18 @@ use Rattle.marking.proofs.walk.mark_under.Tie as tie
 mark-rules-requires : tie.Need-mark-rules-requires
 mark-rules-requires c κs =
     let c4 = c .before .before .before .before in
-    let c5 = c4 .before in
-    let c9 = c5 .before .before .before .before in (
-      c9 .pre .0,
-      (
-        (c9 .pre .1 .0, c5 .arities .ensures, c4 .node-sums .ensures),
-        (
-          omega (arith, c9 .pre .1),
-          c9 .pre
-              .1 .1,
-        ),
-      ),
-    )
+    let c6 = c4 .before .before in
+    let c10 = c6 .before .before .before .before in
+    let (book, table) = c10 .pre in
+    (book, ((table .0, c6 .arities .ensures, c4 .put-node-sums .ensures), (omega (arith, table), table .1)))
 
 returns : tie.Need-returns
 unfolding sourceOf
 returns c =
     let c3 = c .before .before .before in
     let c8 = c3 .before .before .before .before .before in
-    let c18 = c8 .before .before .before .before .before .before .before .before .before .before in
-    let a = c18 .args in
+    let c19 = c8 .before .before .before .before .before .before .before .before .before .before .before in
+    let a = c19 .args in
     let σ = signatureOf (a .table .now) in
     let read = rw (c3 .value .given .1) at (c8 .mark-rules .ensures .0) in
     let within = rw (c3 .value .given .1) at (c8 .mark-rules .ensures .1) in
@@ -47,15 +39,15 @@ returns c =
       _,
       rest-ended formNumber true (a .book .now) [] σ (a .count) (a .at) (read .0) _ (read .1)
           (c3 .value .given .0 .1 .0) (rw (sym (c .before .is-padding .ensures) ∙ c .if1 .taken)),
-      marked-as σ (read .0) (a .count) _ _ _ _ _ long (c18 .pre .1 .1) (within .0) (read .2),
+      marked-as σ (read .0) (a .count) _ _ _ _ _ long (c19 .pre .1 .1) (within .0) (read .2),
     )
 
 returns-2 : tie.Need-returns-2
 unfolding sourceOf
 returns-2 c =
     let c6 = c .before .before .before .before .before .before in
-    let c16 = c6 .before .before .before .before .before .before .before .before .before .before in
-    let a = c16 .args in
+    let c17 = c6 .before .before .before .before .before .before .before .before .before .before .before in
+    let a = c17 .args in
     rest-unread formNumber true (a .book .now) [] (signatureOf (a .table .now)) (a .count) (a .at) _ _
     (rw (c .before .offset .given .1) at (c6 .mark-rules .ensures .0))
 
@@ -64,8 +56,8 @@ unfolding sourceOf
 returns-3 c =
     let c3 = c .before .before .before in
     let c8 = c3 .before .before .before .before .before in
-    let c18 = c8 .before .before .before .before .before .before .before .before .before .before in
-    let a = c18 .args in
+    let c19 = c8 .before .before .before .before .before .before .before .before .before .before .before in
+    let a = c19 .args in
     let read = rw (c3 .value .given .1) at (c8 .mark-rules .ensures .0) in
     rest-unended formNumber true (a .book .now) [] (signatureOf (a .table .now)) (a .count) (a .at) (read .0) _
     (read .1) _ _

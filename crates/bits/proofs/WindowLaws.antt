@@ -8,11 +8,11 @@ use Prim.Native.Nat.{ℕ, _+_, _-_, _*_, _/_, _%_, _^_, _≤_, _<_}
 use native.Mathlib.Nat.{mod-lt}
 use native.Mathlib.Omega.{arith}
 use lib.ListN.{length, getD}
-use lib.Pow.{high, low, field, shl-shr, shr-shr, pow-pos}
+use lib.Pow.{high, low, shl-shr, shr-shr, pow-pos}
 use Rattle.format.specs.Reading.{Node, spelt, bitAt, bitSource}
 use Rattle.format.specs.Reading.Reading.{got}
 use Rattle.format.proofs.CodingLaws.{bit-lt, spelt-lt, spelt-add}
-use Rattle.format.proofs.PackingLaws.{shl-mod, byte-spelt}
+use Rattle.format.proofs.PackingLaws.{shl-mod, shl-field, byte-spelt}
 use Rattle.bits.specs.declared.Window.{Window}
 use Rattle.bits.specs.Cursor.{four, Ahead}
 use Rattle.bits.proofs.NodeLaws.{width-by-tag, node-next}
@@ -99,14 +99,11 @@ module _ (bytes : List ℕ) where
         let e : m + q + width ≡ 64 = omega (arith, h .most) in
         let f : 64 - m ≡ width + q = omega (arith, h .most) in
         let g : width + m ≡ c = omega arith in
-        let x = w .bits % 2 ^ (m + q) in
         record {
           most = omega (arith, h .most);
           within = omega (arith, h .within);
           same = ap (λ (n : ℕ). w .bits * 2 ^ width % 2 ^ 64 / 2 ^ n) f
-              ∙ ap (λ (n : ℕ). n / 2 ^ (width + q)) (shl-mod (w .bits) (m + q) width 64 e)
-              ∙ sym (shr-shr (x * 2 ^ width) width q) ∙ ap (λ (n : ℕ). n / 2 ^ q) (shl-shr x width)
-              ∙ field (w .bits) m q
+              ∙ shl-field (w .bits) m q width 64 e
               ∙ ap (λ (n : ℕ). n % 2 ^ m) (h .same ∙ ap (spelt bit at) (sym g) ∙ spelt-add bit at width m)
               ∙ low (spelt bit at width) m (lt (at + width) m);
         }

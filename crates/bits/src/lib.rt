@@ -12,6 +12,9 @@ ghost use Rattle.bits.specs.Cursor.{nodeReading, nodeWords, nodeWidth, n
 use answers::Answer;
 use format::FIELD_MISSING;
 
+// How many numbers of four bytes there are.
+const FOUR_BYTES: u64 = 0x1_0000_0000;
+
 // An offset in bits.
 pub struct BitCursor {
     pub at: usize,
@@ -112,7 +115,7 @@ impl Window {
         if book.len() < index + 8 {
             return self;
         }
-        let eight = four_at(book, index) * 4294967296 + four_at(book, index + 4);
+        let eight = four_at(book, index) * FOUR_BYTES + four_at(book, index + 4);
         Window {
             bits: eight << (at % 8),
             count: 64 - at % 8,

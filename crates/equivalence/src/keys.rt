@@ -12,18 +12,33 @@ ghost use Rattle.equivalence.specs.Parts.{Complete};
 ghost use Rattle.equivalence.specs.Keys.{middleSquare, mixed, added as addedTo, Prepared, sizeIn};
 ghost use Rattle.equivalence.specs.Keys.{offsetAfter, hashAfter};
 
+// How many hashes there are, and numbers that part them: the square's last bits that are left out, what spreads the
+// words, and what an argument of a row counts more than the next.
+const HASHES: u64 = 0x1_0000_0000;
+
+const LEFT_OUT: u64 = 0x1_0000;
+
+const SPREAD: u64 = 2654435769;
+
+const ROW: u64 = 31;
+
+// A key: the size, which is below the first of these, the root's word times it, and the hash times the second.
+const SIZES: u64 = 0x100;
+
+const SIZES_AND_WORDS: u64 = 0x100_0000;
+
 fn middle_square(x: u64) -> u64
     requires { ⌜ x < 4294967296 ⌝ }
     ensures { λ r. ⌜ (r ≡ middleSquare x) × (r < 4294967296) ⌝ }
 {
-    x * x / 65536 % 4294967296
+    x * x / LEFT_OUT % HASHES
 }
 
 fn mix(word: u16, hash: u64) -> u64
     requires { ⌜ hash < 1099511627776 ⌝ }
     ensures { λ r. ⌜ (r ≡ mixed word hash) × (r < 4294967296) ⌝ }
 {
-    middle_square((hash + (long(word) + 1) * 2654435769) % 4294967296)
+    middle_square((hash + (long(word) + 1) * SPREAD) % HASHES)
 }
 
 // What an argument of f with that root and hash adds to what stands before it.
@@ -33,11 +48,11 @@ fn added(ac: bool, f: u16, before: u64, word: u16, hash: u64) -> u64
 {
     if ac {
         if word == f {
-            return (before + hash) % 4294967296;
+            return (before + hash) % HASHES;
         }
-        return (before + mix(word, hash)) % 4294967296;
+        return (before + mix(word, hash)) % HASHES;
     }
-    (31 * before + mix(word, hash)) % 4294967296
+    (ROW * before + mix(word, hash)) % HASHES
 }
 
 // The key at an offset, and 0 past the end.
@@ -53,7 +68,7 @@ pub fn size_at(keys: &[u64; MAX_NODES], i: usize) -> usize
     requires { ⌜ i < 128 ⌝ }
     ensures { λ r. ⌜ (r ≡ sizeIn (now (keys .entry)) i) × (r < 256) ⌝ }
 {
-    (keys[i] % 256) as usize
+    (keys[i] % SIZES) as usize
 }
 
 struct Gathered {
@@ -74,8 +89,8 @@ fn gather(ac: bool, f: u16, words: &[u16], keys: &[u64; MAX_NODES], i: usize, n:
     let mut hash = 0u64;
     while left > 0 {
         let key = key_at(keys, at);
-        hash = added(ac, f, hash, word_at(words, at), key / 16777216);
-        at += (key % 256) as usize;
+        hash = added(ac, f, hash, word_at(words, at), key / SIZES_AND_WORDS);
+        at += (key % SIZES) as usize;
         left -= 1;
     }
     Gathered { end: at, hash }
@@ -101,6 +116,6 @@ pub fn prepare(table: &[u16], words: &[u16], keys: &mut [u64; MAX_NODES])
         );
         let end = gathered.end;
         let hash = gathered.hash;
-        keys[i] = 16777216 * hash + 256 * long(word) + (end - i) as u64;
+        keys[i] = SIZES_AND_WORDS * hash + SIZES * long(word) + (end - i) as u64;
     }
 }

@@ -3,7 +3,7 @@
 --     bitAt-bytesOf       the bits of packed bits
 --     bytesOf-bitAt       bytes that hold the bits, and no others, are the packed bits
 --     Padded              fewer than eight bits are left, and they are zeros: padded-zero, zero-padded
---     one-shl, shl-mod    a power of 2, and a number, as code shifts them
+--     one-shl, shl-mod, shl-field    a power of 2, and a number, as code shifts them
 --     bits-append, bitsOf-bits, getD-bytesFrom, byte-spelt   lists of bits and bytes by index
 use mathlib.Core.Path.{_≡_, refl, sym, ap, _∙_}
 use mathlib.Core.List.{List, [], _∷_, _++_, flatMap}
@@ -11,7 +11,7 @@ use Prim.Native.Nat.{ℕ, suc, zero, _+_, _-_, _*_, _/_, _%_, _^_, _≤_, _<_}
 use native.Mathlib.Nat.{mod-lt, add-zero, zero-add, zero-div, zero-mod, mod-eq-of-lt}
 use native.Mathlib.Omega.{arith}
 use lib.ListN.{length, getD, List·getD-eq-default}
-use lib.Pow.{pow-pos, pow-lt, low, mod-pow-add, shl-shr}
+use lib.Pow.{pow-pos, pow-lt, low, mod-pow-add, shl-shr, shr-shr}
 use lib.Seq.{ext-getD}
 use lib.Dec.{ltb, lit<}
 use Rattle.multisets.proofs.Relations.{byTest, byOrder}
@@ -32,6 +32,13 @@ pub shl-mod : (p k w n : ℕ) → k + w ≡ n → p * 2 ^ w % 2 ^ n ≡ p % 2 ^ 
 shl-mod p k w n e =
     let zeros : p * 2 ^ w % 2 ^ w ≡ 0 = rw add-zero at (low p w (pow-pos w)) in
     rw (← e) (mod-pow-add (p * 2 ^ w) k w ∙ rw (shl-shr p w, zeros) (add-zero (p % 2 ^ k * 2 ^ w)))
+
+-- Shifted left in n bits and then right by more, a number has j digits, those from digit r on.
+pub shl-field : (p j r s n : ℕ) → j + r + s ≡ n → p * 2 ^ s % 2 ^ n / 2 ^ (s + r) ≡ p / 2 ^ r % 2 ^ j
+shl-field p j r s n e =
+    let x = p % 2 ^ (j + r) in
+    ap (λ (m : ℕ). m / 2 ^ (s + r)) (shl-mod p (j + r) s n e) ∙ sym (shr-shr (x * 2 ^ s) s r)
+    ∙ ap (λ (m : ℕ). m / 2 ^ r) (shl-shr x s) ∙ lib.Pow.field p j r
 
 -- ---- lists of bits
 

@@ -19,6 +19,10 @@ module _ (v w : ℕ → ℕ) where
   nodes [] = 0
   nodes (u ∷ us) = node u + nodes us
 
+-- How many numbers are stored for the node words, three for each.
+abbrev pub nodeSumsLength : ℕ
+nodeSumsLength = 816
+
 -- Three numbers stored for an index.
 abbrev pub triple : List ℕ → ℕ → ℕ → ℕ → ℕ → List ℕ
 triple cells n a b c = set (set (set cells (3 * n) a) (3 * n + 1) b) (3 * n + 2) c
@@ -27,7 +31,7 @@ triple cells n a b c = set (set (set cells (3 * n) a) (3 * n + 1) b) (3 * n + 2)
 -- 256 to the power of 7.
 pub record SmallSums (adds : List ℕ) : Type 0 where
   pub weight : (word : ℕ) → word < 272 → getD adds (3 * word) 0 < 65536
-  pub place : (j : ℕ) → j < 816 → getD adds j 0 ≤ 72057594037927936
+  pub place : (j : ℕ) → j < nodeSumsLength → getD adds j 0 ≤ 72057594037927936
 
 module _ (σ : Signature) where
   -- What is summed up: weights, the occurrences of the variables 0 to 7, those of the variables 8 to 15.

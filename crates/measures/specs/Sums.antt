@@ -8,9 +8,13 @@ use Rattle.symbols.specs.Table.{signatureOf}
 use Rattle.equivalence.specs.Keys.{BothPrepared}
 use Rattle.measures.specs.Nodes.{wordSum}
 
+-- How many numbers are stored for the offsets in a term and the one past it, three for each.
+abbrev pub sumsLength : ℕ
+sumsLength = 387
+
 -- sums has for each offset, as three numbers, the sums over all words from there on.
 pub record SummedUp (σ : Signature) (ws sums : List ℕ) : Type 0 where
-  pub room : length sums ≡ 387
+  pub room : length sums ≡ sumsLength
   pub sum : (kind k : ℕ) → kind < 3 → k ≤ length ws → getD sums (3 * k + kind) 0 ≡ wordSum σ kind (drop k ws)
 
 -- What both sides of a comparison by the order are: prepared, with their sums.

@@ -5,14 +5,14 @@ ghost use mathlib.Core.Path.{_≡_};
 ghost use Prim.Native.Nat.{_≤_};
 ghost use lib.ListN.{length, replicate};
 ghost use Rattle.symbols.specs.Table.{signatureOf, maxTableWords};
-ghost use Rattle.measures.specs.Nodes.{NodeSums, Weighed, Occurring};
+ghost use Rattle.measures.specs.Nodes.{nodeSumsLength, NodeSums, Weighed, Occurring};
 
 // Stores the weights of that many symbols.
 fn put_weights(table: &[u16], adds: &mut [u64; NODE_SUMS], count: usize)
-    requires { ⌜ (count ≤ 256) × (length (now adds) ≡ 816) ⌝ }
+    requires { ⌜ (count ≤ 256) × (length (now adds) ≡ nodeSumsLength) ⌝ }
     ensures { λ _. ⌜
         Weighed (signatureOf (now (table .entry))) count (now (adds .entry)) (now (adds .exit))
-        × (length (now (adds .exit)) ≡ 816)
+        × (length (now (adds .exit)) ≡ nodeSumsLength)
         ⌝ }
 {
     let mut i = 0;
@@ -24,10 +24,10 @@ fn put_weights(table: &[u16], adds: &mut [u64; NODE_SUMS], count: usize)
 
 // Stores what the variables add.
 fn put_variables(table: &[u16], adds: &mut [u64; NODE_SUMS])
-    requires { ⌜ length (now adds) ≡ 816 ⌝ }
+    requires { ⌜ length (now adds) ≡ nodeSumsLength ⌝ }
     ensures { λ _. ⌜
         Occurring (signatureOf (now (table .entry))) 272 (now (adds .entry)) (now (adds .exit))
-        × (length (now (adds .exit)) ≡ 816)
+        × (length (now (adds .exit)) ≡ nodeSumsLength)
         ⌝ }
 {
     let own = symbols::variable_weight(table);
@@ -43,7 +43,7 @@ fn put_variables(table: &[u16], adds: &mut [u64; NODE_SUMS])
 // Stores what each node word adds to the sums, where nothing is stored yet. They are lent, since as an answer they would
 // be copied.
 pub fn put_node_sums(table: &[u16], adds: &mut [u64; NODE_SUMS])
-    requires { ⌜ (length (now table) ≤ maxTableWords) × (now adds ≡ replicate 816 0) ⌝ }
+    requires { ⌜ (length (now table) ≤ maxTableWords) × (now adds ≡ replicate nodeSumsLength 0) ⌝ }
     ensures { λ _. ⌜ NodeSums (signatureOf (now (table .entry))) (now (adds .exit)) ⌝ }
 {
     put_weights(table, adds, symbols::count(table));

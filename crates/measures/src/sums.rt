@@ -14,7 +14,7 @@ ghost use Rattle.equivalence.specs.Parts.{partAt};
 ghost use Rattle.equivalence.specs.Keys.{Prepared};
 ghost use Rattle.measures.specs.Nodes.{NodeSums, triple};
 ghost use Rattle.measures.specs.Totals.{Counted, Totalled};
-ghost use Rattle.measures.specs.Sums.{SummedUp};
+ghost use Rattle.measures.specs.Sums.{sumsLength, SummedUp};
 
 // Stores the sums for an offset.
 fn put_sums(sums: &mut [u64; SUMS], i: usize, here: Totals)
@@ -35,7 +35,7 @@ pub fn sum_up(
 ) -> Totals
     requires { ⌜
         NodeSums (signatureOf (now table)) (now adds) × IsTerm (signatureOf (now table)) (now words)
-        × (length (now sums) ≡ 387)
+        × (length (now sums) ≡ sumsLength)
         ⌝ }
     ensures { λ r. ⌜ SummedUp (signatureOf (now (table .entry))) (now (words .entry)) (now (sums .exit)) ⌝ }
     ensures { λ r. ⌜ Totalled (signatureOf (now (table .entry))) (now (words .entry)) r ⌝ }

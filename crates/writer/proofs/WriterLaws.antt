@@ -12,14 +12,14 @@ use native.Mathlib.Numerals.{add-one}
 use native.Mathlib.Omega.{arith}
 use lib.ListN.{length, getD, set, take, length-set, length-append, List·getD-append}
 use lib.Seq.{sets, length-take-le, take-suc, getD-take, getD-append-add, getD-set-same, getD-set-other, ext-getD}
-use lib.Pow.{high, low, field, mod-pow-add, mod-mod-pow, pow-pos, pow-add, shl-shr, shr-shr}
+use lib.Pow.{high, low, field, mod-pow-add, mod-mod-pow, pow-pos, pow-add}
 use lib.Arith.{digits-lt}
 use Rattle.multisets.proofs.ListLaws.{sets-append}
 use Rattle.multisets.proofs.Relations.{byOrder}
 use Rattle.format.specs.Reading.{spelt}
 use Rattle.format.specs.Packing.{bitsOf, bytesOf}
 use Rattle.format.proofs.CodingLaws.{spelt-same, spelt-add, spelt-lt, length-bitsOf}
-use Rattle.format.proofs.PackingLaws.{shl-mod, bits-append, bitsOf-bits, getD-bytesFrom, length-bytesOf}
+use Rattle.format.proofs.PackingLaws.{shl-mod, shl-field, bits-append, bitsOf-bits, getD-bytesFrom, length-bytesOf}
 use Rattle.writer.specs.declared.BitWriter.{BitWriter}
 use Rattle.writer.specs.Writer.{Writes, byteBefore, eightBytes, byteOf}
 use Rattle.writer.proofs.BitsLaws.{spelt-bits}
@@ -81,10 +81,7 @@ byte-shifted v k h =
     let r = 56 - s in
     let e : 8 + r + s ≡ 64 = omega arith in
     let f : 56 ≡ s + r = omega arith in
-    let x = v % 2 ^ (8 + r) in
-    ap (byteBefore 56) (shl-mod v (8 + r) s 64 e)
-    ∙ ap (λ (n : ℕ). byteBefore n (x * 2 ^ s)) f
-    ∙ ap (λ (n : ℕ). n % 256) (sym (shr-shr (x * 2 ^ s) s r) ∙ ap (λ (n : ℕ). n / 2 ^ r) (shl-shr x s) ∙ field v 8 r)
+    ap (λ (n : ℕ). byteBefore n (v * 2 ^ s % 2 ^ 64)) f ∙ ap (λ (n : ℕ). n % 256) (shl-field v 8 r s 64 e)
     ∙ mod-mod (v / 2 ^ r) 256
 
 -- One byte more of the first ones.
@@ -197,13 +194,13 @@ module _ (bits : List ℕ) (w : BitWriter) (bytes : List ℕ) (h : Writes bits w
       let c = w .count in
       let r = c - (8 * j + 8) in
       let s = 64 - c in
-      let x = w .pending % 2 ^ c in
-      let e : c + s ≡ 64 = omega arith in
-      let f : 8 * j + 8 + r ≡ c = omega arith in
+      let m = 8 * j + 8 in
+      let e : m + r + s ≡ 64 = omega arith in
+      let f : m + r ≡ c = omega arith in
       let g : 56 - 8 * j ≡ s + r = omega arith in
-      ap (byteBefore (56 - 8 * j)) (shl-mod (w .pending) c s 64 e)
-      ∙ ap (λ (n : ℕ). byteBefore n (x * 2 ^ s)) g
-      ∙ ap (λ (n : ℕ). n % 256) (sym (shr-shr (x * 2 ^ s) s r) ∙ ap (λ (n : ℕ). n / 2 ^ r) (shl-shr x s))
+      ap (λ (n : ℕ). byteBefore n (w .pending * 2 ^ s % 2 ^ 64)) g
+      ∙ ap (λ (n : ℕ). n % 256) (shl-field (w .pending) m r s 64 e ∙ sym (field (w .pending) m r)
+      ∙ ap (λ (n : ℕ). w .pending % 2 ^ n / 2 ^ r) f)
       ∙ waiting-byte j r f
 
   -- So many bytes more are stored, and m bits go on waiting.

@@ -26,8 +26,8 @@
 
    ackbo_text.h has names and words for refusals and marks, and the limits; docs/MARKS.md says what each means.
 
-   Stack, at most, as measured: ackbo_convert 222 KB and ackbo_decode 118 KB, for every book; ackbo_encode 2 KB,
-   ackbo_fingerprint 8 KB, ackbo_oftener 16 KB; ackbo_compare, ackbo_pick and ackbo_mark 72 KB and ackbo_page 80 KB,
+   Stack, at most, as measured: ackbo_convert 224 KB and ackbo_decode 120 KB, for every book; ackbo_encode 2 KB,
+   ackbo_fingerprint 7 KB, ackbo_oftener 12 KB; ackbo_compare, ackbo_pick and ackbo_mark 72 KB and ackbo_page 81 KB,
    where AC symbols nest 63 deep. */
 #ifndef ACKBO_H
 #define ACKBO_H

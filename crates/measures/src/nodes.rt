@@ -40,8 +40,8 @@ fn put_variables(table: &[u16], adds: &mut [u64; NODE_SUMS])
     }
 }
 
-// Stores what each node word adds to the sums, where nothing is stored yet. They are lent, since as an answer they would
-// be copied.
+// Stores what each node word adds to the sums, where nothing is stored yet. They are lent, since as an answer they
+// would be copied.
 pub fn put_node_sums(table: &[u16], adds: &mut [u64; NODE_SUMS])
     requires { ⌜ (length (now table) ≤ maxTableWords) × (now adds ≡ replicate nodeSumsLength 0) ⌝ }
     ensures { λ _. ⌜ NodeSums (signatureOf (now (table .entry))) (now (adds .exit)) ⌝ }

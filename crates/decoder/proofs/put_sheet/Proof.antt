@@ -39,4 +39,6 @@ returns c =
     (c .before .before .put-words2 .ensures .0 (omega (arith, count, c13 .pre .2, c7 .put-words .kept .0)))
 
 pub put-sheet-spec : {M : Type 1} → statement M
-put-sheet-spec = tie.close (tie.spec slice-aggregate-put-words put-words-requires slice-aggregate-put-words-2 put-words-requires-2 (λ c. search needs) returns)
+put-sheet-spec =
+    tie.close (tie.spec slice-aggregate-put-words put-words-requires slice-aggregate-put-words-2 put-words-requires-2
+    (λ c. search needs) returns)

@@ -53,4 +53,7 @@ returns-3 c =
     (omega arith) (c .before .before .put-sheet .ensures)
 
 pub unpack-through-spec : {M : Type 1} → statement M
-unpack-through-spec = tie.close (tie.spec (λ c. search needs) (λ c κs. search needs) (λ c. search needs) (λ c. search needs) (λ c. search needs) returns add-total (λ c. search needs) returns-2 (λ c. search needs) put-sheet-requires (λ c. search needs) (λ c. search needs) returns-3)
+unpack-through-spec =
+    tie.close (tie.spec (λ c. search needs) (λ c κs. search needs) (λ c. search needs) (λ c. search needs)
+    (λ c. search needs) returns add-total (λ c. search needs) returns-2 (λ c. search needs) put-sheet-requires
+    (λ c. search needs) (λ c. search needs) returns-3)

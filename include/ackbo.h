@@ -11,8 +11,9 @@
 
    A book is of form 2: within a rule, left side first, a variable's first appearance takes the lowest unused number. A
    book, input 0 but in ackbo_encode, is refused with 1 over 32,768 bytes, 2 a field does not fit, 3 its form is neither
-   1 nor 2, 4 it has no symbol, 5 w0 is 0, 6 an AC symbol's arity is not 2, 7 a weight is inadmissible, 8 an earlier
-   symbol has the rank, 9 a symbol number is too great, 10 a 129th node is called for, 11 more than padding follows the
+   1 nor 2, 4 it has no symbol, 5 w0 is 0, 6 an AC symbol's arity is not 2, 7 a weight is inadmissible (of a symbol of
+   arity 1 that weighs 0 and is not ranked above every other, tested after the last symbol), 8 an earlier symbol has the
+   rank, 9 a symbol number is too great, 10 a 129th node is called for, 11 more than padding follows the
    last rule, 17 its form is 1, which ackbo_convert turns into 2, 18 a variable is out of turn, its number above the
    count of different variables before it in its rule.
 
@@ -91,7 +92,7 @@ uint8_t ackbo_fingerprint(const uint8_t *book, size_t book_len, const uint16_t *
 uint8_t ackbo_oftener(const uint8_t *book, size_t book_len, const uint16_t *left, size_t left_len,
                       const uint16_t *right, size_t right_len, int64_t reply[3]);
 
-/* Marks the rules of a book: writes a mark, 1 to 10, for each. reply: the rules, those that fall, the score: the
+/* Marks the rules of a book: writes a mark, 1 to 11, for each. reply: the rules, those that fall, the score: the
    percentage of rules that fall, rounded to the nearest whole number, an exact half to the even one; 100 without
    rules. All rules fall exactly if the first two are equal: 1,022 of 1,023 score 100 too. */
 uint8_t ackbo_mark(const uint8_t *book, size_t book_len, uint8_t *marks, size_t marks_len, int64_t reply[3]);

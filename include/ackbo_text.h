@@ -18,7 +18,8 @@
     ROW(7, VARIABLE_ADDED, "variable added")           \
     ROW(8, LEFT_LIGHTER, "left lighter")               \
     ROW(9, SIDES_EQUAL, "sides equal")                 \
-    ROW(10, NO_CASE, "no case")
+    ROW(10, NO_CASE, "no case")                        \
+    ROW(11, FALLS_BY_WRAPPING, "falls by wrapping")
 
 /* The refusals. */
 #define ACKBO_REFUSALS(ROW)                                                           \
@@ -28,7 +29,7 @@
     ROW(4, NO_SYMBOLS, "there is no symbol")                                          \
     ROW(5, VARIABLE_WEIGHTLESS, "w0, the weight of a variable, is 0")                 \
     ROW(6, AC_NOT_BINARY, "an AC symbol has an arity other than 2")                   \
-    ROW(7, WEIGHT_INADMISSIBLE, "the weight is too small for the symbol's arity")     \
+    ROW(7, WEIGHT_INADMISSIBLE, "the weight is too small for the arity and the rank") \
     ROW(8, RANK_TAKEN, "an earlier symbol has this rank")                             \
     ROW(9, NO_SUCH_SYMBOL, "no symbol has this number")                               \
     ROW(10, TOO_MANY_NODES, "a 129th node is called for")                             \

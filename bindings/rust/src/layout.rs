@@ -19,7 +19,8 @@
 //! variable's first appearance takes the lowest unused number, so the first one is 256. A term, as
 //! [`compare`](crate::compare) takes it, is the words of its nodes alone, with variables of any numbers.
 //!
-//! A constant weighs at least w0, a symbol of arity 1 at least 1, and an AC symbol has arity 2. `docs/FORMAT.md` in the
+//! A constant weighs at least w0, a symbol of arity 1 at least 1 unless its rank is above every other, and an AC symbol
+//! has arity 2. `docs/FORMAT.md` in the
 //! repository has the bits of a book, and what the fields mean.
 //!
 //! ```

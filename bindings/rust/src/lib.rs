@@ -205,7 +205,7 @@ pub fn compare(book: &[u8], left: &[u16], right: &[u16]) -> Result<Comparison, E
     })
 }
 
-/// Marks the rules of a book: writes a mark, 1 to 10, for each at the front of `marks`.
+/// Marks the rules of a book: writes a mark, 1 to 11, for each at the front of `marks`.
 pub fn mark(book: &[u8], marks: &mut [u8]) -> Result<Marked, Error> {
     call(|reply| unsafe { sys::ackbo_mark(book.as_ptr(), book.len(), marks.as_mut_ptr(), marks.len(), reply) }).map(
         |[rules, falling, score]| Marked { rules: rules as usize, falling: falling as usize, score: score as usize },

@@ -74,6 +74,7 @@ numbered! {
         LeftLighter = 8, "left lighter";
         SidesEqual = 9, "sides equal";
         NoCase = 10, "no case";
+        FallsByWrapping = 11, "falls by wrapping";
     }
 }
 
@@ -94,7 +95,7 @@ numbered! {
         NoSymbols = 4, "there is no symbol";
         VariableWeightless = 5, "w0, the weight of a variable, is 0";
         AcNotBinary = 6, "an AC symbol has an arity other than 2";
-        WeightInadmissible = 7, "the weight is too small for the symbol's arity";
+        WeightInadmissible = 7, "the weight is too small for the arity and the rank";
         RankTaken = 8, "an earlier symbol has this rank";
         NoSuchSymbol = 9, "no symbol has this number";
         TooManyNodes = 10, "a 129th node is called for";

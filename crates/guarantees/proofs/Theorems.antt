@@ -13,7 +13,7 @@ use Rattle.terms.specs.Oftener.{firstOftener}
 use Rattle.terms.specs.Rewriting.{Rule, WellFormedRules, AllDecreasing}
 use Rattle.terms.specs.Steinbach.{SteinbachGreater}
 use Rattle.theory.proofs.Theorems.{greater-irreflexive, greater-transitive, closed-under-contexts, derivations-descend}
-use Rattle.theory.proofs.Theorems.{step-ceiling}
+use Rattle.theory.proofs.Theorems.{steps-decrease, step-ceiling, no-endless-steps}
 use Rattle.theory.proofs.Theorems.{exactly-one-mark, decreasing-marks, test-decides-article}
 use Rattle.theory.proofs.Theorems.{agrees-with-steinbach, test-decides-steinbach}
 use Rattle.format.specs.Reading.{Reading}
@@ -34,7 +34,9 @@ use Rattle.operations.specs.Picking.{picked}
 use Rattle.operations.specs.Hashing.{fingerprintedTerm, fingerprinted}
 use Rattle.operations.specs.Variables.{oftener}
 use Rattle.operations.specs.Converting.{converted}
-use Rattle.guarantees.specs.Guarantees.{Holds, ReadableOrder, FilesDescend, FilesBounded, CountedAll, CountTells}
+use Rattle.guarantees.specs.Guarantees.{Holds, ReadableOrder, StepsFall, FilesDescend, FilesTerminate}
+use Rattle.guarantees.specs.Guarantees.{FilesBounded}
+use Rattle.guarantees.specs.Guarantees.{CountedAll, CountTells}
 use Rattle.guarantees.specs.Guarantees.{Like, LikeComparisonsAgree, LikeFingerprintsAgree, MarksExact}
 use Rattle.guarantees.specs.Guarantees.{FallingCounted}
 use Rattle.guarantees.specs.Guarantees.{LikeVariableTestsAgree}
@@ -100,8 +102,16 @@ pub files-descend : FilesDescend
 files-descend bytes file h a s t d x =
     derivations-descend (systemOf file) (admissible bytes file h) (rules-formed bytes file h) a s t d
 
+pub steps-fall : StepsFall
+steps-fall bytes file h a s t p =
+    steps-decrease (systemOf file) (admissible bytes file h) (rules-formed bytes file h) s t p (a (p .rule) (p .isRule))
+
+pub files-terminate : FilesTerminate
+files-terminate bytes file h = no-endless-steps (systemOf file) (admissible bytes file h) (rules-formed bytes file h)
+
 pub files-bounded : FilesBounded
-files-bounded bytes file h a = step-ceiling (systemOf file) (admissible bytes file h) (rules-formed bytes file h) a
+files-bounded bytes file h heavy a =
+    step-ceiling (systemOf file) (admissible bytes file h) heavy (rules-formed bytes file h) a
 
 pub count-tells : CountTells
 count-tells bytes file h = (
@@ -244,8 +254,8 @@ pub renamed-books-agree : RenamedBooksAgree
 renamed-books-agree = books-agree
 
 pub new-books-kept : NewBooksKept
-new-books-kept bytes output file small h room =
-    let w = new-kept bytes output file small h room in (w .reply, w .output)
+new-books-kept bytes output file small h heavy room =
+    let w = new-kept bytes output file small h heavy room in (w .reply, w .output)
 
 -- ---- pages
 

@@ -7,13 +7,13 @@ pub mod EquivalenceComplete
 pub mod EquivalenceMeasures
 pub mod EquivalenceSound
 pub mod OrderLaws
-pub mod IteratedLaws
-pub mod SteinbachLaws
 pub mod OftenerLaws
 pub mod WordsLaws
 pub mod RewritingLaws
 pub mod VariableLaws
 pub mod WeightLaws
+pub mod IteratedLaws
+pub mod SteinbachLaws
 pub mod SubstitutionLaws
 pub mod RenamingLaws
 pub mod FirstUseLaws

@@ -5,10 +5,10 @@ pub mod Term
 pub mod Words
 pub mod Equivalence
 pub mod Fingerprint
+pub mod Iterated
 pub mod Order
 pub mod Oftener
 pub mod Marks
-pub mod Iterated
 pub mod Article
 pub mod Steinbach
 pub mod Rewriting

@@ -21,7 +21,8 @@ pub const NO_SYMBOL: u8 = 4;
 pub const NO_WEIGHT: u8 = 5;
 /// An AC symbol has an arity other than 2.
 pub const AC_ARITY: u8 = 6;
-/// A constant weighs less than a variable, or a symbol of arity 1 weighs 0.
+/// A constant weighs less than a variable, or a symbol of arity 1 weighs 0 and is not ranked above every other, or is
+/// one of form 1.
 pub const INADMISSIBLE: u8 = 7;
 /// A rank is held by an earlier symbol.
 pub const RANK_TAKEN: u8 = 8;

@@ -39,7 +39,11 @@ const LINES: [(&str, u8, &str); 39] = [
     ("symbol f arity 8 weight 1 rank 2", 2, "line 5, column 16: symbol 2 (f), arity 8: "),
     ("symbol f arity 3 ac weight 1 rank 2", 2, "line 5, column 16: symbol 2 (f), arity 3: "),
     ("symbol f arity 0 weight 1 rank 2", 2, "line 5, column 25: symbol 2 (f), weight 1: "),
-    ("symbol f arity 1 weight 0 rank 2", 2, "line 5, column 25: symbol 2 (f), weight 0: "),
+    (
+        "symbol f arity 1 weight 0 rank 2\nsymbol g arity 2 weight 0 rank 3",
+        2,
+        "line 5, column 25: symbol 2 (f), weight 0: ",
+    ),
     ("symbol f arity 1 weight 1 rank 256", 2, "line 5, column 32: symbol 2 (f), rank 256: "),
     ("symbol f arity 1 weight 1 rank 1", 2, "line 5, column 32: symbol 2 (f), rank 1: "),
     ("# a comment\n  x +\nz -> x", 3, "line 6, column 6: a term is missing before the end of the line"),

@@ -15,7 +15,7 @@ const BOOKS: usize = 1_500;
 
 /// Whether a mark is one of a rule that falls.
 fn falls(mark: u8) -> bool {
-    (1..=6).contains(&mark)
+    matches!(mark, 1..=6 | 11)
 }
 
 /// The twin's marks of a book.

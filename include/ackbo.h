@@ -1,11 +1,11 @@
-/* The nine operations of libackbo.a, for C. Each is proved, for every input, to reply and to leave the lent memory as
+/* The eleven operations of libackbo.a, for C. Each is proved, for every input, to reply and to leave the lent memory as
    its definition says (crates/operations/specs: Boundary, over Coding, Converting, Comparing, Picking, Variables,
-   Hashing, Marking and Paging).
+   Hashing, Enumerating, Marking and Paging).
 
    The caller owes this, and nothing else: each pointer is valid for its length, aligned, and not NULL even where the
    length is 0; reply has room for three numbers; what is written to overlaps nothing else that is lent.
 
-   The result is 0, or the number of the refusal, 1 to 19. Of a refusal reply holds the input at fault (0 the first),
+   The result is 0, or the number of the refusal, 1 to 23. Of a refusal reply holds the input at fault (0 the first),
    the place (a bit of a book, a word of a sheet or a term, from 0), and 0. A refused call changes no other buffer. The
    first fault in reading order is given, one input after another.
 
@@ -28,8 +28,8 @@
    ackbo_text.h has names and words for refusals and marks, and the limits; docs/MARKS.md says what each means.
 
    Stack, at most, as measured: ackbo_convert 224 KB and ackbo_decode 120 KB, for every book; ackbo_encode 2 KB,
-   ackbo_fingerprint 7 KB, ackbo_oftener 12 KB; ackbo_compare, ackbo_pick and ackbo_mark 72 KB and ackbo_page 81 KB,
-   where AC symbols nest 63 deep. */
+   ackbo_count 5 KB, ackbo_list 6 KB, ackbo_fingerprint 7 KB, ackbo_oftener 12 KB; ackbo_compare, ackbo_pick and
+   ackbo_mark 72 KB and ackbo_page 81 KB, where AC symbols nest 63 deep. */
 #ifndef ACKBO_H
 #define ACKBO_H
 
@@ -48,6 +48,12 @@ enum { ACKBO_LEFT = 1, ACKBO_RIGHT = 2 };
 
 /* What ackbo_oftener replies where no variable occurs oftener on the right: the count of variables. */
 enum { ACKBO_NONE_OFTENER = 16 };
+
+/* What ackbo_count replies first: the number comes second, or there are more terms than are counted. */
+enum { ACKBO_NUMBER = 1, ACKBO_MORE = 2 };
+
+/* The most nodes that ackbo_count and ackbo_list take, and the most terms that they count and list. */
+enum { ACKBO_MAX_SIZE = 7, ACKBO_MAX_TERMS = 65535 };
 
 /* The bytes of a line that ackbo_page writes. */
 enum { ACKBO_LINE_BYTES = 65 };
@@ -91,6 +97,20 @@ uint8_t ackbo_fingerprint(const uint8_t *book, size_t book_len, const uint16_t *
    (input 1) and right (input 2). Past the book, the cost grows with the nodes; the terms are not compared. */
 uint8_t ackbo_oftener(const uint8_t *book, size_t book_len, const uint16_t *left, size_t left_len,
                       const uint16_t *right, size_t right_len, int64_t reply[3]);
+
+/* Counts the variable-free terms of n nodes under a book, without listing them. reply: ACKBO_NUMBER, their number, 0;
+   or ACKBO_MORE, 0, 0 where there are more than ACKBO_MAX_TERMS. Terms whose words differ are different ones, AC-equal
+   or not; their weight plays no part. Refused are the book and, with 22, an n that is not 1 to 7 (input 0, place 0).
+   Past the book, the cost grows with the symbols, not with the terms. */
+uint8_t ackbo_count(const uint8_t *book, size_t book_len, size_t n, int64_t reply[3]);
+
+/* Lists the variable-free terms of n nodes under a book: writes their words at the front of words, n for each term, one
+   term after another, ordered by their words from the first on. reply: the count of words written, n times the number
+   of terms, 0, 0. Refused are the book, with 22 an n that is not 1 to 7 (input 0, place 0), and with 23 words (input 1)
+   that are fewer than that, or, however many words there are, a number of more than ACKBO_MAX_TERMS. Past the book, the
+   cost grows with the words written. */
+uint8_t ackbo_list(const uint8_t *book, size_t book_len, uint16_t *words, size_t words_len, size_t n,
+                   int64_t reply[3]);
 
 /* Marks the rules of a book: writes a mark, 1 to 11, for each. reply: the rules, those that fall, the score: the
    percentage of rules that fall, rounded to the nearest whole number, an exact half to the even one; 100 without

@@ -41,7 +41,9 @@
     ROW(16, BYTES_TOO_SHORT, "the room for bytes is shorter than the book")           \
     ROW(17, OLD_FORM, "the form is 1, which the converter alone reads")               \
     ROW(18, VARIABLE_OUT_OF_TURN, "a variable is out of turn in its rule")            \
-    ROW(19, PAGE_TOO_SHORT, "the page is shorter than 65 times the count of rules")
+    ROW(19, PAGE_TOO_SHORT, "the page is shorter than 65 times the count of rules")   \
+    ROW(22, SIZE_OUT_OF_RANGE, "the count of nodes is not 1 to 7")                    \
+    ROW(23, NO_ROOM_FOR_TERMS, "the terms are too many, or have more words than there is room for")
 
 /* ACKBO_FALLS_BY_WEIGHT is 1, and so on. */
 #define ACKBO_ROW(number, name, words) ACKBO_##name = number,

@@ -1,6 +1,6 @@
 //! Safe functions over `libackbo.a`: opening, closing and marking of rule books, comparing of terms under them, picking
-//! the greater one, fingerprints of terms, the variable test, converting stored books of form 1, and pages of marks for
-//! a notice board.
+//! the greater one, fingerprints of terms, the variable test, counting and listing of small terms, converting stored
+//! books of form 1, and pages of marks for a notice board.
 //!
 //! Every reply, and every buffer afterwards, is proved to equal a definition, for every input: see the
 //! repository's `README.md`. A refused call leaves its buffers as they were.
@@ -30,7 +30,7 @@ pub mod layout;
 mod owned;
 mod words;
 
-pub use owned::{converted, decoded, encoded, marked, marked_with_margins};
+pub use owned::{converted, decoded, encoded, listed, marked, marked_with_margins};
 pub use words::{Mark, Refusal};
 
 /// The functions as `include/ackbo.h` declares them, for callers that want the reply's three numbers as they are.
@@ -72,6 +72,15 @@ pub mod sys {
         ) -> u8;
         pub fn ackbo_page(book: *const u8, book_len: usize, page: *mut u8, page_len: usize, reply: *mut [i64; 3])
             -> u8;
+        pub fn ackbo_count(book: *const u8, book_len: usize, n: usize, reply: *mut [i64; 3]) -> u8;
+        pub fn ackbo_list(
+            book: *const u8,
+            book_len: usize,
+            words: *mut u16,
+            words_len: usize,
+            n: usize,
+            reply: *mut [i64; 3],
+        ) -> u8;
         pub fn ackbo_pick(
             book: *const u8,
             book_len: usize,
@@ -113,7 +122,7 @@ const VARIABLES: i64 = 16;
 /// The bytes of a line of a page: 64 characters and byte 10.
 pub const LINE_BYTES: usize = 65;
 
-/// A refusal: its number, 1 to 19, the input at fault, 0 the first, and the place in it: a bit of a book, a word of a
+/// A refusal: its number, 1 to 23, the input at fault, 0 the first, and the place in it: a bit of a book, a word of a
 /// sheet or of a term.
 #[derive(Clone, Copy, Debug, PartialEq, Eq, Hash)]
 pub struct Error {
@@ -164,6 +173,15 @@ impl<'a> Side<'a> {
             Side::Equivalent | Side::Unrelated => &[],
         }
     }
+}
+
+/// How many terms there are.
+#[derive(Clone, Copy, Debug, PartialEq, Eq, Hash)]
+pub enum TermCount {
+    /// So many, 0 to 65,535.
+    Exactly(usize),
+    /// More than 65,535.
+    More,
 }
 
 /// The count of rules, of those that fall, and the score: the percentage of rules that fall, rounded to the nearest
@@ -406,6 +424,65 @@ pub fn oftener(book: &[u8], left: &[u16], right: &[u16]) -> Result<Option<u8>, E
 pub fn convert(book: &[u8], converted: &mut [u8]) -> Result<usize, Error> {
     let (output, room) = (converted.as_mut_ptr(), converted.len());
     call(|reply| unsafe { sys::ackbo_convert(book.as_ptr(), book.len(), output, room, reply) })
+        .map(|[count, _, _]| count as usize)
+}
+
+/// How many variable-free terms of `n` nodes there are under a book, without listing them. Terms whose words differ are
+/// different ones, AC-equal or not, and their weight plays no part.
+///
+/// # Errors
+/// The first that holds: of the book, input 0, refusals 1 to 11, 17 and 18; then 22, of input 0 at 0, where `n` is not
+/// 1 to 7.
+///
+/// # Cost
+/// Each call reads its whole book; past that, the cost grows with the symbols, not with the terms.
+///
+/// ```
+/// use ackbo::TermCount;
+///
+/// // 01's sample: the constants o, z, b are 0, 1, 2; + is 3, neg 4 and sub 5.
+/// let sheet = [2, 6, 1, 0, 0, 0, 1, 0, 0, 0, 1, 1, 0, 0, 3, 2, 2, 1, 1, 3, 1, 0, 1, 4, 2, 0, 1, 5];
+/// let mut book = [0; 26];
+/// assert_eq!(ackbo::encode(&sheet, &mut book), Ok(26));
+///
+/// assert_eq!(ackbo::count(&book, 3), Ok(TermCount::Exactly(21)));
+/// assert_eq!(ackbo::count(&book, 8).unwrap_err().code, 22);
+/// ```
+pub fn count(book: &[u8], n: usize) -> Result<TermCount, Error> {
+    call(|reply| unsafe { sys::ackbo_count(book.as_ptr(), book.len(), n, reply) }).map(|[told, number, _]| match told {
+        1 => TermCount::Exactly(number as usize),
+        _ => TermCount::More,
+    })
+}
+
+/// Lists the variable-free terms of `n` nodes under a book: writes their words at the front of `words`, `n` for each
+/// term, one term after another, ordered by their words from the first on, and gives the count of words written. Later
+/// words are as they were.
+///
+/// # Errors
+/// The first that holds: of the book, input 0, refusals 1 to 11, 17 and 18; 22, of input 0 at 0, where `n` is not 1 to
+/// 7; then 23, of input 1 at 0, where there are fewer words than `n` times the number that [`count`] gives, or where it
+/// gives [`TermCount::More`].
+///
+/// # Cost
+/// Each call reads its whole book; past that, the cost grows with the words written.
+///
+/// ```
+/// // 01's sample: the constants o, z, b are 0, 1, 2; + is 3, neg 4 and sub 5.
+/// let sheet = [2, 6, 1, 0, 0, 0, 1, 0, 0, 0, 1, 1, 0, 0, 3, 2, 2, 1, 1, 3, 1, 0, 1, 4, 2, 0, 1, 5];
+/// let mut book = [0; 26];
+/// assert_eq!(ackbo::encode(&sheet, &mut book), Ok(26));
+///
+/// // neg(o), neg(z), neg(b).
+/// let mut words = [99; 8];
+/// assert_eq!(ackbo::list(&book, &mut words, 2), Ok(6));
+/// assert_eq!(words, [4, 0, 4, 1, 4, 2, 99, 99]);
+/// let error = ackbo::list(&book, &mut words[..5], 2).unwrap_err();
+/// assert_eq!((error.code, error.input, error.offset), (23, 1, 0));
+/// ```
+pub fn list(book: &[u8], words: &mut [u16], n: usize) -> Result<usize, Error> {
+    let (output, room) = (words.as_mut_ptr(), words.len());
+    call(|reply| unsafe { sys::ackbo_list(book.as_ptr(), book.len(), output, room, n, reply) })
         .map(|[count, _, _]| count as usize)
 }
 

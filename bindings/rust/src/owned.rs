@@ -1,7 +1,7 @@
 //! The operations with room of their own: what they write comes back in a vector.
 
 use crate::layout::{head_len, rules, HEADER_WORDS, MAX_BYTES, MAX_RULES, MAX_WORDS};
-use crate::{compare, convert, decode, encode, mark, Error, Mark, Marked};
+use crate::{compare, convert, count, decode, encode, list, mark, Error, Mark, Marked, TermCount};
 
 /// The fewest bits of a book, on the whole, for a word of its sheet: those of a variable.
 const LEAST_BITS: usize = 5;
@@ -36,6 +36,28 @@ pub fn converted(book: &[u8]) -> Result<Vec<u8>, Error> {
     let mut converted = vec![0; book.len().min(MAX_BYTES)];
     convert(book, &mut converted)?;
     Ok(converted)
+}
+
+/// The words of the variable-free terms of `n` nodes under a book, `n` for each, by [`list`].
+///
+/// # Errors
+/// Those of [`count`], input 0; then 23, of input 1 at 0, where there are more terms than 65,535.
+///
+/// ```
+/// // 01's sample: the constants o, z, b are 0, 1, 2; + is 3, neg 4 and sub 5.
+/// let sheet = [2, 6, 1, 0, 0, 0, 1, 0, 0, 0, 1, 1, 0, 0, 3, 2, 2, 1, 1, 3, 1, 0, 1, 4, 2, 0, 1, 5];
+/// let book = ackbo::encoded(&sheet).unwrap();
+/// assert_eq!(ackbo::listed(&book, 2).unwrap(), [4, 0, 4, 1, 4, 2]);
+/// assert_eq!(ackbo::listed(&book, 7).unwrap().len(), 7 * 6_753);
+/// ```
+pub fn listed(book: &[u8], n: usize) -> Result<Vec<u16>, Error> {
+    let room = match count(book, n)? {
+        TermCount::Exactly(terms) => n * terms,
+        TermCount::More => 0,
+    };
+    let mut words = vec![0; room];
+    list(book, &mut words, n)?;
+    Ok(words)
 }
 
 /// The marks of a book's rules, by [`mark`], and what it replies. The book is accepted if as many rules fall as there

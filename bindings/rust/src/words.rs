@@ -108,6 +108,8 @@ numbered! {
         OldForm = 17, "the form is 1, which the converter alone reads";
         VariableOutOfTurn = 18, "a variable is out of turn in its rule";
         PageTooShort = 19, "the page is shorter than 65 times the count of rules";
+        SizeOutOfRange = 22, "the count of nodes is not 1 to 7";
+        NoRoomForTerms = 23, "the terms are too many, or have more words than there is room for";
     }
 }
 

@@ -10,18 +10,22 @@ ghost use Rattle.operations.specs.Comparing.{compared};
 ghost use Rattle.operations.specs.Picking.{picked};
 ghost use Rattle.operations.specs.Variables.{oftener};
 ghost use Rattle.operations.specs.Hashing.{fingerprinted};
+ghost use Rattle.operations.specs.Enumerating.{counted, listed};
 ghost use Rattle.operations.specs.Enums.{numberReply};
-ghost use Rattle.ackbo.specs.Numbers.{Small, numberOf, countOf, wordsOf};
+ghost use Rattle.ackbo.specs.Numbers.{Small, numberOf, countOf, wordsOf, termsOf};
 ghost use Rattle.operations.specs.Marking.{marked};
 ghost use Rattle.operations.specs.Paging.{paged};
 ghost use Rattle.operations.specs.Boundary.{codeOf, valuesOf};
-ghost use Rattle.operations.specs.Boundary.{numberValues, relationValue, comparisonValues, sideValues, summaryValues};
+ghost use Rattle.operations.specs.Boundary.{numberValues, relationValue, comparisonValues, sideValues, countValues};
+ghost use Rattle.operations.specs.Boundary.{summaryValues};
 use operations::CompareReply;
+use operations::CountReply;
 use operations::GreaterSide;
 use operations::MarkReply;
 use operations::NumberReply;
 use operations::PickReply;
 use operations::Relation;
+use operations::TermCount;
 
 // The values of a reply.
 type Values = [i64; 3];
@@ -192,6 +196,43 @@ pub extern "C" fn ackbo_fingerprint(book: &[u8], term: &[u16], reply: &mut Value
         ⌝ }
 {
     put_number(reply, hashing::fingerprint(book, term))
+}
+
+// Stores how many terms there are.
+fn put_terms(reply: &mut Values, count: TermCount) -> u8
+    requires { ⌜ Small (termsOf count) ⌝ }
+    ensures { λ r. ⌜ r ≡ 0 ⌝ }
+    ensures { λ _. ⌜ now (reply .exit) ≡ sets (now (reply .entry)) 0 (countValues count) ⌝ }
+{
+    match count {
+        TermCount::Exactly { terms } => put_counts(reply, 1, terms, 0),
+        TermCount::More => put_counts(reply, 2, 0, 0),
+    }
+}
+
+#[no_mangle]
+pub extern "C" fn ackbo_count(book: &[u8], n: usize, reply: &mut Values) -> u8
+    ensures { λ r. ⌜ r ≡ codeOf (counted (now (book .entry)) n) ⌝ }
+    ensures { λ _. ⌜
+        now (reply .exit) ≡ sets (now (reply .entry)) 0 (valuesOf countValues (counted (now (book .entry)) n))
+        ⌝ }
+{
+    match enumerating::count(book, n) {
+        CountReply::Accepted(count) => put_terms(reply, count),
+        CountReply::Refused(error) => put_error(reply, error.code, error.input, error.offset),
+    }
+}
+
+#[no_mangle]
+pub extern "C" fn ackbo_list(book: &[u8], words: &mut [u16], n: usize, reply: &mut Values) -> u8
+    ensures { λ r. ⌜ r ≡ codeOf (listed (now (book .entry)) (now (words .entry)) n .reply) ⌝ }
+    ensures { λ _. ⌜
+        now (reply .exit)
+        ≡ sets (now (reply .entry)) 0 (valuesOf numberValues (listed (now (book .entry)) (now (words .entry)) n .reply))
+        ⌝ }
+    ensures { λ _. ⌜ now (words .exit) ≡ listed (now (book .entry)) (now (words .entry)) n .output ⌝ }
+{
+    put_number(reply, enumerating::list(book, words, n))
 }
 
 #[no_mangle]

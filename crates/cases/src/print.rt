@@ -3,11 +3,13 @@ ghost use Prim.Native.Nat.{_<_};
 ghost use Rattle.io.specs.Counts.{Counts};
 use libc::STDOUT_FILENO;
 use operations::CompareReply;
+use operations::CountReply;
 use operations::GreaterSide;
 use operations::MarkReply;
 use operations::NumberReply;
 use operations::PickReply;
 use operations::Relation;
+use operations::TermCount;
 
 pub fn print(text: &[u8]) {
     io::write_all(STDOUT_FILENO, text);
@@ -129,5 +131,16 @@ pub fn print_number(reply: NumberReply) {
     match reply {
         NumberReply::Accepted(number) => print_numbers(number as u64, 0, 0),
         NumberReply::Refused(error) => print_error(error.code, error.input, error.offset),
+    }
+}
+
+// Prints 1 and how many terms there are, or 2 if they are more than are counted; or the error.
+pub fn print_count(reply: CountReply) {
+    match reply {
+        CountReply::Accepted(number) => match number {
+            TermCount::Exactly { terms } => print_numbers(1, terms as u64, 0),
+            TermCount::More => print_numbers(2, 0, 0),
+        },
+        CountReply::Refused(error) => print_error(error.code, error.input, error.offset),
     }
 }

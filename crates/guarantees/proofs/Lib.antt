@@ -4,6 +4,7 @@ pub mod LikeLaws
 mod PickLaws
 mod PrintLaws
 mod ScoreLaws
+mod EnumerationLaws
 mod RelationLaws
 pub mod RoundTrip
 mod ConvertedBits

@@ -59,6 +59,10 @@ use Rattle.guarantees.specs.Pages.{PagesTellApart, LinesEven, MarginsFit
 use Rattle.guarantees.proofs.PrintLaws.{line-even}
 use Rattle.guarantees.specs.Scores.{ScoreNearest, FullScore}
 use Rattle.guarantees.proofs.ScoreLaws.{score-is-nearest, nearest-unique, full-score}
+use Rattle.terms.specs.Enumeration.{groundTerms}
+use Rattle.terms.proofs.Theorems.{enumerates-expressions, enumerates-in-order}
+use Rattle.guarantees.specs.Enumerations.{SmallExpressionsEnumerated}
+use Rattle.guarantees.proofs.EnumerationLaws.{reads-back, counts-number, counts-more, lists-terms}
 use Rattle.guarantees.specs.Steinbach.{RelationAsSteinbach, ComparesAsSteinbach}
 use Rattle.guarantees.proofs.RelationLaws.{relation-exact, relation-accepted}
 use Rattle.guarantees.specs.RoundTrips.{DecodeThenEncode, EncodeThenDecode}
@@ -293,3 +297,16 @@ score-nearest falling rules some score = (
 
 pub full-scores : FullScore
 full-scores = full-score
+
+-- ---- small expressions
+
+pub small-expressions-enumerated : SmallExpressionsEnumerated
+small-expressions-enumerated bytes file h n some small = record {
+  terms = groundTerms (file .signature) n;
+  exactly = enumerates-expressions (file .signature) n;
+  sorted = enumerates-in-order (file .signature) n;
+  read = reads-back (file .signature) (few bytes file h) n;
+  number = counts-number bytes file (h .0) (h .1) n some small;
+  more = counts-more bytes file (h .0) (h .1) n some small;
+  written = lists-terms bytes file (h .0) (h .1) n some small;
+}

@@ -13,6 +13,7 @@ mod ComparingChecks
 mod PickingChecks
 mod VariablesChecks
 mod HashingChecks
+mod EnumeratingChecks
 mod MarkingChecks
 mod PageChecks
 mod ScoreChecks

@@ -10,6 +10,9 @@ use Rattle.operations.specs.declared.CompareReply.the-variants as compar
 use Rattle.operations.specs.declared.GreaterSide.{GreaterSide}
 use Rattle.operations.specs.declared.PickReply.{PickReply}
 use Rattle.operations.specs.declared.PickReply.the-variants as pick
+use Rattle.operations.specs.declared.TermCount.{TermCount}
+use Rattle.operations.specs.declared.CountReply.{CountReply}
+use Rattle.operations.specs.declared.CountReply.the-variants as counting
 use Rattle.operations.specs.declared.Summary.{Summary}
 use Rattle.operations.specs.declared.MarkReply.{MarkReply}
 use Rattle.operations.specs.declared.MarkReply.the-variants as mark
@@ -27,6 +30,10 @@ compareReply (compare.Refused e) = refused e
 abbrev pub pickReply : PickReply → Reply GreaterSide
 pickReply (pick.Accepted s) = accepted s
 pickReply (pick.Refused e) = refused e
+
+abbrev pub countReply : CountReply → Reply TermCount
+countReply (counting.Accepted n) = accepted n
+countReply (counting.Refused e) = refused e
 
 abbrev pub markReply : MarkReply → Reply Summary
 markReply (mark.Accepted s) = accepted s

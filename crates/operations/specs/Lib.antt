@@ -7,6 +7,7 @@ pub mod Comparing
 pub mod Picking
 pub mod Variables
 pub mod Hashing
+pub mod Enumerating
 pub mod Score
 pub mod Marking
 pub mod Text

@@ -59,3 +59,15 @@ pub enum MarkReply {
     Accepted(Summary),
     Refused(Error),
 }
+
+// How many terms there are: a number up to 65,535, or more.
+pub enum TermCount {
+    Exactly { terms: usize },
+    More,
+}
+
+// How many terms there are, or why they were not counted.
+pub enum CountReply {
+    Accepted(TermCount),
+    Refused(Error),
+}

@@ -21,7 +21,9 @@ pub mod FirstUseCount
 pub mod FirstUseRenamed
 pub mod RuleRenumbering
 pub mod FingerprintLaws
+pub mod EnumerationLaws
 pub mod Theorems
 mod TrapChecks
 mod FirstUseChecks
 mod FingerprintChecks
+mod EnumerationChecks

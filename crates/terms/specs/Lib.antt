@@ -12,8 +12,10 @@ pub mod Marks
 pub mod Article
 pub mod Steinbach
 pub mod Rewriting
+pub mod Enumeration
 pub mod Renaming
 pub mod FirstUse
 pub mod Sample
 pub mod Statements
 pub mod FirstUseStatements
+pub mod EnumerationStatements

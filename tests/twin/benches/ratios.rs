@@ -1,12 +1,12 @@
-//! Times of the library and of the twin on the same inputs, in rounds that alternate, and their ratios. A word after
-//! `--` keeps the rows whose name contains it.
+//! Times of the library and of the twin on the same inputs, in rounds that alternate, and their ratios; lists of small
+//! terms against a loop in C, `list.c`. A word after `--` keeps the rows whose name contains it.
 
 use std::hint::black_box;
 use std::time::{Duration, Instant};
 
 use twin::generate::{families, Book, Family, Random, Signature, MAX_RULES};
 use twin::page::LINE_BYTES;
-use twin::table::{MAX_NODES, VARIABLES};
+use twin::table::{Symbol, MAX_NODES, VARIABLES};
 use twin::Pick;
 
 const SEED: u64 = 32_768;
@@ -25,6 +25,27 @@ const SIZES: [usize; 4] = [16, 32, 64, 128];
 
 /// The words after a term where picking is measured with some.
 const WORDS_AFTER: usize = 64;
+
+/// Books to list small terms of, by a name, how many symbols they have of each arity, and the nodes of the terms.
+const LISTS: [(&str, [usize; 8], usize); 12] = [
+    ("23 of arity 2", [1, 0, 23, 0, 0, 0, 0, 0], 7),
+    ("23 of arity 2, 231 of arity 7", [1, 0, 23, 0, 0, 0, 0, 231], 7),
+    ("39 of arity 3", [1, 0, 0, 39, 0, 0, 0, 0], 7),
+    ("7 of arity 1", [1, 7, 0, 0, 0, 0, 0, 0], 6),
+    ("5 constants, 15 of arity 1", [5, 15, 0, 0, 0, 0, 0, 0], 4),
+    ("128 constants, 127 of arity 1", [128, 127, 0, 0, 0, 0, 0, 0], 2),
+    ("6 constants, 1 of arity 6", [6, 0, 0, 0, 0, 0, 1, 0], 7),
+    ("01's sample", [3, 1, 2, 0, 0, 0, 0, 0], 7),
+    ("01's sample", [3, 1, 2, 0, 0, 0, 0, 0], 4),
+    ("1 of each arity, 248 of arity 7", [1, 1, 1, 1, 1, 1, 1, 248], 7),
+    ("254 of arity 6", [1, 0, 0, 0, 0, 0, 254, 0], 7),
+    ("255 constants", [255, 0, 0, 0, 0, 0, 0, 0], 1),
+];
+
+extern "C" {
+    /// The words of the terms of so many nodes, by `list.c`.
+    fn list_terms(arities: *const u8, symbols: usize, nodes: usize, words: *mut u16) -> usize;
+}
 
 /// Two terms and the packed book that they are under.
 struct Pair {
@@ -59,6 +80,7 @@ fn main() {
     report.books();
     report.pairs();
     report.terms();
+    report.lists();
     report.summary();
 }
 
@@ -254,6 +276,31 @@ impl Report {
         }
     }
 
+    /// Lists of small terms against the loop in C, which is given the arities. The last columns are less the time of
+    /// reading the book.
+    fn lists(&mut self) {
+        println!("\n| lists | nodes | words | library | C | ratio | library, past the book | ratio |");
+        println!("|---|---|---|---|---|---|---|---|");
+        for (name, counts, nodes) in LISTS.into_iter().filter(|(name, ..)| self.wants(&format!("list {name}"))) {
+            let arities: Vec<u8> = counts.iter().zip(0..).flat_map(|(&count, arity)| vec![arity; count]).collect();
+            let book = book_of_arities(&arities);
+            let ours = ackbo::listed(&book, nodes).expect("the terms are few");
+            let mut words = vec![0; ours.len()];
+            let mut by_c = |words: &mut [u16]| unsafe {
+                list_terms(black_box(arities.as_ptr()), arities.len(), nodes, words.as_mut_ptr())
+            };
+            assert_eq!((by_c(&mut words), &words), (ours.len(), &ours), "{name}");
+            let mut room = words.clone();
+            let [library, c, reading] = measure([
+                &mut || ackbo::list(black_box(&book), &mut words, nodes).expect("there is room"),
+                &mut || by_c(&mut room),
+                &mut || ackbo::count(black_box(&book), 0).expect_err("0 is no size").offset,
+            ]);
+            print!("| {name} | {nodes} | {} | {library:.2} | {c:.2} | {:.2} ", ours.len(), library / c);
+            println!("| {:.2} | {:.2} |", library - reading, (library - reading) / c);
+        }
+    }
+
     fn summary(&self) {
         let slower = self.rows.iter().filter(|(_, ratio)| *ratio > 1.0).count();
         println!("\n{} rows, {slower} with a ratio above 1", self.rows.len());
@@ -261,6 +308,12 @@ impl Report {
             println!("greatest ratio: {ratio:.2}, {name}");
         }
     }
+}
+
+/// A book without rules whose symbols have those arities.
+fn book_of_arities(arities: &[u8]) -> Vec<u8> {
+    let symbols = arities.iter().zip(0..).map(|(&arity, rank)| Symbol { arity, ac: false, weight: 1, rank });
+    Book::empty(Signature { w0: 1, symbols: symbols.collect() }).packed()
 }
 
 fn book_of_255_symbols(random: &mut Random) -> Book {

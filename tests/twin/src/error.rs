@@ -48,6 +48,10 @@ pub const OLD_FORM: u8 = 17;
 pub const OUT_OF_TURN: u8 = 18;
 /// A page has no room for a line for each rule.
 pub const PAGE_TOO_SHORT: u8 = 19;
+/// A count of nodes is not 1 to 7.
+pub const SIZE_OUT_OF_RANGE: u8 = 22;
+/// The terms are too many, or their words do not fit.
+pub const NO_ROOM_FOR_TERMS: u8 = 23;
 
 impl Error {
     /// The error of an output, the second input of its operation, that is too short.

@@ -11,7 +11,9 @@ use common::{nearest_percent, Example, Theory};
 use examples::sample::{sample, CASES, COMPARISONS, CONVERSIONS, FINGERPRINTS, OFTENER, PICKS};
 use examples::{articles, sample};
 use twin::format::Form;
-use twin::{board, compare, convert, encode, fingerprint, mark, oftener, pick, report};
+use twin::generate::{Book, Signature};
+use twin::table::Symbol;
+use twin::{board, compare, convert, count, encode, fingerprint, list, mark, oftener, pick, report};
 use twin::{Comparison, Error, Marked, Pick, Relation};
 
 /// 01's listing, in form 2.
@@ -179,7 +181,7 @@ fn score_is_rounded_to_the_nearest_and_a_half_to_the_even_one() {
 #[test]
 fn program_prints_what_the_twin_gives() {
     let terms = [comparisons(), picks(), fingerprints(), variable_tests(), sample_page()].concat();
-    let requests = [forms(), wrapper()].concat();
+    let requests = [forms(), wrapper(), small_expressions()].concat();
     let parts = [reports(&sample::examples()), terms, listing(), requests, reports(&articles::examples()), limits()];
     assert_eq!(parts.concat(), include_str!("../../../crates/cases/stdout"));
 }
@@ -306,6 +308,49 @@ fn wrapper() -> String {
         format!("a wrapper ranked below another symbol\n{}{}", refused(&low.sheet(&[])), text(&low.book(&[]))),
     ];
     parts.concat()
+}
+
+/// The numbers of small expressions, and a list of them with the words after it.
+fn small_expressions() -> String {
+    let book = sample().book(&[]);
+    let numbers = |book: &[u8]| (0..=8).map(|n| counting(book, n)).collect::<String>();
+    let mut words = [77; 66];
+    let listed = listing_line(list(&book, &mut words, 3));
+    let rows = words.chunks(3).map(|row| format!("{} {} {}\n", row[0], row[1], row[2]));
+    let short = [3, 0, 8].map(|n| listing_line(list(&book, &mut [0; 62], n))).concat();
+    let no_constant = Theory::new(1, &[("f", 1, 1, 0), ("+", 2, 1, 1), ("g", 7, 0, 2)]).book(&[]);
+    let nothing = listing_line(list(&no_constant, &mut [0; 1], 7));
+    let (most, more) = (of_arities(&[17, 4, 3, 11]), of_arities(&[2, 8]));
+    let parts = [
+        format!("sample, numbers of small expressions\n{}", numbers(&book)),
+        format!("sample, expressions of 3 nodes\n{listed}{}", rows.collect::<String>()),
+        format!("sample, room for a word less, and also a size that is none\n{short}"),
+        format!("no constant\n{}{nothing}", numbers(&no_constant)),
+        format!("65,535 terms, and 65,536\n{}{}", counting(&most, 4), counting(&more, 6)),
+        listing_line(list(&more, &mut [0; 100], 6)),
+    ];
+    parts.concat()
+}
+
+/// A book without rules, of so many symbols of each arity.
+fn of_arities(counts: &[usize]) -> Vec<u8> {
+    let arities = counts.iter().zip(0..).flat_map(|(&count, arity)| vec![arity; count]);
+    let symbols = arities.zip(0..).map(|(arity, rank)| Symbol { arity, ac: false, weight: 1, rank });
+    Book::empty(Signature { w0: 1, symbols: symbols.collect() }).packed()
+}
+
+/// The line of a count.
+fn counting(book: &[u8], n: usize) -> String {
+    match count(book, n) {
+        Ok(Some(number)) => format!("1 {number} 0\n"),
+        Ok(None) => "2 0 0\n".into(),
+        Err(error) => error_line(error),
+    }
+}
+
+/// The line of a list.
+fn listing_line(reply: Result<usize, Error>) -> String {
+    reply.map_or_else(error_line, |words| format!("{words} 0 0\n"))
 }
 
 /// The report on a book.

@@ -1,9 +1,9 @@
 //! The commands.
 
-use ackbo::{Error, Relation, Side};
+use ackbo::{Error, Relation, Side, TermCount};
 
 pub use crate::complaint::MISUSED;
-use crate::complaint::{Complaint, Place, ACCEPTED, RETURNED};
+use crate::complaint::{quoted, Complaint, Place, ACCEPTED, RETURNED};
 use crate::help;
 pub use crate::input::MAX_INPUT;
 use crate::input::{self, Loaded, Read};
@@ -54,6 +54,7 @@ fn answered(arguments: &[String], read: Read) -> Result<Outcome, Complaint> {
         "compare" => compare(&options, read)?,
         "pick" => pick(&options, read)?,
         "fingerprint" => fingerprint(&options, read)?,
+        "terms" => terms(&options, read)?,
         _ => return Err(Complaint::of_use(format!("{command} is no command; `bookkeeper --help` has them"))),
     };
     Ok(Outcome { status, output, file: options.output, complaint: None })
@@ -180,4 +181,23 @@ fn fingerprint(options: &Options, read: Read) -> Answer {
     let question = Question::read(options, read, file, &[term])?;
     let reply = ackbo::fingerprint(&question.loaded.book, &question.words(0));
     Ok((format!("{}\n", reply.map_err(|error| question.refused(error))?).into(), ACCEPTED))
+}
+
+/// The small terms under a book, one a line, or how many there are.
+fn terms(options: &Options, read: Read) -> Answer {
+    let [file, nodes] = options.operands(["FILE", "N"])?;
+    let wrong = |_| Complaint::of_use(format!("{} is no count of nodes", quoted(nodes)));
+    let nodes = nodes.parse::<usize>().map_err(wrong)?;
+    let Loaded { sheet, names, book, .. } = &input::load(read, file, options)?;
+    if options.count {
+        let text = match ackbo::count(book, nodes).map_err(refusal::of_terms)? {
+            TermCount::Exactly(number) => format!("{number}\n"),
+            TermCount::More => "more\n".into(),
+        };
+        return Ok((text.into(), ACCEPTED));
+    }
+    let words = ackbo::listed(book, nodes).map_err(refusal::of_terms)?;
+    let printer = Printer { sheet, names, variables: &[] };
+    let text: String = words.chunks(nodes).map(|term| printer.term(term) + "\n").collect();
+    Ok((text.into(), ACCEPTED))
 }

@@ -11,6 +11,7 @@ bookkeeper: rule books as texts, and what the library says of them
   bookkeeper compare FILE LEFT RIGHT            how two terms stand to each other
   bookkeeper pick FILE LEFT RIGHT               two terms as the rule that falls
   bookkeeper fingerprint FILE TERM              the number that AC-equal terms share
+  bookkeeper terms FILE N [--count]             the variable-free terms of N nodes, 1 to 7, or how many there are
 
 FILE is a text or a book, - the standard input. A book has no names: + for its first AC symbol, c0, f1 by number and
 x, y, z for variables, or those of a text by --names FILE. What is UTF-8 without control characters is taken for a
@@ -33,6 +34,6 @@ A text, by an example (docs/BOOKS.md has the grammar):
   ..
 
 Exit status: 0 the book is accepted, or the question answered; 1 it is returned, or pick finds neither side greater;
-2 the library refuses the book or a term; 3 the arguments or the text are wrong. Results go to the standard output,
+2 the library refuses the book, a term or N; 3 the arguments or the text are wrong. Results go to the standard output,
 complaints to the standard error.
 ";

@@ -19,6 +19,8 @@ pub struct Options {
     pub names: Option<String>,
     pub output: Option<String>,
     pub taken: Taken,
+    /// Whether terms are counted and not listed.
+    pub count: bool,
     pub help: bool,
 }
 
@@ -36,6 +38,7 @@ impl Options {
                 "-o" | "--output" => options.output = Some(value()?),
                 "--text" => options.taken = Taken::ForText,
                 "--book" => options.taken = Taken::ForBook,
+                "--count" => options.count = true,
                 "-h" | "--help" => options.help = true,
                 "--" => options.operands.extend(arguments.by_ref().cloned()),
                 other if other.starts_with('-') && other.len() > 1 => {

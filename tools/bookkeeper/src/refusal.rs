@@ -67,3 +67,8 @@ pub fn of_term(error: Error, place: Place) -> Complaint {
     let words = words(error);
     Complaint::refused(format!("column {}: {words} (refusal {}, word {})", place.column, error.code, error.offset))
 }
+
+/// The refusal of small terms, for their size or for their number.
+pub fn of_terms(error: Error) -> Complaint {
+    Complaint::refused(format!("{} (refusal {})", words(error), error.code))
+}

@@ -87,6 +87,51 @@ fn terms_are_compared() {
 }
 
 #[test]
+fn small_terms_are_listed_and_counted() {
+    let (text, book) = (sample("sample.txt"), sample("sample.book"));
+    let ask = |arguments: &[&str]| {
+        let outcome = run_on(arguments, &[("text", &text), ("book", &book)]);
+        (outcome.status, String::from_utf8(outcome.output).unwrap())
+    };
+    assert_eq!(ask(&["terms", "text", "1"]), (0, "o\nz\nb\n".into()));
+    assert_eq!(ask(&["terms", "text", "2"]), (0, "neg(o)\nneg(z)\nneg(b)\n".into()));
+    let (status, listed) = ask(&["terms", "text", "3"]);
+    assert_eq!((status, listed.lines().count()), (0, 21));
+    assert!(listed.starts_with("o + o\no + z\n") && listed.ends_with("sub(b, z)\nsub(b, b)\n"), "{listed}");
+    assert_eq!(ask(&["terms", "book", "3", "--names", "text"]), (0, listed));
+    assert_eq!(ask(&["terms", "book", "2"]), (0, "f4(c0)\nf4(c1)\nf4(c2)\n".into()));
+    assert_eq!(ask(&["terms", "text", "7", "--count"]), (0, "6753\n".into()));
+    assert_eq!(ask(&["terms", "text", "7"]).1.lines().count(), 6_753);
+}
+
+#[test]
+fn terms_may_be_none_or_too_many() {
+    let ask = |arguments: &[&str], text: &str| {
+        let outcome = run_on(arguments, &[("text", text.as_bytes())]);
+        (outcome.status, String::from_utf8(outcome.output).unwrap(), outcome.complaint)
+    };
+    let none = "w0 1\nsymbol f arity 1 weight 1 rank 0\n";
+    assert_eq!(ask(&["terms", "text", "7"], none), (0, String::new(), None));
+    assert_eq!(ask(&["terms", "text", "7", "--count"], none), (0, "0\n".into(), None));
+    let unary: String = (0..7).map(|rank| format!("symbol f{rank} arity 1 weight 1 rank {rank}\n")).collect();
+    let many = format!("w0 1\n{unary}symbol c arity 0 weight 1 rank 7\n");
+    assert_eq!(ask(&["terms", "text", "6", "--count"], &many).1, "16807\n");
+    assert_eq!(ask(&["terms", "text", "7", "--count"], &many), (0, "more\n".into(), None));
+    let refused = |arguments: &[&str], words: &str| {
+        let (status, output, complaint) = ask(arguments, &many);
+        assert_eq!((status, output.as_str(), complaint.as_deref()), (2, "", Some(words)), "{arguments:?}");
+    };
+    refused(&["terms", "text", "7"], "the terms are too many, or have more words than there is room for (refusal 23)");
+    for nodes in ["0", "8", "4294967299", "18446744073709551615"] {
+        refused(&["terms", "text", nodes], "the count of nodes is not 1 to 7 (refusal 22)");
+        refused(&["terms", "text", nodes, "--count"], "the count of nodes is not 1 to 7 (refusal 22)");
+    }
+    for arguments in [&["terms", "text"][..], &["terms", "text", "three"], &["terms", "text", "3", "3"]] {
+        assert_eq!(ask(arguments, &many).0, 3, "{arguments:?}");
+    }
+}
+
+#[test]
 fn text_of_the_grammars_page_is_marked_as_it_says() {
     let page = std::fs::read_to_string(sample_path("../docs/BOOKS.md")).unwrap();
     let blocks: Vec<&str> = page.split("```text\n").skip(1).filter_map(|rest| rest.split("```").next()).collect();

@@ -7,6 +7,7 @@ mod converting;
 mod counts;
 mod decoding;
 mod encoding;
+mod enumerations;
 mod fingerprints;
 mod lent;
 mod marking;

@@ -110,6 +110,8 @@ numbered! {
         PageTooShort = 19, "the page is shorter than 65 times the count of rules";
         SizeOutOfRange = 22, "the count of nodes is not 1 to 7";
         NoRoomForTerms = 23, "the terms are too many, or have more words than there is room for";
+        NoSuchJob = 24, "there are not 1 to 32 desks, or the last served is none";
+        BadJob = 25, "the desk's book is outside, refused, or shorter than its count";
     }
 }
 

@@ -1,4 +1,6 @@
 // The operations for callers in C: each gives its code, 0 or that of the error, and stores the values of its reply.
+pub mod turn;
+
 ghost use mathlib.Core.Path.{_≡_};
 ghost use mathlib.Core.List.{[], _∷_};
 ghost use Prim.Native.Nat.{_<_};

@@ -2,6 +2,8 @@
 pub mod MarkedLaws
 pub mod LikeLaws
 mod PickLaws
+mod TurnLaws
+mod CourseLaws
 mod PrintLaws
 mod ScoreLaws
 mod EnumerationLaws
@@ -10,3 +12,4 @@ pub mod RoundTrip
 mod ConvertedBits
 pub mod ConversionLaws
 pub mod Theorems
+mod CourseChecks

@@ -70,7 +70,7 @@ marks-of-test m e =
 pub length-rules : (file : RuleFile) → length (systemOf file .rules) ≡ length (file .rules)
 length-rules file = length-map (file .rules) _
 
-length-marks : (file : RuleFile) → length (marksOf (systemOf file)) ≡ length (file .rules)
+pub length-marks : (file : RuleFile) → length (marksOf (systemOf file)) ≡ length (file .rules)
 length-marks file = length-map (systemOf file .rules) _ ∙ length-rules file
 
 -- The value of an accepted reply, and that a refusal is none.

@@ -64,6 +64,11 @@ use Rattle.terms.proofs.Theorems.{enumerates-expressions, enumerates-in-order}
 use Rattle.guarantees.specs.Enumerations.{SmallExpressionsEnumerated}
 use Rattle.guarantees.proofs.EnumerationLaws.{reads-back, counts-number, counts-more, lists-terms}
 use Rattle.guarantees.specs.Steinbach.{RelationAsSteinbach, ComparesAsSteinbach}
+use Rattle.operations.proofs.RoundLaws.{distance, distance-lt, onward-distance}
+use Rattle.guarantees.specs.Turns.{TurnServesOnly, OthersKeepAll, IdleExactly}
+use Rattle.guarantees.specs.Courses.{ServedWithin, MarksAsAlone}
+use Rattle.guarantees.proofs.TurnLaws.{serves-only, keeps-all, none-of-idle, idle-of-none, last-listed}
+use Rattle.guarantees.proofs.CourseLaws.{served-by, marks-alone}
 use Rattle.guarantees.proofs.RelationLaws.{relation-exact, relation-accepted}
 use Rattle.guarantees.specs.RoundTrips.{DecodeThenEncode, EncodeThenDecode}
 use Rattle.guarantees.proofs.RoundTrip.{decode-encode, encode-decode}
@@ -310,3 +315,27 @@ small-expressions-enumerated bytes file h n some small = record {
   more = counts-more bytes file (h .0) (h .1) n some small;
   written = lists-terms bytes file (h .0) (h .1) n some small;
 }
+
+-- ---- turns over a list of jobs
+
+pub turn-serves-only : TurnServesOnly
+turn-serves-only = serves-only
+
+pub others-keep-all : OthersKeepAll
+others-keep-all = keeps-all
+
+pub idle-exactly : IdleExactly
+idle-exactly c t e = (λ i. none-of-idle c (e ∙ ap (λ u. accepted u) i), idle-of-none c t e)
+
+pub served-within : ServedWithin
+served-within calls d h l replied kept =
+    let n = length (calls 0 .jobs) in
+    let last = last-listed (calls 0) (replied 0 (omega arith) .0) (replied 0 (omega arith) .1) in
+    let near = distance-lt n (calls 0 .last) last d h in
+    let (k, o, e) =
+    served-by n calls n d (distance n (calls 0 .last) last d) near refl near l
+    (onward-distance n (calls 0 .last) last d h) (λ k o. replied k (omega arith)) (λ k o. kept k (omega arith)) in
+    (k, omega arith, e)
+
+pub marks-as-alone : MarksAsAlone
+marks-as-alone calls d m begun kept alone s reply all = marks-alone m calls d alone s begun kept reply all

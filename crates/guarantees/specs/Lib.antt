@@ -7,3 +7,5 @@ pub mod Scores
 pub mod Enumerations
 pub mod RoundTrips
 pub mod Steinbach
+pub mod Turns
+pub mod Courses

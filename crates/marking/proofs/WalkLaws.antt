@@ -1,7 +1,7 @@
 -- The walk over the rules of a file: what a loop has read, counted and stored, and what that says of the file.
 --     decreasing-one, -none, -append                        how many marks are those of the order
 --     ListedSoFar, listed-none, listed-fault, listed-more, listed-all     the loop
---     stored-front, marked-as                               what was stored first; a file whose rules are listed
+--     stored-front, marks-sides, marked-as                  what was stored first; a file whose rules are listed
 use mathlib.Core.List.{List, [], _∷_, _++_, map, map-append}
 use mathlib.Core.Path.{_≡_, refl, sym, ap, _∙_}
 use mathlib.Core.Bool.{true, false}
@@ -105,20 +105,22 @@ sides-map g f [] = refl
 sides-map g f (a ∷ l) = ap (_∷_ (g (f a))) (sides-map g f l)
 
 module _ (σ : Signature) (rs : List Sides) where
-  abbrev listedFile : RuleFile
+  abbrev pub listedFile : RuleFile
   listedFile = record { signature = σ; rules = rs }
+
+  pub marks-sides : marksOf (systemOf listedFile) ≡ map (sidesMark σ) rs
+  marks-sides = sides-map _ _ rs
 
   pub marked-as : (count decreasing : ℕ) (marks₀ marks : List ℕ) (margins₀ margins : List ℤ) → length rs ≡ count →
       count < 1024 → decreasing ≤ count → Listed σ rs decreasing marks₀ marks margins₀ margins →
       MarkedAs listedFile count decreasing marks₀ marks margins₀ margins
   marked-as count decreasing marks₀ marks margins₀ margins n few most l =
-      let same : marksOf (systemOf listedFile) ≡ map (sidesMark σ) rs = sides-map _ _ rs in
       let margin : marginsOf (systemOf listedFile) ≡ map (sidesMargin σ) rs = sides-map _ _ rs in
       record {
         count = sym n;
         few = few;
         most = most;
-        falling = l .falling ∙ ap decreasingCount (sym same);
-        marks = l .marks ∙ ap (sets marks₀ 0) (sym same);
+        falling = l .falling ∙ ap decreasingCount (sym marks-sides);
+        marks = l .marks ∙ ap (sets marks₀ 0) (sym marks-sides);
         margins = l .margins ∙ ap (sets margins₀ 0) (sym margin);
       }

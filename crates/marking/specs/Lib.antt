@@ -1,2 +1,3 @@
 -- What orienting the rules of a packed file gives.
 pub mod Rule
+pub mod One

@@ -6,6 +6,7 @@ pub mod EntryLaws
 pub mod PageLaws
 pub mod PickingLaws
 pub mod ScoreLaws
+pub mod RoundLaws
 mod CodingChecks
 mod LongFileChecks
 mod ConvertingChecks
@@ -17,3 +18,4 @@ mod EnumeratingChecks
 mod MarkingChecks
 mod PageChecks
 mod ScoreChecks
+mod TurnsChecks

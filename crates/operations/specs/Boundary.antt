@@ -14,6 +14,8 @@ use Rattle.operations.specs.declared.GreaterSide.the-variants as side
 use Rattle.operations.specs.declared.TermCount.{TermCount}
 use Rattle.operations.specs.declared.TermCount.the-variants as counted
 use Rattle.operations.specs.declared.Summary.{Summary}
+use Rattle.operations.specs.declared.Turn.{Turn}
+use Rattle.operations.specs.declared.Turn.the-variants as turn
 
 module _ {A : Type 0} where
   -- 0, or the error's code.
@@ -50,3 +52,7 @@ countValues counted.More = pos 2 ∷ pos 0 ∷ pos 0 ∷ []
 
 abbrev pub summaryValues : Summary → List ℤ
 summaryValues s = pos (s .rules) ∷ pos (s .decreasing) ∷ pos (s .score) ∷ []
+
+abbrev pub turnValues : Turn → List ℤ
+turnValues (turn.Served i) = pos 1 ∷ pos i ∷ pos 0 ∷ []
+turnValues turn.Idle = pos 2 ∷ pos 0 ∷ pos 0 ∷ []

@@ -16,6 +16,9 @@ use Rattle.operations.specs.declared.CountReply.the-variants as counting
 use Rattle.operations.specs.declared.Summary.{Summary}
 use Rattle.operations.specs.declared.MarkReply.{MarkReply}
 use Rattle.operations.specs.declared.MarkReply.the-variants as mark
+use Rattle.operations.specs.declared.Turn.{Turn}
+use Rattle.operations.specs.declared.TurnReply.{TurnReply}
+use Rattle.operations.specs.declared.TurnReply.the-variants as turn
 use Rattle.operations.specs.Replies.{Reply}
 use Rattle.operations.specs.Replies.Reply.{accepted, refused}
 
@@ -38,3 +41,7 @@ countReply (counting.Refused e) = refused e
 abbrev pub markReply : MarkReply → Reply Summary
 markReply (mark.Accepted s) = accepted s
 markReply (mark.Refused e) = refused e
+
+abbrev pub turnReply : TurnReply → Reply Turn
+turnReply (turn.Accepted t) = accepted t
+turnReply (turn.Refused e) = refused e

@@ -14,5 +14,7 @@ pub mod Text
 pub mod Report
 pub mod Page
 pub mod Paging
+pub mod Jobs
+pub mod Turns
 pub mod Enums
 pub mod Boundary

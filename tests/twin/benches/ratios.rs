@@ -4,10 +4,12 @@
 use std::hint::black_box;
 use std::time::{Duration, Instant};
 
+use ackbo::{Desk, Turn};
 use twin::generate::{families, Book, Family, Random, Signature, MAX_RULES};
+use twin::jobs::{JOB_MARKS, MAX_JOBS};
 use twin::page::LINE_BYTES;
 use twin::table::{Symbol, MAX_NODES, VARIABLES};
-use twin::Pick;
+use twin::{Job, Pick};
 
 const SEED: u64 = 32_768;
 /// The rounds whose median is taken; many short ones, so that few are interrupted.
@@ -54,6 +56,30 @@ struct Pair {
     right: Vec<u16>,
 }
 
+/// Books in one buffer, as the library and as the twin take them.
+struct Class {
+    buffer: Vec<u8>,
+    desks: [Desk; MAX_JOBS],
+    jobs: [Job; MAX_JOBS],
+}
+
+impl Class {
+    fn new(books: impl Iterator<Item = Book>) -> Self {
+        let mut class = Class {
+            buffer: Vec::new(),
+            desks: [Desk::default(); MAX_JOBS],
+            jobs: [Job { start: 0, length: 0, marked: 0 }; MAX_JOBS],
+        };
+        for (index, book) in books.enumerate() {
+            let (packed, start, marked) = (book.packed(), class.buffer.len(), book.rules.len() / 2);
+            class.desks[index] = Desk { start, length: packed.len(), marked };
+            class.jobs[index] = Job { start, length: packed.len(), marked };
+            class.buffer.extend(packed);
+        }
+        class
+    }
+}
+
 /// Microseconds of one call.
 #[derive(Clone, Copy)]
 struct Times {
@@ -78,6 +104,7 @@ fn main() {
     let mut report = Report { filter, rows: Vec::new() };
     println!("Times in microseconds of one call; ratio: library / twin.\n");
     report.books();
+    report.turns();
     report.pairs();
     report.terms();
     report.lists();
@@ -164,6 +191,45 @@ impl Report {
             &packed,
             |book| ackbo::convert(book, &mut ours).expect("the book is of form 1"),
             |book| twin::convert(book, &mut twins).expect("the book is of form 1"),
+        );
+    }
+
+    /// A turn over 1, 8 and 32 jobs, each with a book of its own of which half the rules are marked; the one that is
+    /// marked is in the middle of the first book.
+    fn turns(&mut self) {
+        println!("\n| turns | library | twin | ratio |\n|---|---|---|---|");
+        let mut random = Random::new(SEED);
+        let mut class = |make: &dyn Fn(&mut Random) -> Book| Class::new((0..MAX_JOBS).map(|_| make(&mut random)));
+        let classes = [
+            ("many rules", class(&|random| Book::largest(random, true))),
+            ("full sides", class(&|random| Book::largest(random, false))),
+            ("typical", class(&|random| Book::random(random, TYPICAL_RULES))),
+        ];
+        for (name, class) in &classes {
+            for count in [1, 8, MAX_JOBS] {
+                self.turn(&format!("turn of {count}, {name}"), class, count);
+            }
+        }
+    }
+
+    fn turn(&mut self, name: &str, class: &Class, count: usize) {
+        let (mut ours, mut twins) = (vec![0; JOB_MARKS * count], vec![0; JOB_MARKS * count]);
+        self.row(
+            name,
+            std::slice::from_ref(class),
+            |class| {
+                let mut desks = class.desks;
+                let turn = ackbo::turn(&mut desks[..count], &class.buffer, &mut ours, count - 1);
+                match turn.expect("the books are read") {
+                    Turn::Served(place) => place,
+                    Turn::Idle => count,
+                }
+            },
+            |class| {
+                let mut jobs = class.jobs;
+                let turn = twin::turn(&mut jobs[..count], &class.buffer, &mut twins, count - 1);
+                turn.expect("the books are read").unwrap_or(count)
+            },
         );
     }
 

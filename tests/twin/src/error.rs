@@ -52,6 +52,10 @@ pub const PAGE_TOO_SHORT: u8 = 19;
 pub const SIZE_OUT_OF_RANGE: u8 = 22;
 /// The terms are too many, or their words do not fit.
 pub const NO_ROOM_FOR_TERMS: u8 = 23;
+/// There are not 1 to 32 jobs, or the last served is none of them.
+pub const NO_JOB: u8 = 24;
+/// A job's book lies outside the buffer, is refused, or has fewer rules than the job's count.
+pub const BAD_JOB: u8 = 25;
 
 impl Error {
     /// The error of an output, the second input of its operation, that is too short.

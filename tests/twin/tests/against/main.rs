@@ -9,6 +9,7 @@ mod decoding;
 mod encoding;
 mod enumerations;
 mod fingerprints;
+mod jobs;
 mod lent;
 mod marking;
 mod oftener;

@@ -1,0 +1,139 @@
+// One rule of a packed file, by its number: finding where it begins, and marking it there.
+ghost use mathlib.Core.Path.{_≡_};
+ghost use mathlib.Core.List.{[]};
+ghost use mathlib.Core.Bool.{true};
+ghost use Prim.Native.Nat.{ℕ, _*_, _≤_};
+ghost use lib.ListN.{length, getD};
+ghost use Rattle.terms.specs.Signature.{Signature};
+ghost use Rattle.format.specs.Layout.{formNumber, maxBytes};
+ghost use Rattle.format.specs.Reading.{bitSource};
+ghost use Rattle.format.specs.Reading.Reading.{got};
+ghost use Rattle.format.specs.Format.{Sides, unusedOf, ruleReader};
+ghost use Rattle.operations.specs.Jobs.{bookMarks};
+ghost use Rattle.symbols.specs.Table.{signatureOf, maxTableWords};
+ghost use Rattle.symbols.specs.Arities.{Arities};
+ghost use Rattle.answers.specs.Answer.{Within};
+ghost use Rattle.reader.specs.File.{restReader};
+ghost use Rattle.marking.specs.declared.one.Standing.the-variants.{Left};
+ghost use Rattle.marking.specs.Rule.{IsTable, sidesMark};
+ghost use Rattle.marking.specs.One.{standingIn, fileStanding, RulesSkipped};
+use crate::rule::RuleReading;
+use answers::Answer;
+
+// How a packed file stands of which so many rules are marked: it is refused or has fewer rules, it has no others, or
+// the next begins at a bit.
+pub enum Standing {
+    Bad,
+    Done,
+    Left { at: usize },
+}
+
+// Reads past that many rules.
+fn skip_rules(book: &[u8], arities: &[u32; format::NODE_WORDS], count: usize, at: usize) -> Answer
+    requires { ⌜ (length (now book) ≤ maxBytes) × (at ≤ 8 * length (now book)) ⌝ }
+    ensures { λ r. ⌜
+        ((σ : Signature) → Arities σ (now (arities .entry)) →
+        RulesSkipped (bitSource (now (book .entry))) (unusedOf formNumber) σ count at r)
+        ⌝ }
+    ensures { λ r. ⌜ Within 0 (8 * length (now (book .entry))) r ⌝ }
+{
+    let unused = variables::unused_at_start(format::FORM);
+    let mut none = [0u16; 0];
+    let mut here = at;
+    let mut i = 0;
+    while i < count {
+        match sides::read_rule_into(book, arities, &mut none, unused, 0, here) {
+            Answer::Fault { code, offset } => return Answer::Fault { code, offset },
+            Answer::Got { value: _, next } => here = next,
+        }
+        i += 1;
+    }
+    Answer::Got {
+        value: 0,
+        next: here,
+    }
+}
+
+// Reads the rules under a symbol table, that many of them, to the end of the file; `marked` of them are marked.
+fn find_after(book: &[u8], table: &[u16], marked: usize, count: usize, at: usize) -> Standing
+    requires { ⌜ (length (now book) ≤ maxBytes) × (at ≤ 8 * length (now book)) ⌝ }
+    requires { ⌜ length (now table) ≤ maxTableWords ⌝ }
+    ensures { λ r. ⌜
+        r
+        ≡ standingIn marked
+        (restReader formNumber true (now (book .entry)) [] (signatureOf (now (table .entry))) count at)
+        ⌝ }
+{
+    if count < marked {
+        return Standing::Bad;
+    }
+    let arities = symbols::arities(table);
+    let Answer::Got { value: _, next } = skip_rules(book, &arities, marked, at) else {
+        return Standing::Bad;
+    };
+    let start = next;
+    let Answer::Got { value: _, next } = skip_rules(book, &arities, count - marked, start) else {
+        return Standing::Bad;
+    };
+    let cursor = bits::BitCursor { at: next };
+    if cursor.is_padding(book) {
+        if marked < count {
+            return Standing::Left { at: start };
+        }
+        return Standing::Done;
+    }
+    Standing::Bad
+}
+
+// Reads a packed file, and finds the rule that the count of those marked numbers.
+pub fn find_next(book: &[u8], marked: usize) -> Standing
+    ensures { λ r. ⌜ r ≡ fileStanding (now (book .entry)) marked ⌝ }
+{
+    let mut table = [0u16; symbols::TABLE_WORDS];
+    let mut rules = 0;
+    match reader::read_head(book, &[0u16; 0], true, format::FORM, &mut table, &mut rules) {
+        Answer::Fault { .. } => Standing::Bad,
+        Answer::Got { value, next } => {
+            let front = symbols::front(value);
+            find_after(book, &table[..front], marked, rules, next)
+        }
+    }
+}
+
+// The mark of the rule that begins at a bit, under a symbol table.
+fn mark_there(book: &[u8], table: &[u16], at: usize) -> u8
+    requires { ⌜ (length (now book) ≤ maxBytes) × (at ≤ 8 * length (now book)) ⌝ }
+    requires { ⌜ IsTable (now table) ⌝ }
+    ensures { λ r. ⌜
+        ((sides : Sides) (next : ℕ) →
+        ruleReader (bitSource (now (book .entry))) (unusedOf formNumber) (signatureOf (now (table .entry))) at
+        ≡ got sides next → r ≡ sidesMark (signatureOf (now (table .entry))) sides)
+        ⌝ }
+{
+    let arities = symbols::arities(table);
+    let mut adds = [0u64; measures::NODE_SUMS];
+    measures::nodes::put_node_sums(table, &mut adds);
+    match crate::rule::mark_rule(book, table, &arities, &adds, at) {
+        RuleReading::Fault { .. } => 0,
+        RuleReading::Got(rule) => rule.mark,
+    }
+}
+
+// The mark of the rule that was found at a bit of a packed file.
+pub fn mark_at(book: &[u8], at: usize) -> u8
+    requires { ⌜ at ≤ 8 * length (now book) ⌝ }
+    ensures { λ r. ⌜
+        ((marked : ℕ) → fileStanding (now (book .entry)) marked ≡ Left at →
+        r ≡ getD (bookMarks (now (book .entry))) marked 0)
+        ⌝ }
+{
+    let mut table = [0u16; symbols::TABLE_WORDS];
+    let mut rules = 0;
+    match reader::read_head(book, &[0u16; 0], true, format::FORM, &mut table, &mut rules) {
+        Answer::Fault { .. } => 0,
+        Answer::Got { value, next: _ } => {
+            let front = symbols::front(value);
+            mark_there(book, &table[..front], at)
+        }
+    }
+}

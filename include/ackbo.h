@@ -3,7 +3,10 @@
    Hashing, Enumerating, Marking, Paging and Turns).
 
    The caller owes this, and nothing else: each pointer is valid for its length, aligned, and not NULL even where the
-   length is 0; reply has room for three numbers; what is written to overlaps nothing else that is lent.
+   length is 0; reply has room for three numbers; what is written to overlaps nothing else that is lent. A length counts
+   elements: bytes of a book or a page, marks of a byte each, words of 16 bits of a sheet or a term, desks. To pass an
+   empty buffer, pass any pointer that is not NULL, such as one to a variable, with length 0: the data() of an empty
+   std::vector may be NULL, so it takes v.empty() ? &none : v.data(). Nothing is allocated, kept or freed.
 
    The result is 0, or the number of the refusal, 1 to 19 or 22 to 25. Of a refusal reply holds the input at fault (0
    the first), the place (a bit of a book, a word of a sheet or a term, a desk, from 0), and 0. A refused call changes
@@ -26,10 +29,12 @@
    one call writes to is used by no other.
 
    ackbo_text.h has names and words for refusals and marks, and the limits; docs/MARKS.md says what each means.
+   ackbo_sheet.h finds the terms of an opened book, and the margins of its rules.
 
-   Stack, at most, as measured: ackbo_convert 224 KB and ackbo_decode 120 KB, for every book; ackbo_encode 2 KB,
-   ackbo_count 5 KB, ackbo_list 6 KB, ackbo_fingerprint 7 KB, ackbo_oftener 12 KB; ackbo_compare, ackbo_pick, ackbo_mark
-   and ackbo_turn 72 KB and ackbo_page 81 KB, where AC symbols nest 63 deep. */
+   Stack, in KB of 1,000 bytes, at most, as tests/stack measures it: ackbo_decode 117, ackbo_encode 2, ackbo_convert
+   224, ackbo_compare 69, ackbo_pick 69, ackbo_fingerprint 7, ackbo_oftener 12, ackbo_count 5, ackbo_list 6, ackbo_mark
+   72, ackbo_page 81, ackbo_turn 71; that of ackbo_decode and ackbo_convert for every book, that of comparing where AC
+   symbols nest 63 deep, the deepest that 128 nodes allow. */
 #ifndef ACKBO_H
 #define ACKBO_H
 

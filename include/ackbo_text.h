@@ -5,7 +5,7 @@
 #ifndef ACKBO_TEXT_H
 #define ACKBO_TEXT_H
 
-#define ACKBO_VERSION "0.6.0"
+#define ACKBO_VERSION "0.8.0"
 
 /* The marks of rules. A rule falls exactly if the words of its mark begin with "falls". */
 #define ACKBO_MARKS(ROW)                               \
@@ -61,6 +61,11 @@ enum ackbo_refusal_number { ACKBO_REFUSALS(ACKBO_ROW) ACKBO_NO_REFUSAL = 0 };
 static inline const char *ackbo_mark_text(int mark) {
     switch (mark) { ACKBO_MARKS(ACKBO_ROW) }
     return "no such mark";
+}
+
+/* Whether a rule with this mark falls. */
+static inline int ackbo_mark_falls(int mark) {
+    return (ACKBO_FALLS_BY_WEIGHT <= mark && mark <= ACKBO_FALLS_BY_LOW_TERMS) || mark == ACKBO_FALLS_BY_WRAPPING;
 }
 
 /* The words for a refusal; those for 0, and for a number that is none, say so. */

@@ -3,14 +3,15 @@
 //! Each table has a row a number. `include/ackbo_text.h` has the same rows for C, and `docs/MARKS.md` an entry for
 //! each; the tests of this crate hold the three to one another.
 
-use std::fmt;
+use core::fmt;
 
 use crate::Error;
 
-/// Makes an enum of a table whose rows are a variant, its number, and its words.
+/// Makes an enum of a table, to which later versions add rows, whose rows are a variant, its number, and its words.
 macro_rules! numbered {
     ($(#[$about:meta])* $name:ident { $($variant:ident = $number:literal, $text:literal;)* }) => {
         $(#[$about])*
+        #[non_exhaustive]
         #[derive(Clone, Copy, Debug, PartialEq, Eq, Hash, PartialOrd, Ord)]
         #[repr(u8)]
         pub enum $name {

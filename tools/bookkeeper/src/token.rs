@@ -4,6 +4,7 @@ use std::iter::Peekable;
 use std::str::CharIndices;
 
 use crate::complaint::{quoted, Complaint, Place};
+use crate::sign::{in_operator, in_word, ABOVE, ARROW};
 
 /// The kinds of a token.
 #[derive(Clone, Copy, Debug, PartialEq, Eq)]
@@ -51,21 +52,8 @@ pub struct Tokens<'a> {
     /// Whether the last token is one after which a line goes on.
     unfinished: bool,
     next: Option<Token<'a>>,
-}
-
-/// Whether a character is a part of a word.
-fn in_word(sign: char) -> bool {
-    sign.is_alphanumeric() || sign == '_' || sign == '\''
-}
-
-/// Whether a character is a part of an operator.
-fn in_operator(sign: char) -> bool {
-    !in_word(sign) && !sign.is_whitespace() && !sign.is_control() && !"(),#".contains(sign)
-}
-
-/// Whether a name is an operator, which stands between its arguments.
-pub fn is_operator(name: &str) -> bool {
-    name.chars().all(in_operator)
+    /// Whether the token that was taken last ended a line.
+    line_ended: bool,
 }
 
 impl<'a> Tokens<'a> {
@@ -73,14 +61,14 @@ impl<'a> Tokens<'a> {
         let source = source.strip_prefix('\u{feff}').unwrap_or(source);
         let place = Place { line: 1, column: 1 };
         let chars = source.char_indices().peekable();
-        Tokens { source, chars, place, depth: 0, unfinished: false, next: None }
+        Tokens { source, chars, place, depth: 0, unfinished: false, next: None, line_ended: false }
     }
 
     /// The token that comes next, which stays.
     pub fn peek(&mut self) -> Result<Token<'a>, Complaint> {
         let token = match self.next {
             Some(token) => token,
-            None => self.read()?,
+            None => self.read().inspect_err(|_| self.line_ended = false)?,
         };
         self.next = Some(token);
         Ok(token)
@@ -90,7 +78,17 @@ impl<'a> Tokens<'a> {
     pub fn take(&mut self) -> Result<Token<'a>, Complaint> {
         let token = self.peek()?;
         self.next = None;
+        self.line_ended = token.kind == Kind::LineEnd;
         Ok(token)
+    }
+
+    /// Leaves the rest of a line with a fault, and what it left open.
+    pub fn skip_line(&mut self) {
+        let ended = self.next.map_or(self.line_ended, |token| token.kind == Kind::LineEnd);
+        (self.next, self.depth, self.unfinished) = (None, 0, false);
+        if !ended {
+            self.skip_while(|sign| sign != '\n');
+        }
     }
 
     /// Takes the token that comes next if it is of a kind, else complains that `wanted` is missing.
@@ -175,8 +173,8 @@ fn kind_of(sign: char, text: &str) -> Kind {
         (')', _) => Kind::Close,
         (',', _) => Kind::Comma,
         ('\n', _) => Kind::LineEnd,
-        (_, "->") => Kind::Arrow,
-        (_, ">") => Kind::Above,
+        (_, ARROW) => Kind::Arrow,
+        (_, ABOVE) => Kind::Above,
         _ if in_word(sign) => Kind::Word,
         _ => Kind::Operator,
     }

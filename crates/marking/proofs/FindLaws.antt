@@ -16,7 +16,8 @@ use Rattle.format.specs.Layout.{formNumber}
 use Rattle.format.specs.Errors.{badPadding}
 use Rattle.format.specs.Reading.{Reading, bitSource, isPadding}
 use Rattle.format.specs.Reading.Reading.{got, fault}
-use Rattle.format.specs.Format.{Sides, RuleFile, unusedOf, rulesReader}
+use Rattle.format.specs.Forms.{isTaken, unusedOf}
+use Rattle.format.specs.Format.{Sides, RuleFile, rulesReader}
 use Rattle.format.specs.Files.{readBytes}
 use Rattle.format.proofs.ReadingLaws.{holds-got}
 use Rattle.format.proofs.SpellingLaws.{spells→coded}
@@ -42,25 +43,26 @@ module _ (bytes : List ℕ) where
       let (fits, ends, last, agree) = spells→coded (bit-coding bytes) spelt h in
       (ends, last)
 
-  module _ (σ : Signature) (count at : ℕ) where
+  -- A file of a form that is taken.
+  module _ (form : ℕ) (taken : isTaken formNumber form ≡ true) (σ : Signature) (count at : ℕ) where
     abbrev rules-here : Reading (List Sides)
     rules-here = rulesReader (bitSource bytes) (unusedOf formNumber) σ count at
 
     abbrev rest-here : Reading RuleFile
-    rest-here = restReader formNumber true bytes [] σ count at
+    rest-here = restReader form true bytes [] σ count at
 
     -- The rules of a file that is read whole are read up to its end.
     pub rest-whole : (file : RuleFile) (last : ℕ) → rest-here ≡ got file last →
-        (rules : List Sides) × (rules-here ≡ got rules last) × (file ≡ record { signature = σ; rules = rules })
+        (rules : List Sides) × (rules-here ≡ got rules last) × (file ≡ record { form = form; signature = σ; rules = rules })
     unfolding restReader sourceOf
     rest-whole file last e = go rules-here refl
       where
         go : (x : Reading (List Sides)) → rules-here ≡ x →
-            (rules : List Sides) × (rules-here ≡ got rules last) × (file ≡ record { signature = σ; rules = rules })
+            (rules : List Sides) × (rules-here ≡ got rules last) × (file ≡ record { form = form; signature = σ; rules = rules })
         go (got rules next) r =
             byTest (isPadding bytes next)
-            (λ p. let z : got (record { signature = σ; rules = rules }) next ≡ got file last = rw (r, p) at e in
-            let q : record { signature = σ; rules = rules } ≡ file = cc in
+            (λ p. let z : got (record { form = form; signature = σ; rules = rules }) next ≡ got file last = rw (r, p) at e in
+            let q : record { form = form; signature = σ; rules = rules } ≡ file = cc in
             let m : next ≡ last = cc in
             (rules, rw (← m) r, sym q))
             λ p. let z : fault badPadding next ≡ got file last = rw (r, p) at e in absurd (false≢true (cc))
@@ -82,7 +84,7 @@ module _ (bytes : List ℕ) where
 
       pub standing-unread : (code offset : ℕ) → rules-here ≡ fault code offset → Bad ≡ standingIn marked rest-here
       unfolding sourceOf
-      standing-unread code offset e = rw (rest-unread formNumber true bytes [] σ count at code offset e)
+      standing-unread code offset e = rw (rest-unread formNumber form taken true bytes [] σ count at code offset e)
 
       -- The rules that are marked are done, and the others are read from a bit on.
       module _ (few : marked ≤ count) (done : List Sides) (start : ℕ)
@@ -107,12 +109,12 @@ module _ (bytes : List ℕ) where
             pub standing-unended : isPadding bytes end ≡ false → Bad ≡ standingIn marked rest-here
             unfolding sourceOf
             standing-unended p =
-                rw (rest-unended formNumber true bytes [] σ count at (done ++ rest) end all-read badPadding end (rw p))
+                rw (rest-unended formNumber form taken true bytes [] σ count at (done ++ rest) end all-read badPadding end (rw p))
 
             module _ (ends : isPadding bytes end ≡ true) where
-              whole : rest-here ≡ got (record { signature = σ; rules = done ++ rest }) end
+              whole : rest-here ≡ got (record { form = form; signature = σ; rules = done ++ rest }) end
               unfolding sourceOf
-              whole = rest-ended formNumber true bytes [] σ count at (done ++ rest) end all-read end (rw ends)
+              whole = rest-ended formNumber form taken true bytes [] σ count at (done ++ rest) end all-read end (rw ends)
 
               lengths : (length (done ++ rest) ≡ count) × (length done ≡ marked)
               lengths =

@@ -17,7 +17,8 @@ use Rattle.format.specs.Layout.{formNumber, maxBytes}
 use Rattle.format.specs.Errors.{fileTooLong}
 use Rattle.format.specs.Reading.{Reading, andThen, give, Source, bitSource}
 use Rattle.format.specs.Reading.Reading.{got, fault}
-use Rattle.format.specs.Format.{Sides, RuleFile, unusedOf, ruleReader, rulesReader}
+use Rattle.format.specs.Forms.{isTaken, unusedOf}
+use Rattle.format.specs.Format.{Sides, RuleFile, ruleReader, rulesReader}
 use Rattle.format.specs.Files.{readBytes, readBytesIn}
 use Rattle.format.proofs.FormatLaws.{rules-length}
 use Rattle.format.proofs.FaultLaws.{within-got, whole-within, bits-bounded}
@@ -146,24 +147,24 @@ module _ (bytes : List ℕ) (marked at : ℕ) (found : fileStanding bytes marked
           let (less, place) = left-is file marked last at (rw e at found) in omega (arith, file-end file last e)
       go (fault code offset) e = never-found code offset e
 
-  pub mark-found : (σ : Signature) (count head mark : ℕ) →
-      readBytes bytes ≡ restReader formNumber true bytes [] σ count head → head ≤ 8 * length bytes →
+  pub mark-found : (form : ℕ) → isTaken formNumber form ≡ true → (σ : Signature) (count head mark : ℕ) →
+      readBytes bytes ≡ restReader form true bytes [] σ count head → head ≤ 8 * length bytes →
       ((sides : Sides) (next : ℕ) →
       ruleReader (bitSource bytes) (unusedOf formNumber) σ at ≡ got sides next → mark ≡ sidesMark σ sides) →
       mark ≡ getD (bookMarks bytes) marked 0
   unfolding fileStanding bookMarks
-  mark-found σ count head mark read h marks = go (restReader formNumber true bytes [] σ count head) refl
+  mark-found form taken σ count head mark read h marks = go (restReader form true bytes [] σ count head) refl
     where
       there : (middle : ℕ) (rule : Sides) (next : ℕ) → middle ≡ at →
           ruleReader (bitSource bytes) (unusedOf formNumber) σ middle ≡ got rule next →
           ruleReader (bitSource bytes) (unusedOf formNumber) σ at ≡ got rule next
       there middle rule next m e = rw (← m) e
 
-      go : (x : Reading RuleFile) → restReader formNumber true bytes [] σ count head ≡ x →
+      go : (x : Reading RuleFile) → restReader form true bytes [] σ count head ≡ x →
           mark ≡ getD (bookMarks bytes) marked 0
       go (got file last) e =
           let whole = read ∙ e in
-          let (rules, r, same) = rest-whole bytes σ count head file last e in
+          let (rules, r, same) = rest-whole bytes form taken σ count head file last e in
           let (less, place) = left-is file marked last at (rw whole at found) in
           let less' = rw same at less in
           let place' = rw same at place in
@@ -174,6 +175,6 @@ module _ (bytes : List ℕ) (marked at : ℕ) (found : fileStanding bytes marked
           let (far', within') = rules-end bytes (unusedOf formNumber) σ (count - marked) (R .middle) (drop marked rules)
           last (R .others) within in
           let m : R .middle ≡ at = omega arith in
-          rw (whole, same, marks-sides σ rules)
+          rw (whole, same, marks-sides form σ rules)
           (marks (R .rule) (R .next) (there (R .middle) (R .rule) (R .next) m (R .read)) ∙ sym (R .same (sidesMark σ)))
       go (fault code offset) e = never-found code offset (read ∙ e)

@@ -8,7 +8,8 @@ ghost use Rattle.terms.specs.Signature.{Signature};
 ghost use Rattle.format.specs.Layout.{formNumber, maxBytes};
 ghost use Rattle.format.specs.Reading.{bitSource};
 ghost use Rattle.format.specs.Reading.Reading.{got};
-ghost use Rattle.format.specs.Format.{Sides, unusedOf, ruleReader};
+ghost use Rattle.format.specs.Forms.{isTaken, unusedOf};
+ghost use Rattle.format.specs.Format.{Sides, ruleReader};
 ghost use Rattle.operations.specs.Jobs.{bookMarks};
 ghost use Rattle.symbols.specs.Table.{signatureOf, maxTableWords};
 ghost use Rattle.symbols.specs.Arities.{Arities};
@@ -59,9 +60,10 @@ fn find_after(book: &[u8], table: &[u16], marked: usize, count: usize, at: usize
     requires { ⌜ (length (now book) ≤ maxBytes) × (at ≤ 8 * length (now book)) ⌝ }
     requires { ⌜ length (now table) ≤ maxTableWords ⌝ }
     ensures { λ r. ⌜
+        ((form : ℕ) → isTaken formNumber form ≡ true →
         r
         ≡ standingIn marked
-        (restReader formNumber true (now (book .entry)) [] (signatureOf (now (table .entry))) count at)
+        (restReader form true (now (book .entry)) [] (signatureOf (now (table .entry))) count at))
         ⌝ }
 {
     if count < marked {

@@ -2,11 +2,12 @@
 ghost use mathlib.Core.Path.{_≡_};
 ghost use mathlib.Core.List.{[], _∷_};
 ghost use mathlib.Core.Bool.{true};
-ghost use Prim.Native.Nat.{_*_, _≤_, _<_};
+ghost use Prim.Native.Nat.{ℕ, _*_, _≤_, _<_};
 ghost use lib.ListN.{length, set};
 ghost use Rattle.format.specs.Layout.{formNumber, maxBytes};
 ghost use Rattle.format.specs.Reading.{bitSource};
-ghost use Rattle.format.specs.Format.{unusedOf, rulesReader};
+ghost use Rattle.format.specs.Forms.{isTaken, unusedOf};
+ghost use Rattle.format.specs.Format.{rulesReader};
 ghost use Rattle.format.specs.Files.{readBytes};
 ghost use Rattle.operations.specs.Marking.{decreasingCount};
 ghost use Rattle.symbols.specs.Table.{signatureOf};
@@ -72,7 +73,7 @@ fn mark_rules(
     requires { ⌜ (count ≤ length (now marks)) × (count < 1024) ⌝ }
     ensures { λ r. ⌜
         AllMarked (signatureOf (now (table .entry)))
-        (rulesReader (bitSource (now (book .entry))) (unusedOf formNumber) (signatureOf (now (table .entry))) count (at))
+        (rulesReader (bitSource (now (book .entry))) (unusedOf formNumber) (signatureOf (now (table .entry))) count at)
         r (now (marks .entry)) (now (marks .exit)) (now (margins .entry)) (now (margins .exit))
         ⌝ }
     ensures { λ r. ⌜ Within count (8 * length (now (book .entry))) r ⌝ }
@@ -110,8 +111,9 @@ fn mark_under(
     requires { ⌜ (length (now book) ≤ maxBytes) × (at ≤ 8 * length (now book)) ⌝ }
     requires { ⌜ IsTable (now table) × (count < 1024) × (1023 ≤ length (now marks)) ⌝ }
     ensures { λ r. ⌜
-        WholeMarked (restReader formNumber true (now (book .entry)) [] (signatureOf (now (table .entry))) count (at)) r
-        (now (marks .entry)) (now (marks .exit)) (now (margins .entry)) (now (margins .exit))
+        ((form : ℕ) → isTaken formNumber form ≡ true →
+        WholeMarked (restReader form true (now (book .entry)) [] (signatureOf (now (table .entry))) count (at)) r
+        (now (marks .entry)) (now (marks .exit)) (now (margins .entry)) (now (margins .exit)))
         ⌝ }
 {
     let arities = symbols::arities(table);

@@ -10,13 +10,13 @@ use Rattle.marking.proofs.one.find_after.Statement.{statement}
 use Rattle.marking.proofs.one.find_after.Tie as tie
 
 returns : tie.Need-returns
-returns c =
+returns c form taken =
     let c3 = c .before .before .before in
     let a = c3 .args in
-    standing-few (a .book .now) (signatureOf (a .table .now)) (a .count) (a .at) (a .marked) (c .if1 .taken)
+    standing-few (a .book .now) form taken (signatureOf (a .table .now)) (a .count) (a .at) (a .marked) (c .if1 .taken)
 
 returns-2 : tie.Need-returns-2
-returns-2 c =
+returns-2 c form taken =
     let c2 = c .before .before in
     let c4 = c2 .before .before in
     let c5 = c4 .before in
@@ -24,7 +24,7 @@ returns-2 c =
     let a = c8 .args in
     let σ = signatureOf (a .table .now) in
     let unread = rw (c .enum-told .given .1) at (c2 .skip-rules .ensures .0 σ (c4 .arities .ensures)) in
-    standing-unread (a .book .now) σ (a .count) (a .at) (a .marked) _ _
+    standing-unread (a .book .now) form taken σ (a .count) (a .at) (a .marked) _ _
     (unread (a .count) (omega (arith, c5 .if1 .left)))
 
 skip-rules-requires-2 : tie.Need-skip-rules-requires-2
@@ -36,7 +36,7 @@ skip-rules-requires-2 c κs =
     (c10 .pre .0 .0, within .1)
 
 returns-3 : tie.Need-returns-3
-returns-3 c =
+returns-3 c form taken =
     let c2 = c .before .before in
     let c5 = c2 .before .before .before in
     let c7 = c5 .before .before in
@@ -49,11 +49,11 @@ returns-3 c =
     let marked = rw (c5 .next .given .1) at (c7 .skip-rules .ensures .0 σ (c9 .arities .ensures)) in
     let (done, so) = marked (a .count) (omega (arith, few)) in
     let unread = rw (c .enum-told2 .given .1) at (c2 .skip-rules2 .ensures .0 σ (c9 .arities .ensures)) in
-    standing-cut (a .book .now) σ (a .count) (a .at) (a .marked) (omega (arith, few)) done _ so _ _
+    standing-cut (a .book .now) form taken σ (a .count) (a .at) (a .marked) (omega (arith, few)) done _ so _ _
     (unread (a .count - a .marked) (omega arith))
 
 returns-4 : tie.Need-returns-4
-returns-4 c =
+returns-4 c form taken =
     let c2 = c .before .before in
     let c4 = c2 .before .before in
     let c6 = c4 .before .before in
@@ -70,11 +70,11 @@ returns-4 c =
     let (done, so) = marked (a .count) (omega (arith, few)) in
     let others = rw (c4 .next2 .given .1) at (c6 .skip-rules2 .ensures .0 σ (c13 .arities .ensures)) in
     let (rest, last) = others (a .count - a .marked) (omega arith) in
-    standing-left (a .book .now) σ (a .count) (a .at) (a .marked) (omega (arith, few)) done _ so rest _ last
+    standing-left (a .book .now) form taken σ (a .count) (a .at) (a .marked) (omega (arith, few)) done _ so rest _ last
     (sym (c2 .is-padding .ensures) ∙ c .before .if2 .taken) (within .1) (c .if3 .taken)
 
 returns-5 : tie.Need-returns-5
-returns-5 c =
+returns-5 c form taken =
     let c2 = c .before .before in
     let c4 = c2 .before .before in
     let c6 = c4 .before .before in
@@ -90,11 +90,11 @@ returns-5 c =
     let (done, so) = marked (a .count) (omega (arith, few)) in
     let others = rw (c4 .next2 .given .1) at (c6 .skip-rules2 .ensures .0 σ (c13 .arities .ensures)) in
     let (rest, last) = others (a .count - a .marked) (omega arith) in
-    standing-done (a .book .now) σ (a .count) (a .at) (a .marked) (omega (arith, few)) done _ so rest _ last
+    standing-done (a .book .now) form taken σ (a .count) (a .at) (a .marked) (omega (arith, few)) done _ so rest _ last
     (sym (c2 .is-padding .ensures) ∙ c .before .if2 .taken) (c .if3 .left)
 
 returns-6 : tie.Need-returns-6
-returns-6 c =
+returns-6 c form taken =
     let c3 = c .before .before .before in
     let c5 = c3 .before .before in
     let c8 = c5 .before .before .before in
@@ -109,7 +109,7 @@ returns-6 c =
     let (done, so) = marked (a .count) (omega (arith, few)) in
     let others = rw (c3 .next2 .given .1) at (c5 .skip-rules2 .ensures .0 σ (c12 .arities .ensures)) in
     let (rest, last) = others (a .count - a .marked) (omega arith) in
-    standing-unended (a .book .now) σ (a .count) (a .at) (a .marked) (omega (arith, few)) done _ so rest _ last
+    standing-unended (a .book .now) form taken σ (a .count) (a .at) (a .marked) (omega (arith, few)) done _ so rest _ last
     (sym (c .before .is-padding .ensures) ∙ c .if2 .left)
 
 pub find-after-spec : {M : Type 1} → statement M

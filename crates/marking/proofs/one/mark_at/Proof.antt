@@ -16,7 +16,7 @@ front-requires : tie.Need-front-requires
 unfolding Reached
 front-requires c κs =
     let c4 = c .before .before .before .before in
-    (rw (c .before .value .given .1) at (c4 .read-head .ensures)) .1 .fewSymbols
+    (rw (c .before .value .given .1) at (c4 .read-head .ensures)) .fewSymbols
 
 slice-aggregate-mark-there : tie.Need-slice-aggregate-mark-there
 unfolding Reached
@@ -32,9 +32,9 @@ mark-there-requires c κs =
     let c6 = c3 .before .before .before in
     let c11 = c6 .before .before .before .before .before in
     let head = rw (c3 .value .given .1) at (c6 .read-head .ensures) in (
-      (head .1 .short, c11 .pre),
+      (head .short, c11 .pre),
       rw (c .before .front .ensures .0)
-          (is-table (c11 .args .book .now) _ _ _ _ (sym (c6 .read-head .kept .1 .1 .1 .1 .0)) (head .1)),
+          (is-table _ (c11 .args .book .now) _ _ _ _ _ (sym (c6 .read-head .kept .1 .1 .1 .1 .0)) head),
     )
 
 returns : tie.Need-returns
@@ -55,8 +55,8 @@ returns-2 c marked h =
     let c12 = c7 .before .before .before .before .before in
     let a = c12 .args in
     let head = rw (c4 .value .given .1) at (c7 .read-head .ensures) in
-    mark-found (a .book .now) marked (a .at) h _ _ _ _ (sym (read-packed formNumber (a .book .now) []) ∙ head .0)
-    (head .1 .within) (rw (c2 .front .ensures .0) at (c .mark-there .ensures))
+    mark-found (a .book .now) marked (a .at) h (head .form) (head .taken) _ _ _ _
+    (sym (read-packed formNumber (a .book .now) []) ∙ head .whole) (head .within) (rw (c2 .front .ensures .0) at (c .mark-there .ensures))
 
 pub mark-at-spec : {M : Type 1} → statement M
 mark-at-spec =

@@ -113,8 +113,8 @@ fn mark_there(book: &[u8], table: &[u16], at: usize) -> u8
         ⌝ }
 {
     let arities = symbols::arities(table);
-    let mut adds = [0u64; measures::NODE_SUMS];
-    measures::nodes::put_node_sums(table, &mut adds);
+    let mut adds = [0u64; weights::NODE_SUMS];
+    weights::nodes::put_node_sums(table, &mut adds);
     match crate::rule::mark_rule(book, table, &arities, &adds, at) {
         RuleReading::Fault { .. } => 0,
         RuleReading::Got(rule) => rule.mark,

@@ -10,11 +10,11 @@ ghost use Rattle.format.specs.Format.{Sides, sideReader, ruleReader};
 ghost use Rattle.format.specs.Statements.{IsTerm};
 ghost use Rattle.symbols.specs.Table.{signatureOf};
 ghost use Rattle.symbols.specs.Arities.{Arities};
-ghost use Rattle.measures.specs.Nodes.{NodeSums};
+ghost use Rattle.weights.specs.Nodes.{NodeSums};
 ghost use Rattle.marking.specs.Rule.{IsTable, Marks, MarksRead, MarkedWithin};
 use answers::Answer;
-use measures::NODE_SUMS;
-use measures::totals::total;
+use weights::NODE_SUMS;
+use weights::totals::total;
 
 // A rule's mark and margin, and the offset past it.
 pub struct MarkedRule {
@@ -50,7 +50,7 @@ fn mark_sides(
     let t = total(table, adds, right);
     MarkedRule {
         mark: order::mark::mark(table, adds, left, s, right, t),
-        margin: measures::totals::margin(s, t),
+        margin: weights::totals::margin(s, t),
         next,
     }
 }

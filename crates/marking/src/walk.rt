@@ -13,7 +13,7 @@ ghost use Rattle.operations.specs.Marking.{decreasingCount};
 ghost use Rattle.symbols.specs.Table.{signatureOf};
 ghost use Rattle.symbols.specs.Arities.{Arities};
 ghost use Rattle.answers.specs.Answer.{Within};
-ghost use Rattle.measures.specs.Nodes.{NodeSums};
+ghost use Rattle.weights.specs.Nodes.{NodeSums};
 ghost use Rattle.reader.specs.File.{restReader};
 ghost use Rattle.marking.specs.Rule.{IsTable, AllMarked, WholeMarked};
 use crate::rule::RuleReading;
@@ -59,7 +59,7 @@ fn mark_rules(
     book: &[u8],
     table: &[u16],
     arities: &[u32; format::NODE_WORDS],
-    adds: &[u64; measures::NODE_SUMS],
+    adds: &[u64; weights::NODE_SUMS],
     marks: &mut [u8],
     margins: &mut [i64],
     count: usize,
@@ -117,8 +117,8 @@ fn mark_under(
         ⌝ }
 {
     let arities = symbols::arities(table);
-    let mut adds = [0u64; measures::NODE_SUMS];
-    measures::nodes::put_node_sums(table, &mut adds);
+    let mut adds = [0u64; weights::NODE_SUMS];
+    weights::nodes::put_node_sums(table, &mut adds);
     match mark_rules(book, table, &arities, &adds, marks, margins, count, at) {
         Answer::Fault { code, offset } => FileMarked::Fault { code, offset },
         Answer::Got { value, next } => {

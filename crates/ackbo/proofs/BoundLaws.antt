@@ -175,9 +175,9 @@ pub oftener-small : (bytes left right : List ℕ) → Small (length left) → Sm
     Small (numberOf countOf (oftener bytes left right))
 unfolding oftener
 oftener-small bytes left right h g =
-    inputs-small countOf readTerm (λ i. firstOftener (i .left) (i .right)) bytes left right
+    inputs-small countOf readTerm (λ i. firstOftener (i .signature) (i .left) (i .right)) bytes left right
     (λ σ words code offset. faults-within words code offset .2 σ .0) h g
-    λ i e. omega (arith, firstOftener-le (i .left) (i .right))
+    λ i e. omega (arith, firstOftener-le (i .signature) (i .left) (i .right))
 
 -- A fingerprint has 32 bits.
 pub fingerprinted-small : (bytes words : List ℕ) → Small (length words) →

@@ -23,7 +23,7 @@ module _ (bytes table left right : List ℕ) (x : Ends) where
 
   pub tested : (n l r : ℕ) → x ≡ Read n l r →
       InputsRead table left right (readInputs readTerm bytes left right) x → (v : ℕ) →
-      v ≡ firstOftener (termOf (signatureOf (take n table)) (take l left))
+      v ≡ firstOftener (signatureOf (take n table)) (termOf (signatureOf (take n table)) (take l left))
       (termOf (signatureOf (take n table)) (take r right)) → accepted v ≡ oftener bytes left right
   unfolding oftener
   tested n l r e read v d = ap accepted d ∙ rw ((rw e at read) .3 .read)

@@ -18,7 +18,7 @@ fn oftener_read(table: &[u16], left: &[u16], right: &[u16]) -> usize
     requires { ⌜ IsTerm (signatureOf (now table)) (now left) × IsTerm (signatureOf (now table)) (now right) ⌝ }
     ensures { λ r. ⌜
         r
-        ≡ firstOftener (termOf (signatureOf (now (table .entry))) (now (left .entry)))
+        ≡ firstOftener (signatureOf (now (table .entry))) (termOf (signatureOf (now (table .entry))) (now (left .entry)))
         (termOf (signatureOf (now (table .entry))) (now (right .entry)))
         ⌝ }
 {

@@ -14,7 +14,7 @@ use Rattle.terms.specs.Term.Term.{app}
 use Rattle.terms.specs.Equivalence.{Equivalent, Equivalents, pair}
 use Rattle.terms.specs.Equivalence.Equivalent.{same, back, then, under, exchange, regroup}
 use Rattle.terms.specs.Equivalence.Equivalents.{none, each}
-use Rattle.terms.proofs.EquivalenceMeasures.{measure-resp-equivalent}
+use Rattle.terms.proofs.EquivalenceMeasures.{plain-resp-equivalent}
 use Rattle.multisets.proofs.Relations.{eqb-self}
 use Rattle.subterms.specs.Parts.{rootWord}
 use Rattle.equivalence.specs.Keys.{mixed, added, hash, hashes, keyOf}
@@ -76,4 +76,4 @@ module _ (σ : Signature) where
 
   pub key-of-equivalent : {s t : Term} → Equivalent σ s t → keyOf σ s ≡ keyOf σ t
   key-of-equivalent d =
-      rw (hash-resp-equivalent d, rootWord-resp-equivalent d, measure-resp-equivalent σ (λ x. 1) (λ f. 1) d)
+      rw (hash-resp-equivalent d, rootWord-resp-equivalent d, plain-resp-equivalent σ (λ x. 1) (λ f. 1) d)

@@ -21,7 +21,7 @@ use Rattle.format.specs.Layout.{acWidth, rankWidth, maxNodes}
 use Rattle.format.specs.Reading.{Source}
 use Rattle.format.specs.Reading.Reading.{got}
 use Rattle.format.specs.Forms.{isTaken, unusedOf, leastWeightIn}
-use Rattle.format.specs.Symbols.{heldBy, firstOutranked}
+use Rattle.format.specs.Symbols.{heldBy, ones, firstOutranked}
 use Rattle.format.specs.Symbols.{symbolReader, symbolsReader, weightOffset, symbolTableReader}
 use Rattle.format.specs.Format.{Sides, RuleFile}
 use Rattle.format.specs.Format.{forestReader, sideReader, ruleReader, rulesReader, bodyReader, fileReader}
@@ -38,6 +38,7 @@ pub record SymbolOk (least : ℕ → ℕ) (earlier : List Symbol) (s : Symbol) :
   pub acBinary : (eqb (cond (s .ac) 1 0) 0 || eqb (s .arity) 2) ≡ true
   pub weighs : leb (least (s .arity)) (s .weight) ≡ true
   pub fresh : not (heldBy earlier (s .precedence)) ≡ true
+  pub plain : s .coefficients ≡ ones (s .arity)
 
 -- Each symbol after those before it.
 pub data SymbolsOk (least : ℕ → ℕ) : List Symbol → List Symbol → Type 0 where
@@ -175,7 +176,7 @@ module _ (source : Source) where
       Spells source (symbolItems s) at end → symbolReader source least earlier at ≡ got s end
   unfolding symbolReader
   symbol-reads {s = s} ok (more e₁ (more e₂ (more e₃ (more e₄ none)))) =
-      rw (e₁, e₂, ok .acBinary, e₃, ok .weighs, e₄, ok .fresh, ac-same (s .ac))
+      rw (e₁, e₂, ok .acBinary, e₃, ok .weighs, e₄, ok .fresh, ac-same (s .ac), ← ok .plain)
 
   symbols-reads : {least : ℕ → ℕ} {earlier ss : List Symbol} → SymbolsOk least earlier ss → (at end : ℕ) →
       Spells source (flatMap symbolItems ss) at end →
@@ -208,8 +209,15 @@ module _ (source : Source) where
         holds-then _ (source .field rankWidth at₃) _ λ rank end e₄.
         holds-require _ (not (heldBy earlier rank)) _ at₃ end _ λ fresh.
         let same = ac-back ac (fits acWidth at₁ ac at₂ e₂) in
-        let ok : SymbolOk least earlier (record { arity = arity; ac = eqb ac 1; weight = weight; precedence = rank }) =
-        record { acBinary = rw same binary; weighs = weighs; fresh = fresh } in
+        let s : Symbol = record {
+          arity = arity;
+          ac = eqb ac 1;
+          weight = weight;
+          precedence = rank;
+          coefficients = ones arity;
+        } in
+        let ok : SymbolOk least earlier s =
+        record { acBinary = rw same binary; weighs = weighs; fresh = fresh; plain = refl } in
         (ok, rw same (more e₁ (more e₂ (more e₃ (more e₄ none)))))
 
     pub symbols-read : (least : ℕ → ℕ) (n : ℕ) (earlier : List Symbol) (at : ℕ) →

@@ -31,7 +31,7 @@ use Rattle.format.proofs.FormatLaws.{Forest, RulesOk, side-read}
 use Rattle.format.proofs.CodingLaws.{wordAt, word-coding}
 use Rattle.format.proofs.FileLaws.{Readable, nodes-each}
 use Rattle.format.proofs.SideLaws.{side-formed, forest-le}
-use Rattle.format.proofs.SymbolLaws.{admissible-of-symbols, fits-at}
+use Rattle.format.proofs.SymbolLaws.{plain-of-symbols, admissible-of-symbols, fits-at}
 
 forest-term : (σ : Signature) (ws : List ℕ) → Forest σ maxNodes 1 ws → AllFit (map node ws) → IsTerm σ ws
 forest-term σ ws f fits =
@@ -64,6 +64,7 @@ module _ (form : ℕ) (f : RuleFile) (r : Readable form f) where
         admissible =
             admissible-of-symbols (f .form) σ (r .ok .symbolsOk) (r .ok .noneOutranked)
             (ltb-true 0 (σ .w0) (r .ok .variableWeighs));
+        plain = plain-of-symbols (f .form) σ (r .ok .symbolsOk) (r .ok .noneOutranked);
         someSymbol = ltb-true 0 (length (σ .symbols)) (r .ok .someSymbol);
         within = record {
           symbolCount = count;

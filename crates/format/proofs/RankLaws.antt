@@ -22,7 +22,7 @@ use Rattle.format.proofs.ReadingLaws.{HoldsOf, holds-got, holds-map, ho
 
 -- What a signature says of a number that is no symbol's.
 abbrev pub absent : Symbol
-absent = record { arity = 0; ac = false; weight = 0; precedence = 0 }
+absent = record { arity = 0; ac = false; weight = 0; precedence = 0; coefficients = [] }
 
 pub outranks-false : (ss : List Symbol) (rank : ℕ) → outranks ss rank ≡ false → (g : ℕ) → g < length ss →
     getD ss g absent .precedence ≤ rank

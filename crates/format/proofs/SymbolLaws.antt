@@ -16,12 +16,14 @@ use lib.Seq.{getD-take, length-take-le}
 use lib.Dec.{eqb, lit<}
 use borrow.Author.Tests.{eqb-true, leb-true, eq-eqb, le-leb, not-true}
 use Rattle.multisets.proofs.Relations.{byOrder, byTest, eqb-self}
-use Rattle.terms.specs.Signature.{Symbol, Signature, symbolOf, leastWeight, ZeroWeightUnary, Admissible}
+use Rattle.terms.specs.Signature.{Symbol, Signature, symbolOf, leastWeight, Ones, ZeroWeightUnary, Admissible}
+use Rattle.terms.proofs.MeasureLaws.{replicate-ones, positive-of-ones}
 use Rattle.format.specs.Layout.{formNumber}
 use Rattle.format.specs.Forms.{isTaken, leastWeightIn}
-use Rattle.format.specs.Symbols.{heldBy, firstOutranked}
+use Rattle.format.specs.Symbols.{heldBy, ones, firstOutranked}
 use Rattle.format.specs.Packing.{symbolItems}
 use Rattle.format.proofs.SpellingLaws.{AllFit, all-fit-append, all-fit-split}
+use Rattle.format.specs.Statements.{Plain}
 use Rattle.format.proofs.FormLaws.{taken-least}
 use Rattle.format.proofs.FormatLaws.{SymbolOk, SymbolsOk}
 use Rattle.format.proofs.FormatLaws.SymbolsOk.{noSymbol, symbol}
@@ -66,9 +68,12 @@ pub symbols-weigh : (least least' : ℕ → ℕ) (ss : List Symbol) → SymbolsO
 symbols-weigh least least' ss oks h =
     symbols-of least' [] ss λ f l.
     let ok = symbols-at oks f l in
-    record { acBinary = ok .acBinary; weighs = le-leb _ _ (h f l); fresh = ok .fresh }
+    record { acBinary = ok .acBinary; weighs = le-leb _ _ (h f l); fresh = ok .fresh; plain = ok .plain }
 
 -- ---- an admissible signature
+
+pub ones-of-plain : (σ : Signature) → Plain σ → Ones σ
+ones-of-plain σ p f = rw (p f) (replicate-ones (symbolOf σ f .arity))
 
 least-in : (form w0 arity : ℕ) → leastWeight w0 arity ≤ leastWeightIn form w0 arity
 least-in form w0 zero = omega arith
@@ -92,6 +97,11 @@ module _ (form : ℕ) (σ : Signature) (oks : SymbolsOk (leastWeightIn form (σ 
       (λ h. eqb-true (symbolOf σ f .arity) 2 (rw e at (symbols-at oks f h .acBinary)))
       λ h. absurd (false≢true (rw (List·getD-eq-default (σ .symbols) absent h) at e))
 
+  pub plain-of-symbols : Plain σ
+  plain-of-symbols f =
+      byOrder f (length (σ .symbols)) (λ h. symbols-at oks f h .plain)
+      λ h. rw (List·getD-eq-default (σ .symbols) absent h)
+
   pub admissible-of-symbols : 0 < σ .w0 → Admissible σ
   admissible-of-symbols positive =
       record {
@@ -108,6 +118,8 @@ module _ (form : ℕ) (σ : Signature) (oks : SymbolsOk (leastWeightIn form (σ 
         zeroWeightHighest = λ f g hf hg z.
             outranks-false (σ .symbols) (symbolOf σ f .precedence)
             (ranked-of (σ .symbols) (σ .symbols) (eqb-true _ _ ranked) f hf (z .unary) (z .weightless)) g hg;
+        acOnes = λ f e. ones-of-plain σ plain-of-symbols f;
+        coefficientsPositive = λ f. positive-of-ones _ (ones-of-plain σ plain-of-symbols f);
       }
 
 least-now : (w0 arity weight : ℕ) → leastWeight w0 arity ≤ weight → leastWeightIn formNumber w0 arity ≤ weight
@@ -119,7 +131,7 @@ binary-test : (ac : Bool) (arity : ℕ) → (ac ≡ true → arity ≡ 2) → (e
 binary-test false arity h = refl
 binary-test true arity h = rw (h refl)
 
-module _ (σ : Signature) (A : Admissible σ) where
+module _ (σ : Signature) (A : Admissible σ) (plain : Plain σ) where
   fresh-at : (f : ℕ) → f < length (σ .symbols) →
       not (heldBy (take f (σ .symbols)) (symbolOf σ f .precedence)) ≡ true
   fresh-at f l =
@@ -144,6 +156,7 @@ module _ (σ : Signature) (A : Admissible σ) where
         acBinary = binary-test _ _ (A .acBinary f);
         weighs = le-leb _ _ (enough f l);
         fresh = fresh-at f l;
+        plain = plain f;
       }
 
   pub ranked-of-admissible : eqb (firstOutranked (σ .symbols)) (length (σ .symbols)) ≡ true

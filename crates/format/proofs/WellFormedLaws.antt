@@ -72,8 +72,8 @@ well-formed-readable file t w =
         formTaken = t;
         someSymbol = lt-ltb 0 (length (σ .symbols)) (w .someSymbol);
         variableWeighs = lt-ltb 0 (σ .w0) (w .admissible .variableWeighs);
-        symbolsOk = symbols-of-admissible σ (w .admissible) (file .form) t;
-        noneOutranked = ranked-of-admissible σ (w .admissible);
+        symbolsOk = symbols-of-admissible σ (w .admissible) (w .plain) (file .form) t;
+        noneOutranked = ranked-of-admissible σ (w .admissible) (w .plain);
         rulesOk = ok;
       };
       fits = (taken-fits (file .form) t, (within .symbolCount, (within .w0, (within .ruleCount, rest))));

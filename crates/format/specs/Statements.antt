@@ -18,7 +18,7 @@ use Rattle.format.specs.Layout.{symbolCountWidth, weightWidth, ruleCount
 use Rattle.format.specs.Layout.{formNumber, maxBytes}
 use Rattle.format.specs.Reading.{bitSource, wordSource}
 use Rattle.format.specs.Reading.Reading.{got, fault}
-use Rattle.format.specs.Symbols.{symbolsReader, weightOffset}
+use Rattle.format.specs.Symbols.{ones, symbolsReader, weightOffset}
 use Rattle.format.specs.Forms.{isTaken, unusedOf}
 use Rattle.format.specs.Format.{Sides, RuleFile, systemOf}
 use Rattle.format.specs.Packing.{packed, unpacked}
@@ -46,10 +46,15 @@ pub record IsTerm (σ : Signature) (ws : List ℕ) : Type 0 where
   pub wellFormed : WellFormed σ (termOf σ ws)
   pub short : length ws ≤ maxNodes
 
+-- Each symbol has a coefficient of 1 for each argument.
+abbrev pub Plain : Signature → Type 0
+Plain σ = (f : ℕ) → symbolOf σ f .coefficients ≡ ones (symbolOf σ f .arity)
+
 -- An admissible signature of from 1 to 255 symbols, and rules whose sides are the words of terms, with the variables in
 -- the order that the form asks for.
 pub record WellFormedFile (file : RuleFile) : Type 0 where
   pub admissible : Admissible (file .signature)
+  pub plain : Plain (file .signature)
   pub someSymbol : 0 < length (file .signature .symbols)
   pub within : WithinWidths file
   pub sides : (r : Sides) → List·Memᴰ r (file .rules) →

@@ -5,7 +5,7 @@
 use mathlib.Core.List.{List, [], _∷_, _++_}
 use mathlib.Core.Bool.{Bool, false, cond, _&&_, _||_, not}
 use Prim.Native.Nat.{ℕ, suc, zero, _+_, _*_}
-use lib.ListN.{length}
+use lib.ListN.{length, replicate}
 use lib.Dec.{eqb, ltb, leb}
 use Rattle.terms.specs.Signature.{Symbol}
 use Rattle.format.specs.Errors.{acNotBinary, weightInadmissible, rankTaken}
@@ -15,6 +15,10 @@ use Rattle.format.specs.Reading.{Reader, _>>=_, _>>_, give, here, requir
 abbrev pub heldBy : List Symbol → ℕ → Bool
 heldBy [] rank = false
 heldBy (s ∷ ss) rank = eqb rank (s .precedence) || heldBy ss rank
+
+-- A coefficient of 1 for each argument. 02, order 9: "Form 2 reads as all ones".
+abbrev pub ones : ℕ → List ℕ
+ones arity = replicate arity 1
 
 -- Some symbol has a higher rank.
 abbrev pub outranks : List Symbol → ℕ → Bool
@@ -45,7 +49,7 @@ module _ (source : Source) where
     rankOffset ← here
     rank ← source .field rankWidth
     require (not (heldBy earlier rank)) rankTaken rankOffset
-    give (record { arity = arity; ac = eqb ac 1; weight = weight; precedence = rank })
+    give (record { arity = arity; ac = eqb ac 1; weight = weight; precedence = rank; coefficients = ones arity })
 
   -- So many symbols more, after the earlier ones.
   unfoldable pub symbolsReader : (ℕ → ℕ) → ℕ → List Symbol → Reader (List Symbol)

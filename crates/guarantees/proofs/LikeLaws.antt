@@ -54,7 +54,7 @@ module _ (σ : Signature) (A : Admissible σ) where
     terms-alike : (s t : Term) → WellFormed σ s → WellFormed σ t → Equivalent σ s t →
         Alike (readTerm σ (words s)) (readTerm σ (words t))
     terms-alike s t v w d =
-        let e : size s ≡ size t = measures-respect-equivalence σ s t d .size in
+        let e : size s ≡ size t = measures-respect-equivalence σ (A .acOnes) s t d .size in
         byOrder maxNodes (size t)
         (λ h. rw (well-formed-reads σ few s v .1 (omega arith), well-formed-reads σ few t w .1 h) faults)
         λ h. rw (well-formed-reads σ few s v .0 (omega arith) .0, well-formed-reads σ few t w .0 h .0)
@@ -85,15 +85,16 @@ module _ (σ : Signature) (A : Admissible σ) where
           order-invariant σ A s t v w s' t' d e,
           order-invariant σ A t s w v t' s' e d,
           equivalent-like,
-          measures-respect-equivalence σ s s' d .weight,
-          measures-respect-equivalence σ t t' e .weight,
+          measures-respect-equivalence σ (A .acOnes) s s' d .weight,
+          measures-respect-equivalence σ (A .acOnes) t t' e .weight,
         )
 
 pub oftener-like : (σ : Signature) → Admissible σ → (s s' t t' : Term) → WellFormed σ s → WellFormed σ s' →
-    WellFormed σ t → WellFormed σ t' → Equivalent σ s s' → Equivalent σ t t' → firstOftener s t ≡ firstOftener s' t'
+    WellFormed σ t → WellFormed σ t' → Equivalent σ s s' → Equivalent σ t t' →
+    firstOftener σ s t ≡ firstOftener σ s' t'
 oftener-like σ A s s' t t' v v' w w' d e =
-    firstOftener-same s t s' t' (λ x. measures-respect-equivalence σ s s' d .occurrences x)
-    λ x. measures-respect-equivalence σ t t' e .occurrences x
+    firstOftener-same σ s t s' t' (λ x. measures-respect-equivalence σ (A .acOnes) s s' d .variableCoefficients x)
+    λ x. measures-respect-equivalence σ (A .acOnes) t t' e .variableCoefficients x
 
 -- ---- the fingerprint of one term
 

@@ -5,7 +5,7 @@ use mathlib.Core.Bool.{true}
 use Prim.Native.Nat.{ℕ, _≤_}
 use native.Mathlib.Omega.{arith}
 use lib.ListN.{length, getD, take, length-map}
-use Rattle.terms.specs.Signature.{Admissible}
+use Rattle.terms.specs.Signature.{Admissible, Ones}
 use Rattle.terms.specs.Term.Term.{var}
 use Rattle.terms.specs.Words.{firstVariable, words}
 use Rattle.terms.specs.Order.{mark, margin}
@@ -26,6 +26,7 @@ use Rattle.operations.specs.Replies.{_>>=_, fromInput}
 use Rattle.operations.specs.Replies.Reply.{accepted}
 use Rattle.format.specs.Statements.{IsRead}
 use Rattle.format.specs.Statements.IsRead.{fromBytes}
+use Rattle.format.proofs.SymbolLaws.{ones-of-plain}
 use Rattle.format.proofs.Theorems.{readable-well-formed}
 use Rattle.operations.specs.Marking.{marksOf, isDecreasing, summaryOf}
 use Rattle.operations.specs.Inputs.{readTerms, readInputs}
@@ -81,6 +82,10 @@ module _ (bytes : List ℕ) (file : RuleFile) (h : Holds bytes file) where
 
   admissible : Admissible (file .signature)
   admissible = readable-well-formed file read .0 .admissible
+
+  -- 02: "Form 2 reads as all ones".
+  one : Ones (file .signature)
+  one = ones-of-plain (file .signature) (readable-well-formed file read .0 .plain)
 
   few : length (file .signature .symbols) ≤ firstVariable
   few = omega (arith, readable-well-formed file read .0 .within .symbolCount)
@@ -162,7 +167,8 @@ like-comparisons-agree bytes left left' right right' h =
 pub like-variable-tests-agree : LikeVariableTestsAgree
 unfolding oftener
 like-variable-tests-agree bytes left left' right right' h =
-    replies-agree (λ i. firstOftener (i .left) (i .right)) oftener-like (like-inputs bytes left left' right right' h)
+    replies-agree (λ i. firstOftener (i .signature) (i .left) (i .right)) oftener-like
+    (like-inputs bytes left left' right right' h)
 
 pub like-fingerprints-agree : LikeFingerprintsAgree
 unfolding fingerprinted
@@ -206,7 +212,7 @@ relation-as-steinbach bytes file h L s t v w =
     let σ = file .signature in
     let A = admissible bytes file h in
     relation-exact σ A (SteinbachGreater σ)
-    (λ a b x y. rw (agrees-with-steinbach σ L A a b x y) (test-decides-steinbach σ A a b x y)) s t v w
+    (λ a b x y. rw (agrees-with-steinbach σ (one bytes file h) L A a b x y) (test-decides-steinbach σ A a b x y)) s t v w
 
 pub compares-as-steinbach : ComparesAsSteinbach
 compares-as-steinbach bytes file h L s t v w i j r =

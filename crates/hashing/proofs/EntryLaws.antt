@@ -23,7 +23,7 @@ use Rattle.hashing.specs.Entries.{rootIn, keptIn, keptOf, termEntry, fin
 
 module _ (σ : Signature) (few : length (σ .symbols) ≤ firstVariable) where
   pub past-last : (w : ℕ) → firstVariable ≤ w →
-      symbolOf σ w ≡ record { arity = 0; ac = false; weight = 0; precedence = 0 }
+      symbolOf σ w ≡ record { arity = 0; ac = false; weight = 0; precedence = 0; coefficients = [] }
   past-last w h = List·getD-eq-default (σ .symbols) _ (omega arith)
 
   -- ---- what an entry tells

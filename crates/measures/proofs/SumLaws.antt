@@ -7,8 +7,9 @@ use Prim.Native.Nat.{ℕ, _+_, _-_, _*_, _≤_, _<_}
 use native.Mathlib.Omega.{arith}
 use native.Mathlib.Nat.{add-zero}
 use lib.ListN.{length, getD, drop}
-use Rattle.terms.specs.Signature.{Signature}
-use Rattle.terms.specs.Term.{size, weight, measure}
+use Rattle.terms.specs.Signature.{Signature, coefficientsOf}
+use Rattle.terms.proofs.MeasureLaws.{measure-ones}
+use Rattle.terms.specs.Term.{size, weight, measure, plain}
 use Rattle.subterms.specs.Parts.{partAt}
 use Rattle.equivalence.specs.Keys.{Prepared, sizeIn}
 use Rattle.subterms.proofs.PartLaws.{next, stand-one}
@@ -31,11 +32,11 @@ pub record PartSums (σ : Signature) (ws sums : List ℕ) (i w : ℕ) : Type 0 w
 
 module _ {σ : Signature} {ws keys : List ℕ} (P : Prepared σ ws keys) (i : ℕ) (h : i < length ws) where
   nodes-part : (v w : ℕ → ℕ) →
-      nodes v w (drop i ws) ≡ measure v w (partAt σ ws i) + nodes v w (drop (i + sizeIn keys i) ws)
+      nodes v w (drop i ws) ≡ measure plain v w (partAt σ ws i) + nodes v w (drop (i + sizeIn keys i) ws)
   nodes-part v w =
       sym (totals-forest σ v w (drop i ws))
       ∙ ap (totals σ v w) (next σ ws i (P .complete) 1 (stand-one σ ws i h) (omega arith))
-      ∙ ap (λ (n : ℕ). measure v w (partAt σ ws i) + n) (totals-forest σ v w (drop (i + size (partAt σ ws i)) ws))
+      ∙ ap (λ (n : ℕ). measure plain v w (partAt σ ws i) + n) (totals-forest σ v w (drop (i + size (partAt σ ws i)) ws))
       ∙ rw (prepared-size P i h)
 
   module _ {sums : List ℕ} (S : SummedUp σ ws sums) {w : ℕ} (d : w ≡ sizeIn keys i) where
@@ -61,7 +62,8 @@ module _ {σ : Signature} {ws keys : List ℕ} (P : Prepared σ ws keys) (i : �
           weight-le = a;
           low-le = b;
           high-le = c;
-          weight = x;
+          weight = x
+              ∙ sym (measure-ones (coefficientsOf σ) (atVariable σ 0) (atSymbol σ 0) (S .ones) (partAt σ ws i));
           low = y;
           high = z;
           short = omega (arith, fits, prepared-size P i h, P .short);

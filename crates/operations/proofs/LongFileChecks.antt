@@ -6,6 +6,7 @@ use mathlib.Core.Bool.{false}
 use Prim.Native.Nat.{ℕ, suc, zero}
 use lib.ListN.{length, replicate}
 use lib.Dec.{leb, lit<}
+use Rattle.terms.specs.Sample.{entry}
 use Rattle.format.specs.Errors.{fileTooLong}
 use Rattle.format.specs.Layout.{maxBytes}
 use Rattle.format.specs.Reading.{wordBelow}
@@ -29,8 +30,8 @@ file n = record {
   form = 2;
   signature = record {
     w0 = 1;
-    symbols = record { arity = 1; ac = false; weight = 1; precedence = 1 } ∷
-        record { arity = 0; ac = false; weight = 1; precedence = 0 } ∷ [];
+    symbols = entry 1 false 1 1 ∷
+        entry 0 false 1 0 ∷ [];
   };
   rules = replicate n (record { left = side; right = side });
 }
@@ -53,6 +54,7 @@ long-formed =
     let within = one-formed .within in
     record {
       admissible = one-formed .admissible;
+      plain = one-formed .plain;
       someSymbol = one-formed .someSymbol;
       within = record {
         symbolCount = within .symbolCount;

@@ -12,4 +12,4 @@ use Rattle.operations.specs.Inputs.{readInputs}
 unfoldable pub oftener : List ℕ → List ℕ → List ℕ → Reply ℕ
 oftener bytes left right = do
   i ← readInputs readTerm bytes left right
-  accepted (firstOftener (i .left) (i .right))
+  accepted (firstOftener (i .signature) (i .left) (i .right))

@@ -13,7 +13,7 @@ use Rattle.multisets.specs.Multiset.{isEmpty, cancel, rowEqual, rowGreater, mul
 use Rattle.multisets.proofs.Relations.{byTest, eqb-self}
 use Rattle.multisets.proofs.MultisetLaws.{Respects, multisetEqual-length}
 use Rattle.multisets.proofs.MultisetMaps.{multisetEqual-choose}
-use Rattle.terms.specs.Signature.{Signature, symbolOf, AcBinary}
+use Rattle.terms.specs.Signature.{Signature, symbolOf, coefficientsOf, Admissible}
 use Rattle.terms.specs.Term.{Term, Terms, row, weight, isVar, variableCount, flattenings, WellFormed}
 use Rattle.terms.specs.Term.Term.{var, app}
 use Rattle.terms.specs.Equivalence.{Equivalent, isEquivalent}
@@ -104,17 +104,17 @@ module _ (σ : Signature) where
       (λ c. rw (c, flattened-level greater f (flattenings f ss) (flattenings f ts) (rw c at a)))
       λ c. rw (c, rows-level like greater (row ss) (row ts) (rw c at a)))
 
-  module _ (B : AcBinary σ) (s t : Term) (v : WellFormed σ s) (w : WellFormed σ t) (e : like s t ≡ true) where
+  module _ (A : Admissible σ) (s t : Term) (v : WellFormed σ s) (w : WellFormed σ t) (e : like s t ≡ true) where
     derived : Equivalent σ s t
-    derived = isEquivalent→Equivalent σ B s t v w e
+    derived = isEquivalent→Equivalent σ (A .acBinary) s t v w e
 
     same-weight : weight σ s ≡ weight σ t
-    same-weight = measure-resp-equivalent σ _ _ derived
+    same-weight = measure-resp-equivalent σ (coefficientsOf σ) (A .acOnes) _ _ derived
 
-    none-oftener : noneOftener variableCount s t ≡ true
+    none-oftener : noneOftener σ variableCount s t ≡ true
     none-oftener =
-        noneOftener-facts variableCount s t .1 λ x l.
-        omega (arith, measure-resp-equivalent σ (λ y. cond (eqb x y) 1 0) (λ f. 0) derived)
+        noneOftener-facts σ variableCount s t .1 λ x l.
+        omega (arith, measure-resp-equivalent σ (coefficientsOf σ) (A .acOnes) (λ y. cond (eqb x y) 1 0) (λ f. 0) derived)
 
     pub level : (greater : Term → Term → Bool) → decreasingMark σ like greater s t ≡ 0
     unfolding decreasingMark

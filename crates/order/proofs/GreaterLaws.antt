@@ -32,14 +32,14 @@ module _ (σ : Signature) (s t : Term) where
   abbrev pub root : ℕ
   root = rootMark σ (isEquivalent σ) (isGreater σ) s t
 
-  pub unfolds : isGreater σ s t ≡ ltb 0 (byNone (noneOftener variableCount s t) (weight σ s) (weight σ t) root)
+  pub unfolds : isGreater σ s t ≡ ltb 0 (byNone (noneOftener σ variableCount s t) (weight σ s) (weight σ t) root)
   unfolding decreasingMark
   unfolds = isGreater-unfolds σ s t
 
-  pub greater-oftener : {r : ℕ} → r ≡ firstOftener s t → r < variableCount → false ≡ isGreater σ s t
-  greater-oftener e l = rw (unfolds, ← oftener-some s t e l)
+  pub greater-oftener : {r : ℕ} → r ≡ firstOftener σ s t → r < variableCount → false ≡ isGreater σ s t
+  greater-oftener e l = rw (unfolds, ← oftener-some σ s t e l)
 
-  module _ (few : true ≡ noneOftener variableCount s t) {x y : ℕ} (p : x ≡ weight σ s) (q : y ≡ weight σ t) where
+  module _ (few : true ≡ noneOftener σ variableCount s t) {x y : ℕ} (p : x ≡ weight σ s) (q : y ≡ weight σ t) where
     greater-weight : (x ≡ y → ⊥) → ltb y x ≡ isGreater σ s t
     greater-weight d =
         byTest (ltb y x) (λ e. rw (unfolds, ← few, ← p, ← q, e))

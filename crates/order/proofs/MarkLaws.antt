@@ -15,7 +15,7 @@ use lib.ListN.{length, getD}
 use borrow.Author.Tests.{eqb-true, ltb-true, lt-ltb, le-ltb, le-leb, eq-eqb, ne-eqb}
 use Rattle.multisets.specs.Multiset.{rowGreater}
 use Rattle.multisets.proofs.Relations.{byTest, byOrder}
-use Rattle.terms.specs.Signature.{Signature, symbolOf, AcBinary}
+use Rattle.terms.specs.Signature.{Signature, symbolOf, Admissible}
 use Rattle.terms.specs.Term.{Term, Terms, row, weight, variableCount, flattenings, WellFormed}
 use Rattle.terms.specs.Term.Term.{var, app}
 use Rattle.terms.specs.Equivalence.{isEquivalent}
@@ -42,15 +42,15 @@ byMark m none x y like =
 
 module _ (σ : Signature) (s t : Term) where
   whole : mark σ s t
-      ≡ byMark (byNone (noneOftener variableCount s t) (weight σ s) (weight σ t) (root σ s t))
-      (noneOftener variableCount s t) (weight σ s) (weight σ t) (isEquivalent σ s t)
+      ≡ byMark (byNone (noneOftener σ variableCount s t) (weight σ s) (weight σ t) (root σ s t))
+      (noneOftener σ variableCount s t) (weight σ s) (weight σ t) (isEquivalent σ s t)
   unfolding mark decreasingMark
   whole = refl
 
-  pub whole-seven : {r : ℕ} → r ≡ firstOftener s t → r < variableCount → 7 ≡ mark σ s t
-  whole-seven e l = rw (whole, ← oftener-some s t e l)
+  pub whole-seven : {r : ℕ} → r ≡ firstOftener σ s t → r < variableCount → 7 ≡ mark σ s t
+  whole-seven e l = rw (whole, ← oftener-some σ s t e l)
 
-  module _ (e : true ≡ noneOftener variableCount s t) {x y : ℕ} (p : x ≡ weight σ s) (q : y ≡ weight σ t) where
+  module _ (e : true ≡ noneOftener σ variableCount s t) {x y : ℕ} (p : x ≡ weight σ s) (q : y ≡ weight σ t) where
     pub whole-one : y < x → 1 ≡ mark σ s t
     whole-one l = rw (whole, ← e, ← p, ← q, lt-ltb y x l)
 
@@ -174,27 +174,27 @@ mark-falls true like x y r few =
 greater-falls : (σ : Signature) (s t : Term) {m : ℕ} → m ≡ mark σ s t → isGreater σ s t ≡ isDecreasing m
 greater-falls σ s t h =
     unfolds σ s t
-    ∙ mark-falls (noneOftener variableCount s t) (isEquivalent σ s t) (weight σ s) (weight σ t) (root σ s t)
+    ∙ mark-falls (noneOftener σ variableCount s t) (isEquivalent σ s t) (weight σ s) (weight σ t) (root σ s t)
     (root-few σ (isEquivalent σ) (isGreater σ) s t)
     ∙ ap isDecreasing (sym (h ∙ whole σ s t))
 
 -- ---- the relation
 
 module _ (σ : Signature) (s t : Term) {m : ℕ} (h : m ≡ mark σ s t) where
-  module _ (B : AcBinary σ) (v : WellFormed σ s) (w : WellFormed σ t) where
+  module _ (A : Admissible σ) (v : WellFormed σ s) (w : WellFormed σ t) where
     pub unlike-of-mark : (m ≡ 9 → ⊥) → isEquivalent σ s t ≡ false
     unlike-of-mark d =
-        byTest (isEquivalent σ s t) (λ e. absurd (d (h ∙ sym (mark-of-equivalent σ B s t v w e)))) λ e. e
+        byTest (isEquivalent σ s t) (λ e. absurd (d (h ∙ sym (mark-of-equivalent σ A s t v w e)))) λ e. e
 
     pub relation-equivalent : m ≡ 9 → Equivalent ≡ relation σ s t
     unfolding relation
     relation-equivalent e =
-        let decides = byNone (noneOftener variableCount s t) (weight σ s) (weight σ t) (root σ s t) in
-        let a = mark-nine decides (noneOftener variableCount s t) (weight σ s) (weight σ t) (isEquivalent σ s t)
+        let decides = byNone (noneOftener σ variableCount s t) (weight σ s) (weight σ t) (root σ s t) in
+        let a = mark-nine decides (noneOftener σ variableCount s t) (weight σ s) (weight σ t) (isEquivalent σ s t)
         (sym (whole σ s t) ∙ sym h ∙ e) in
         let b = isEquivalent-equivalence σ .symmetric a in
-        let g : isGreater σ s t ≡ false = isGreater-unfolds σ s t ∙ ap (ltb 0) (level σ B s t v w a (isGreater σ)) in
-        let l : isGreater σ t s ≡ false = isGreater-unfolds σ t s ∙ ap (ltb 0) (level σ B t s w v b (isGreater σ)) in
+        let g : isGreater σ s t ≡ false = isGreater-unfolds σ s t ∙ ap (ltb 0) (level σ A s t v w a (isGreater σ)) in
+        let l : isGreater σ t s ≡ false = isGreater-unfolds σ t s ∙ ap (ltb 0) (level σ A t s w v b (isGreater σ)) in
         rw (g, l, a)
 
   pub relation-greater : isDecreasing m ≡ true → Greater ≡ relation σ s t
@@ -207,11 +207,11 @@ module _ (σ : Signature) (s t : Term) {m n : ℕ} (h : m ≡ mark σ s t) (k : 
   unfolding relation
   relation-less p = rw (greater-falls σ s t h ∙ l, greater-falls σ t s k ∙ p)
 
-  pub relation-unrelated : AcBinary σ → WellFormed σ s → WellFormed σ t → (m ≡ 9 → ⊥) → isDecreasing n ≡ false →
+  pub relation-unrelated : Admissible σ → WellFormed σ s → WellFormed σ t → (m ≡ 9 → ⊥) → isDecreasing n ≡ false →
       Unrelated ≡ relation σ s t
   unfolding relation
-  relation-unrelated B v w d p =
-      rw (greater-falls σ s t h ∙ l, greater-falls σ t s k ∙ p, unlike-of-mark σ s t h B v w d)
+  relation-unrelated A v w d p =
+      rw (greater-falls σ s t h ∙ l, greater-falls σ t s k ∙ p, unlike-of-mark σ s t h A v w d)
 
 -- ---- the relation, by the order
 

@@ -98,9 +98,9 @@ module _ (table s : List ℕ) (i : ℕ) (t : List ℕ) (j : ℕ) (h : i < length
         let x = getD t j 0 - 256 in
         let left : partAt σ s i ≡ app f ss = symbol σ s i h v in
         let right : partAt σ t j ≡ var x = variable σ t j k u in
-        let none' : noneOftener variableCount (app f ss) (var x) ≡ true = rw (left, right) at (sym none) in
+        let none' : noneOftener σ variableCount (app f ss) (var x) ≡ true = rw (left, right) at (sym none) in
         let balanced : Balanced σ (app f ss) (var x) = record {
-          none = noneOftener-facts variableCount (app f ss) (var x) .0 none';
+          none = noneOftener-facts σ variableCount (app f ss) (var x) .0 none';
           weights = rw (left, right) at (sym l);
         } in
         let power = power-of-balanced σ A x f ss (rw left at (part-formed σ few s i a))

@@ -36,7 +36,7 @@ module _ (table : List ℕ) where
   weightAt s i = weight σ (partAt σ s i)
 
   abbrev pub noneOftenerAt : List ℕ → ℕ → List ℕ → ℕ → Bool
-  noneOftenerAt s i t j = noneOftener variableCount (partAt σ s i) (partAt σ t j)
+  noneOftenerAt s i t j = noneOftener σ variableCount (partAt σ s i) (partAt σ t j)
 
   -- The first word is a symbol, and the second a variable or lower in the precedence.
   unfoldable pub isHigher : ℕ → ℕ → Bool

@@ -17,7 +17,7 @@ use Rattle.terms.specs.Signature.{Symbol}
 use Rattle.format.specs.Layout.{formNumber, arityWidth, acWidth, weightWidth, rankWidth, maxBytes}
 use Rattle.format.specs.Reading.{Reading, Reader, Source, andThen, require, bitSource, wordSource}
 use Rattle.format.specs.Reading.Reading.{got, fault}
-use Rattle.format.specs.Symbols.{symbolsReader}
+use Rattle.format.specs.Symbols.{ones, symbolsReader}
 use Rattle.format.specs.Files.{readBytesIn, readWords}
 use Rattle.format.specs.Packing.{itemWord, symbolItems}
 use Rattle.format.specs.Packing.Item.{field}
@@ -153,7 +153,8 @@ module _ (packed : Bool) (bytes words : List ℕ) (number at arity n₁ ac n₂ 
   reached-entry = rw (table-next number) (reach _ _ _ _ _ r₃ e₄)
 
   pub entry-stands : packed ≡ false →
-      symbolAt words number ≡ record { arity = arity; ac = eqb ac 1; weight = weight; precedence = rank }
+      symbolAt words number
+      ≡ record { arity = arity; ac = eqb ac 1; weight = weight; precedence = rank; coefficients = ones arity }
   unfolding Reached tableWords
   entry-stands z =
       let a₁ : 4 * number + 4 ≡ at = omega (arith, (rw z at start) .0) in

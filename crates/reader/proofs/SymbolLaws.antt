@@ -23,7 +23,7 @@ use Rattle.format.specs.Errors.{acNotBinary, weightInadmissible, rankTaken}
 use Rattle.format.specs.Layout.{arityWidth, acWidth, weightWidth, rankWidth}
 use Rattle.format.specs.Reading.{Reading, Reader, _>>=_, _>>_, give, here, require, Source}
 use Rattle.format.specs.Reading.Reading.{got, fault}
-use Rattle.format.specs.Symbols.{heldBy, firstOutranked, weightOffset, symbolReader, symbolsReader, symbolTableReader}
+use Rattle.format.specs.Symbols.{ones, heldBy, firstOutranked, weightOffset, symbolReader, symbolsReader, symbolTableReader}
 use Rattle.format.specs.Packing.{itemWord, symbolItems}
 use Rattle.format.proofs.ReadingLaws.{andThen-same}
 use Rattle.format.proofs.RankLaws.{outranked-le}
@@ -97,7 +97,7 @@ module _ (source : Source) (least : ℕ → ℕ) (earlier : List Symbol) where
     require (eqb ac 0 || eqb arity 2) acNotBinary arityOffset
     weight ← tested source weightWidth (leb (least arity)) weightInadmissible
     rank ← tested source rankWidth (λ (rank : ℕ). not (heldBy earlier rank)) rankTaken
-    give (record { arity = arity; ac = eqb ac 1; weight = weight; precedence = rank })
+    give (record { arity = arity; ac = eqb ac 1; weight = weight; precedence = rank; coefficients = ones arity })
 
   pub symbol-parts : (at : ℕ) → symbolReader source least earlier at ≡ partsReader at
   unfolding symbolReader

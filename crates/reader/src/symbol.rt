@@ -9,7 +9,7 @@ ghost use Rattle.terms.specs.Signature.{Symbol};
 ghost use Rattle.format.specs.Errors.{rankTaken};
 ghost use Rattle.format.specs.Layout.{maxBytes, rankWidth};
 ghost use Rattle.format.specs.Forms.{leastWeightIn};
-ghost use Rattle.format.specs.Symbols.{heldBy, symbolReader, symbolsReader};
+ghost use Rattle.format.specs.Symbols.{heldBy, ones, symbolReader, symbolsReader};
 ghost use Rattle.format.specs.Packing.{itemWord, symbolItems};
 ghost use Rattle.symbols.specs.Table.{symbolAt, symbolsAt, tableWords, symbolsWords};
 ghost use Rattle.answers.specs.Answer.{readingOf, Below};
@@ -55,7 +55,8 @@ fn put_entry(
     requires { ⌜ (number < 256) × Room packed (tableWords (number + 1)) (now table) ⌝ }
     ensures { λ _. ⌜
         ((words : List ℕ) (s : Symbol) →
-        s ≡ record { arity = arity; ac = eqb ac 1; weight = weight; precedence = rank } →
+        s
+        ≡ record { arity = arity; ac = eqb ac 1; weight = weight; precedence = rank; coefficients = ones arity } →
         (packed ≡ false → symbolAt words number ≡ s) →
         symbolsAt (tableOf packed words (now (table .exit))) 0 (number + 1)
         ≡ symbolsAt (tableOf packed words (now (table .entry))) 0 number ++ (s ∷ []))

@@ -142,7 +142,7 @@ symbolsWords-snoc [] s = refl
 symbolsWords-snoc (t ∷ ss) s = ap (λ (ws : List ℕ). map itemWord (symbolItems t) ++ ws) (symbolsWords-snoc ss s)
 
 pub entry-words : (arity ac weight rank : ℕ) → ac < 2 → arity ∷ ac ∷ weight ∷ rank ∷ [] ≡
-    map itemWord (symbolItems (record { arity = arity; ac = eqb ac 1; weight = weight; precedence = rank }))
+    map itemWord (symbolItems (symbolAt (0 ∷ 0 ∷ 0 ∷ 0 ∷ arity ∷ ac ∷ weight ∷ rank ∷ []) 0))
 entry-words arity zero weight rank h = refl
 entry-words arity (suc zero) weight rank h = refl
 entry-words arity (suc (suc n)) weight rank h = absurd (omega arith)

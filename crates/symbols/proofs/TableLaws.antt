@@ -1,8 +1,9 @@
 -- What a symbol table says of a symbol, by index.
 --     symbol-at     a symbol's entry is its four words, also past the end
+--     table-ones    every coefficient is 1
 --     symbol-count  how many symbols a table has
 --     few-at        a table of at most 1,025 words has at most 256 symbols
-use mathlib.Core.List.{List}
+use mathlib.Core.List.{List, []}
 use mathlib.Core.Path.{_≡_, refl, sym, ap, _∙_}
 use mathlib.Core.Bool.{false}
 use Prim.Native.Nat.{ℕ, suc, zero, _+_, _-_, _*_, _/_, _≤_, _<_}
@@ -10,11 +11,12 @@ use native.Mathlib.Omega.{arith}
 use native.Mathlib.Nat.{add-zero, zero-add}
 use lib.ListN.{length, getD, List·getD-eq-default}
 use Rattle.multisets.proofs.Relations.{byOrder}
-use Rattle.terms.specs.Signature.{Symbol, symbolOf}
+use Rattle.terms.specs.Signature.{Symbol, symbolOf, Ones}
+use Rattle.terms.proofs.MeasureLaws.{replicate-ones}
 use Rattle.symbols.specs.Table.{symbolAt, symbolsAt, signatureOf}
 
 abbrev none : Symbol
-none = record { arity = 0; ac = false; weight = 0; precedence = 0 }
+none = record { arity = 0; ac = false; weight = 0; precedence = 0; coefficients = [] }
 
 symbols-at : (table : List ℕ) (g n f : ℕ) → f < n → getD (symbolsAt table g n) f none ≡ symbolAt table (f + g)
 symbols-at table g zero f h = absurd (omega arith)
@@ -39,6 +41,11 @@ symbol-at table f =
     byOrder f n (λ h. symbols-at table 0 n f h ∙ ap (symbolAt table) (add-zero f))
     λ h. List·getD-eq-default (symbolsAt table 0 n) none (omega (arith, length-symbols table 0 n))
     ∙ sym (past-end table f h)
+
+pub table-ones : (table : List ℕ) → Ones (signatureOf table)
+table-ones table f k m =
+    replicate-ones (getD table (4 * f + 4) 0) k
+    (rw (ap (λ (s : Symbol). s .coefficients) (symbol-at table f)) at m)
 
 pub symbol-count : (table : List ℕ) → length (signatureOf table .symbols) ≡ (length table - 1) / 4
 unfolding signatureOf

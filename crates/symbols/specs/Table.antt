@@ -5,6 +5,7 @@ use Prim.Native.Nat.{ℕ, suc, zero, _+_, _-_, _*_, _/_}
 use lib.Dec.{eqb}
 use lib.ListN.{length, getD}
 use Rattle.terms.specs.Signature.{Symbol, Signature}
+use Rattle.format.specs.Symbols.{ones}
 use Rattle.format.specs.Packing.{itemWord, symbolItems}
 
 -- The symbol of number f; words past the end are zeros.
@@ -14,6 +15,7 @@ symbolAt table f = record {
   ac = eqb (getD table (4 * f + 5) 0) 1;
   weight = getD table (4 * f + 6) 0;
   precedence = getD table (4 * f + 7) 0;
+  coefficients = ones (getD table (4 * f + 4) 0);
 }
 
 -- The n symbols from number f on.

@@ -4,6 +4,7 @@
 --     iterated-substitute                   substitutions keep the copies
 --     iterated-unary, iterated-weight       the symbol has one argument, and each copy adds its weight
 --     power-of-balanced                     a term that weighs as much as a variable which occurs in it is one
+use mathlib.Core.List.{List}
 use mathlib.Core.Logic.{_⊎_, inl, inr, ⊎-elim}
 use mathlib.Core.Path.{_≡_, refl, sym, ap, _∙_}
 use mathlib.Core.Bool.{true, _&&_, and-eq-true-iff as both, false≢true}
@@ -12,8 +13,10 @@ use native.Mathlib.Omega.{arith}
 use lib.ListN.{length}
 use lib.Dec.{eqb}
 use borrow.Author.Tests.{eq-eqb, eqb-true}
-use Rattle.terms.specs.Signature.{Signature, symbolOf, IsSymbol, ZeroWeightUnary, Admissible}
-use Rattle.terms.specs.Term.{Term, Terms, row, occurrences, weight, WellFormed, WellFormeds}
+use Rattle.terms.specs.Signature.{Signature, scale, others, AllPositive, symbolOf, coefficientsOf, IsSymbol}
+use Rattle.terms.specs.Signature.{ZeroWeightUnary, Admissible}
+use Rattle.terms.specs.Term.{Term, Terms, row, weight, variableCoefficient, WellFormed}
+use Rattle.terms.specs.Term.{WellFormeds}
 use Rattle.terms.specs.Term.Term.{var, app}
 use Rattle.terms.specs.Term.Terms.{nil, cons}
 use Rattle.terms.specs.Equivalence.{Equivalent, Equivalents}
@@ -24,7 +27,8 @@ use Rattle.terms.specs.Iterated.Iterated.{once, more}
 use Rattle.terms.specs.Marks.{Balanced}
 use Rattle.terms.specs.Rewriting.{Substitution, substitute}
 use Rattle.multisets.proofs.Relations.{byTest, eqb-self}
-use Rattle.terms.proofs.RewritingLaws.{occurrencesIn}
+use Rattle.terms.proofs.MeasureLaws.{scale-le, scale-pos, others-each}
+use Rattle.terms.proofs.VariableLaws.{variableCoefficients}
 use Rattle.terms.proofs.WeightLaws.{weights, weight-least}
 
 module _ (f x : ℕ) where
@@ -70,33 +74,44 @@ pub iterated-substitute : (τ : Substitution) {f : ℕ} {s t : Term} → Iterate
 iterated-substitute τ once = once
 iterated-substitute τ (more i) = more (iterated-substitute τ i)
 
-module _ (σ : Signature) where
-  pub iterated-unary : {f : ℕ} {s t : Term} → Iterated f s t → WellFormed σ s → IsSymbol σ f × (symbolOf σ f .arity ≡ 1)
-  iterated-unary once w = (w .0, sym (w .1))
-  iterated-unary (more i) w = (w .0, sym (w .1))
+pub iterated-unary : (σ : Signature) {f : ℕ} {s t : Term} → Iterated f s t → WellFormed σ s →
+    symbolOf σ f .arity ≡ 1
+iterated-unary σ once w = sym (w .1)
+iterated-unary σ (more i) w = sym (w .1)
+
+module _ (σ : Signature) (A : Admissible σ) where
+  argument-le : (f : ℕ) (t : Term) → weight σ t ≤ scale (coefficientsOf σ f) (weight σ t)
+  argument-le f t = scale-le (coefficientsOf σ f) (A .coefficientsPositive f) (weight σ t)
 
   pub iterated-weight : {f : ℕ} {s t : Term} → Iterated f s t → symbolOf σ f .weight + weight σ t ≤ weight σ s
-  iterated-weight once = omega arith
-  iterated-weight (more i) = omega (arith, iterated-weight i)
+  iterated-weight {f} (once {t}) = omega (arith, argument-le f t)
+  iterated-weight {f} (more {s} i) = omega (arith, argument-le f s, iterated-weight i)
 
 module _ (σ : Signature) (A : Admissible σ) (x : ℕ) where
   -- Any other leaf weighs as much as the variable again.
   root-weightless : (g : ℕ) (ts : Terms) → WellFormed σ (app g ts) → weight σ (app g ts) ≤ σ .w0 →
-      0 < occurrences x (app g ts) → ZeroWeightUnary σ g
+      0 < variableCoefficient σ x (app g ts) → ZeroWeightUnary σ g
   root-weightless g nil w l o = absurd (omega arith)
   root-weightless g (cons t nil) w l o =
-      record { unary = sym (w .1); weightless = omega (arith, weight-least σ A t (w .2 .0)) }
+      record {
+        unary = sym (w .1);
+        weightless = omega (arith, weight-least σ A t (w .2 .0), argument-le σ A g t);
+      }
   root-weightless g (cons t (cons u us)) w l o =
+      let ks = others (coefficientsOf σ g) in
       absurd (omega (
         arith,
         A .variableWeighs,
         weight-least σ A t (w .2 .0),
         weight-least σ A u (w .2 .1 .0),
+        argument-le σ A g t,
+        scale-le ks (others-each (coefficientsOf σ g) (A .coefficientsPositive g)) (weight σ u),
       ))
 
   module _ (f : ℕ) (i : IsSymbol σ f) (z : ZeroWeightUnary σ f) where
     mutual
-      power-of-light : (t : Term) → WellFormed σ t → weight σ t ≤ σ .w0 → 0 < occurrences x t → isPower f x t ≡ true
+      power-of-light : (t : Term) → WellFormed σ t → weight σ t ≤ σ .w0 → 0 < variableCoefficient σ x t →
+          isPower f x t ≡ true
       power-of-light (var y) w l o = byTest (eqb x y) (λ e. e) λ e. absurd (let h = rw e at o in omega arith)
       power-of-light (app g ts) w l o =
           let y = root-weightless g ts w l o in
@@ -107,18 +122,21 @@ module _ (σ : Signature) (A : Admissible σ) (x : ℕ) where
           )) in
           both _ _ .1 (
             eq-eqb f g e,
-            one-power-of-light ts (w .1 ∙ y .unary) (w .2) (omega arith) (omega arith),
+            one-power-of-light ts (w .1 ∙ y .unary) (w .2) (coefficientsOf σ g) (A .coefficientsPositive g)
+                (omega arith) (omega arith),
           )
 
-      one-power-of-light : (ts : Terms) → length (row ts) ≡ 1 → WellFormeds σ ts → weights σ ts ≤ σ .w0 →
-          0 < occurrencesIn x ts → isOnePower f x ts ≡ true
-      one-power-of-light nil n w l o = absurd (omega arith)
-      one-power-of-light (cons t nil) n w l o = power-of-light t (w .0) (omega arith) (omega arith)
-      one-power-of-light (cons t (cons u us)) n w l o = absurd (omega arith)
+      one-power-of-light : (ts : Terms) → length (row ts) ≡ 1 → WellFormeds σ ts → (ks : List ℕ) → AllPositive ks →
+          weights σ ts ks ≤ σ .w0 → 0 < variableCoefficients σ x ts ks → isOnePower f x ts ≡ true
+      one-power-of-light nil n w ks p l o = absurd (omega arith)
+      one-power-of-light (cons t nil) n w ks p l o =
+          power-of-light t (w .0) (omega (arith, scale-le ks p (weight σ t)))
+          (scale-pos ks (variableCoefficient σ x t) (omega arith))
+      one-power-of-light (cons t (cons u us)) n w ks p l o = absurd (omega arith)
 
   pub power-of-balanced : (f : ℕ) (ss : Terms) → WellFormed σ (app f ss) → WellFormed σ (var x) →
       Balanced σ (app f ss) (var x) → isPower f x (app f ss) ≡ true
   power-of-balanced f ss v w b =
       let l : weight σ (app f ss) ≤ σ .w0 = omega (arith, b .weights) in
-      let o : 0 < occurrences x (app f ss) = rw eqb-self at (b .none x w) in
+      let o : 0 < variableCoefficient σ x (app f ss) = rw eqb-self at (b .none x w) in
       power-of-light f (v .0) (root-weightless f ss v l o) (app f ss) v l o

@@ -1,5 +1,6 @@
 -- The laws of the definitions of specs/, up to the theorems of specs/Statements.antt.
 pub mod TermLaws
+pub mod MeasureLaws
 pub mod FlatteningLaws
 pub mod FormedTest
 pub mod EquivalenceLaws

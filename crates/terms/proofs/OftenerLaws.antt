@@ -11,21 +11,22 @@ use native.Mathlib.Omega.{arith}
 use lib.Dec.{ltb}
 use borrow.Author.Tests.{ltb-true, ltb-false}
 use Rattle.multisets.proofs.Relations.{byTest, byOrder, refuted}
-use Rattle.terms.specs.Term.{Term, occurrences, variableCount}
+use Rattle.terms.specs.Signature.{Signature}
+use Rattle.terms.specs.Term.{Term, variableCoefficient, variableCount}
 use Rattle.terms.specs.Order.{noneOftener}
 use Rattle.terms.specs.Oftener.{oftenerFrom, firstOftener}
 use Rattle.terms.specs.Statements.{IsFirstOftener}
 use Rattle.terms.proofs.OrderLaws.{noneOftener-facts}
 
-module _ (s t : Term) where
+module _ (σ : Signature) (s t : Term) where
   -- r is the first of the n variables from x on that occurs oftener in t, or the one past them.
   pub record First (x n r : ℕ) : Type 0 where
     pub from : x ≤ r
     pub to : r ≤ x + n
-    pub before : (y : ℕ) → x ≤ y → y < r → occurrences y t ≤ occurrences y s
-    pub found : r < x + n → occurrences r s < occurrences r t
+    pub before : (y : ℕ) → x ≤ y → y < r → variableCoefficient σ y t ≤ variableCoefficient σ y s
+    pub found : r < x + n → variableCoefficient σ r s < variableCoefficient σ r t
 
-  pub oftener-first : (n x : ℕ) → First x n (oftenerFrom x n s t)
+  pub oftener-first : (n x : ℕ) → First x n (oftenerFrom σ x n s t)
   unfolding oftenerFrom
   oftener-first zero x = record {
     from = omega arith;
@@ -34,7 +35,7 @@ module _ (s t : Term) where
     found = λ h. absurd (omega arith);
   }
   oftener-first (suc n) x =
-      let o = ltb (occurrences x s) (occurrences x t) in
+      let o = ltb (variableCoefficient σ x s) (variableCoefficient σ x t) in
       byTest o
       (λ e. rw e (record {
         from = omega arith;
@@ -51,10 +52,10 @@ module _ (s t : Term) where
         found = λ h. rest .found (omega arith);
       })
 
-  pub first-oftener : {x n r : ℕ} → First x n r → r ≡ oftenerFrom x n s t
+  pub first-oftener : {x n r : ℕ} → First x n r → r ≡ oftenerFrom σ x n s t
   first-oftener {x} {n} {r} f =
       let g = oftener-first n x in
-      let q = oftenerFrom x n s t in
+      let q = oftenerFrom σ x n s t in
       byOrder r q
       (λ l. absurd (omega (arith, f .from, g .to, g .before r (f .from) l, f .found (omega (arith, g .to)))))
       λ l. byOrder q r
@@ -79,24 +80,24 @@ module _ (s t : Term) where
 
   -- ---- the order's test
 
-  pub oftener-some : {r : ℕ} → r ≡ firstOftener s t → r < variableCount → false ≡ noneOftener variableCount s t
+  pub oftener-some : {r : ℕ} → r ≡ firstOftener σ s t → r < variableCount → false ≡ noneOftener σ variableCount s t
   unfolding firstOftener
   oftener-some {r} e l =
       let f = rw (sym e) at (oftener-first variableCount 0) in
-      sym (refuted (noneOftener variableCount s t) λ d.
-      omega (arith, noneOftener-facts variableCount s t .0 d r l, f .found l))
+      sym (refuted (noneOftener σ variableCount s t) λ d.
+      omega (arith, noneOftener-facts σ variableCount s t .0 d r l, f .found l))
 
-  pub oftener-none : {r : ℕ} → r ≡ firstOftener s t → variableCount ≤ r → true ≡ noneOftener variableCount s t
+  pub oftener-none : {r : ℕ} → r ≡ firstOftener σ s t → variableCount ≤ r → true ≡ noneOftener σ variableCount s t
   unfolding firstOftener
   oftener-none e l =
       let f = rw (sym e) at (oftener-first variableCount 0) in
-      sym (noneOftener-facts variableCount s t .1 λ x h. f .before x (omega arith) (omega arith))
+      sym (noneOftener-facts σ variableCount s t .1 λ x h. f .before x (omega arith) (omega arith))
 
-  pub first-answer : IsFirstOftener s t (firstOftener s t)
+  pub first-answer : IsFirstOftener σ s t (firstOftener σ s t)
   unfolding firstOftener
   first-answer =
       let f = oftener-first variableCount 0 in
-      let x = firstOftener s t in
+      let x = firstOftener σ s t in
       record {
         before = λ y h. f .before y (omega arith) h;
         oftener = f .found;
@@ -107,17 +108,17 @@ module _ (s t : Term) where
       }
 
 -- Terms with the same occurrences are not told apart.
-oftenerFrom-same : (n x : ℕ) (s t s' t' : Term) → ((y : ℕ) → occurrences y s ≡ occurrences y s') →
-    ((y : ℕ) → occurrences y t ≡ occurrences y t') → oftenerFrom x n s t ≡ oftenerFrom x n s' t'
-unfolding oftenerFrom
-oftenerFrom-same zero x s t s' t' h k = refl
-oftenerFrom-same (suc n) x s t s' t' h k = rw (h x, k x, oftenerFrom-same n (suc x) s t s' t' h k)
+module _ (σ : Signature) (s t s' t' : Term) (h : (y : ℕ) → variableCoefficient σ y s ≡ variableCoefficient σ y s')
+    (k : (y : ℕ) → variableCoefficient σ y t ≡ variableCoefficient σ y t') where
+  oftenerFrom-same : (n x : ℕ) → oftenerFrom σ x n s t ≡ oftenerFrom σ x n s' t'
+  unfolding oftenerFrom
+  oftenerFrom-same zero x = refl
+  oftenerFrom-same (suc n) x = rw (h x, k x, oftenerFrom-same n (suc x))
 
-pub firstOftener-same : (s t s' t' : Term) → ((y : ℕ) → occurrences y s ≡ occurrences y s') →
-    ((y : ℕ) → occurrences y t ≡ occurrences y t') → firstOftener s t ≡ firstOftener s' t'
-unfolding firstOftener
-firstOftener-same = oftenerFrom-same variableCount 0
+  pub firstOftener-same : firstOftener σ s t ≡ firstOftener σ s' t'
+  unfolding firstOftener
+  firstOftener-same = oftenerFrom-same variableCount 0
 
-pub firstOftener-le : (s t : Term) → firstOftener s t ≤ variableCount
+pub firstOftener-le : (σ : Signature) (s t : Term) → firstOftener σ s t ≤ variableCount
 unfolding firstOftener
-firstOftener-le s t = oftener-first s t variableCount 0 .to
+firstOftener-le σ s t = oftener-first σ s t variableCount 0 .to

@@ -14,7 +14,7 @@ use lib.Dec.{eqb, leb, ltb}
 use borrow.Author.Tests.{eqb-false, eqb-true, le-leb, leb-false, leb-true}
 use Rattle.multisets.specs.Multiset.{Rest, multisetEqual, multisetGreater}
 use Rattle.terms.specs.Signature.{Signature}
-use Rattle.terms.specs.Term.{Term, row, size, occurrences, isVar, flattenings}
+use Rattle.terms.specs.Term.{Term, row, size, variableCoefficient, isVar, flattenings}
 use Rattle.terms.specs.Term.Term.{var, app}
 use Rattle.terms.specs.Equivalence.{isEquivalent}
 use Rattle.terms.specs.Order.{noneOftener, variables, rootAbove, rootBelow, highPart, lowPart, joinedHigh}
@@ -28,37 +28,40 @@ use Rattle.terms.proofs.TermLaws.{AsksSmaller, depth, without-depth}
 
 -- ---- occurrences
 
-pub noneOftener-facts : (n : ℕ) (s t : Term) →
-    noneOftener n s t ≡ true ↔ ((x : ℕ) → x < n → occurrences x t ≤ occurrences x s)
-unfolding noneOftener
-noneOftener-facts zero s t = (λ e x h. absurd (omega arith), λ h. refl)
-noneOftener-facts (suc n) s t = (
-  λ e x h. byTest (eqb x n)
-      (λ q. rw (eqb-true x n q) (leb-true (occurrences n t) (occurrences n s) (both _ _ .0 e .0)))
-      λ q. noneOftener-facts n s t .0 (both (leb (occurrences n t) (occurrences n s)) _ .0 e .1) x
-      (omega (arith, eqb-false x n q)),
-  λ h. both _ _ .1 (
-    le-leb (occurrences n t) (occurrences n s) (h n (omega arith)),
-    noneOftener-facts n s t .1 λ x k. h x (omega arith),
-  ),
-)
+module _ (σ : Signature) where
+  pub noneOftener-facts : (n : ℕ) (s t : Term) →
+      noneOftener σ n s t ≡ true ↔ ((x : ℕ) → x < n → variableCoefficient σ x t ≤ variableCoefficient σ x s)
+  unfolding noneOftener
+  noneOftener-facts zero s t = (λ e x h. absurd (omega arith), λ h. refl)
+  noneOftener-facts (suc n) s t = (
+    λ e x h. byTest (eqb x n)
+        (λ q. rw (eqb-true x n q) (leb-true (variableCoefficient σ n t) (variableCoefficient σ n s) (both _ _ .0 e .0)))
+        λ q. noneOftener-facts n s t .0
+        (both (leb (variableCoefficient σ n t) (variableCoefficient σ n s)) _ .0 e .1) x
+        (omega (arith, eqb-false x n q)),
+    λ h. both _ _ .1 (
+      le-leb (variableCoefficient σ n t) (variableCoefficient σ n s) (h n (omega arith)),
+      noneOftener-facts n s t .1 λ x k. h x (omega arith),
+    ),
+  )
 
--- The variable that occurs oftener.
-pub oftener : (n : ℕ) (s t : Term) → noneOftener n s t ≡ false →
-    (x : ℕ) × (x < n) × (occurrences x s < occurrences x t)
-unfolding noneOftener
-oftener zero s t e = absurd (true≢false e)
-oftener (suc n) s t e =
-    byTest (leb (occurrences n t) (occurrences n s))
-    (λ h. let (x, k, o) = oftener n s t (rw h at e) in (x, omega arith, o))
-    λ h. (n, omega arith, leb-false _ _ h)
+  -- The variable that occurs oftener.
+  pub oftener : (n : ℕ) (s t : Term) → noneOftener σ n s t ≡ false →
+      (x : ℕ) × (x < n) × (variableCoefficient σ x s < variableCoefficient σ x t)
+  unfolding noneOftener
+  oftener zero s t e = absurd (true≢false e)
+  oftener (suc n) s t e =
+      byTest (leb (variableCoefficient σ n t) (variableCoefficient σ n s))
+      (λ h. let (x, k, o) = oftener n s t (rw h at e) in (x, omega arith, o))
+      λ h. (n, omega arith, leb-false _ _ h)
 
--- Terms with the same occurrences pass the same test of them.
-pub noneOftener-resp : (n : ℕ) (s s' t t' : Term) → ((x : ℕ) → occurrences x s ≡ occurrences x s') →
-    ((x : ℕ) → occurrences x t ≡ occurrences x t') → noneOftener n s t ≡ noneOftener n s' t'
-unfolding noneOftener
-noneOftener-resp zero s s' t t' h k = refl
-noneOftener-resp (suc n) s s' t t' h k = ap₂ _&&_ (ap₂ leb (k n) (h n)) (noneOftener-resp n s s' t t' h k)
+  -- Terms with the same occurrences pass the same test of them.
+  pub noneOftener-resp : (n : ℕ) (s s' t t' : Term) →
+      ((x : ℕ) → variableCoefficient σ x s ≡ variableCoefficient σ x s') →
+      ((x : ℕ) → variableCoefficient σ x t ≡ variableCoefficient σ x t') → noneOftener σ n s t ≡ noneOftener σ n s' t'
+  unfolding noneOftener
+  noneOftener-resp zero s s' t t' h k = refl
+  noneOftener-resp (suc n) s s' t t' h k = ap₂ _&&_ (ap₂ leb (k n) (h n)) (noneOftener-resp n s s' t t' h k)
 
 -- ---- tests that agree
 

@@ -3,10 +3,10 @@
 --     measure-rename, weight-rename, formed-rename    what is measured; well-formedness
 --     row-renames, flattenings-rename                 arguments and flattenings, one by one
 --     Over, over-parts                                the variables of a term are among some numbers
---     occurrences-rename, occurrences-renamed         occurrences, before and after
+--     coefficient-rename, occurrences-renamed         occurrences, before and after
 --     isPower-rename                                  the test for a variable under copies of one symbol
 --     isEquivalent-rename                             the test of AC-equivalence
-use mathlib.Core.List.{_∷_, _++_, map, map-append}
+use mathlib.Core.List.{List, _∷_, _++_, map, map-append}
 use mathlib.Core.Path.{_≡_, refl, sym, ap, ap₂, _∙_}
 use mathlib.Core.Bool.{Bool, cond, _&&_}
 use Prim.Native.Nat.{ℕ, suc, zero, _+_, _<_}
@@ -14,9 +14,9 @@ use native.Mathlib.Omega.{arith}
 use lib.Dec.{eqb}
 use lib.ListN.{length, length-map}
 use borrow.Author.Tests.{eqb-true, eq-eqb}
-use Rattle.terms.specs.Signature.{Signature, symbolOf}
-use Rattle.terms.specs.Term.{Term, Terms, row, measure, measures, size, occurrences, isVar, flattening}
-use Rattle.terms.specs.Term.{flattenings, variableCount, weight, WellFormed, WellFormeds}
+use Rattle.terms.specs.Signature.{Signature, scale, others, symbolOf, coefficientsOf}
+use Rattle.terms.specs.Term.{Term, Terms, row, measure, measures, plain, size, occurrences, isVar, flattening}
+use Rattle.terms.specs.Term.{flattenings, variableCount, weight, variableCoefficient, WellFormed, WellFormeds}
 use Rattle.terms.specs.Term.Term.{var, app}
 use Rattle.terms.specs.Term.Terms.{nil, cons}
 use Rattle.terms.specs.Equivalence.{argumentsAlike, isEquivalentTo, isEquivalent}
@@ -32,21 +32,22 @@ use Rattle.terms.proofs.RewritingLaws.{occurrencesIn}
 module _ (ρ : ℕ → ℕ) where
   -- ---- measures
 
-  module _ (v w : ℕ → ℕ) where
+  module _ (c : ℕ → List ℕ) (v w : ℕ → ℕ) where
     mutual
-      pub measure-rename : (t : Term) → measure v w (rename ρ t) ≡ measure (λ (x : ℕ). v (ρ x)) w t
+      pub measure-rename : (t : Term) → measure c v w (rename ρ t) ≡ measure c (λ (x : ℕ). v (ρ x)) w t
       measure-rename (var x) = refl
-      measure-rename (app f ts) = ap (_+_ (w f)) (measures-renames ts)
+      measure-rename (app f ts) = ap (_+_ (w f)) (measures-renames ts (c f))
 
-      measures-renames : (ts : Terms) → measures v w (renames ρ ts) ≡ measures (λ (x : ℕ). v (ρ x)) w ts
-      measures-renames nil = refl
-      measures-renames (cons t ts) = ap₂ _+_ (measure-rename t) (measures-renames ts)
+      measures-renames : (ts : Terms) (ks : List ℕ) →
+          measures c v w (renames ρ ts) ks ≡ measures c (λ (x : ℕ). v (ρ x)) w ts ks
+      measures-renames nil ks = refl
+      measures-renames (cons t ts) ks = ap₂ _+_ (ap (scale ks) (measure-rename t)) (measures-renames ts (others ks))
 
   pub size-rename : (t : Term) → size (rename ρ t) ≡ size t
-  size-rename = measure-rename (λ x. 1) (λ f. 1)
+  size-rename = measure-rename plain (λ x. 1) (λ f. 1)
 
   pub weight-rename : (σ : Signature) (t : Term) → weight σ (rename ρ t) ≡ weight σ t
-  weight-rename σ = measure-rename (λ x. σ .w0) (λ f. symbolOf σ f .weight)
+  weight-rename σ = measure-rename (coefficientsOf σ) (λ x. σ .w0) (λ f. symbolOf σ f .weight)
 
   -- ---- arguments and flattenings
 
@@ -148,19 +149,28 @@ module _ (ρ : ℕ → ℕ) (Among : ℕ → Type 0) (one : (x y : ℕ) → Amon
       sameTest (eqb (ρ x) (ρ y)) (eqb x y) (λ e. eq-eqb x y (one x y v w (eqb-true (ρ x) (ρ y) e)))
       λ e. eq-eqb (ρ x) (ρ y) (ap ρ (eqb-true x y e))
 
-  mutual
-    -- A variable occurs after the renaming as often as before.
-    pub occurrences-rename : (x : ℕ) → Among x → (t : Term) → Over Among t →
-        occurrences (ρ x) (rename ρ t) ≡ occurrences x t
-    occurrences-rename x v (var y) h = rw (eqb-rename x y v (over-var Among y h))
-    occurrences-rename x v (app f ts) h = ap (_+_ 0) (occurrencesIn-renames x v ts λ y o. h y (omega arith))
+  module _ (c : ℕ → List ℕ) (x : ℕ) (v : Among x) where
+    abbrev counts : ℕ → ℕ → ℕ
+    counts x y = cond (eqb x y) 1 0
 
-    occurrencesIn-renames : (x : ℕ) → Among x → (ts : Terms) → OverRow Among ts →
-        occurrencesIn (ρ x) (renames ρ ts) ≡ occurrencesIn x ts
-    occurrencesIn-renames x v nil h = refl
-    occurrencesIn-renames x v (cons t ts) h =
-        ap₂ _+_ (occurrences-rename x v t λ y o. h y (omega arith))
-        (occurrencesIn-renames x v ts λ y o. h y (omega arith))
+    mutual
+      count-rename : (t : Term) → Over Among t →
+          measure c (counts (ρ x)) (λ (f : ℕ). 0) (rename ρ t) ≡ measure c (counts x) (λ (f : ℕ). 0) t
+      count-rename (var y) h = rw (eqb-rename x y v (over-var Among y h))
+      count-rename (app f ts) h = ap (_+_ 0) (counts-rename ts (c f) λ y o. h y (omega arith))
+
+      counts-rename : (ts : Terms) (ks : List ℕ) → OverRow Among ts →
+          measures c (counts (ρ x)) (λ (f : ℕ). 0) (renames ρ ts) ks ≡
+          measures c (counts x) (λ (f : ℕ). 0) ts ks
+      counts-rename nil ks h = refl
+      counts-rename (cons t ts) ks h =
+          ap₂ _+_ (ap (scale ks) (count-rename t λ y o. h y (omega arith)))
+          (counts-rename ts (others ks) λ y o. h y (omega arith))
+
+  -- A variable counts after the renaming as before.
+  pub coefficient-rename : (σ : Signature) (x : ℕ) → Among x → (t : Term) → Over Among t →
+      variableCoefficient σ (ρ x) (rename ρ t) ≡ variableCoefficient σ x t
+  coefficient-rename σ x v = count-rename (coefficientsOf σ) x v
 
   module _ (f y : ℕ) (v : Among y) where
     mutual

@@ -1,17 +1,38 @@
 -- Steinbach's order: tests that agree on the parts, and the order without depth.
+--     noneMore-ones                where coefficients change no count, the test of occurrences is the order's
+--     noneMore-facts               what it says
 --     steinbachDecreases-agree     the tests of two terms
 --     isSteinbachGreater-unfolds   from the size on the depth does not matter
-use mathlib.Core.Path.{_≡_, refl}
-use mathlib.Core.Bool.{Bool}
-use Prim.Native.Nat.{_<_}
+use mathlib.Core.List.{[]}
+use mathlib.Core.Logic.{_↔_}
+use mathlib.Core.Path.{_≡_, refl, ap₂}
+use mathlib.Core.Bool.{Bool, true, _&&_}
+use Prim.Native.Nat.{ℕ, suc, zero, _≤_, _<_}
+use lib.Dec.{leb}
 use Rattle.terms.specs.Signature.{Signature}
-use Rattle.terms.specs.Term.{Term, row, size, flattenings}
+use Rattle.terms.specs.Term.{Term, row, size, occurrences, variableCoefficient, flattenings}
 use Rattle.terms.specs.Term.Term.{var, app}
 use Rattle.terms.specs.Equivalence.{isEquivalent}
-use Rattle.terms.specs.Steinbach.{steinbachCases, steinbachDecreases, isSteinbachGreaterTo, isSteinbachGreater}
+use Rattle.terms.specs.Order.{noneOftener}
+use Rattle.terms.specs.Steinbach.{noneMore, steinbachCases, steinbachDecreases, isSteinbachGreaterTo}
+use Rattle.terms.specs.Steinbach.{isSteinbachGreater}
 use Rattle.multisets.proofs.Agreement.{multisetGreater-agree, rowGreater-agree}
 use Rattle.terms.proofs.TermLaws.{Parts, smaller-parts, any-parts, AgreeOn, each-agree, AsksSmaller}
 use Rattle.terms.proofs.TermLaws.{without-depth}
+use Rattle.terms.proofs.OrderLaws.{noneOftener-facts}
+
+pub noneMore-ones : (σ : Signature) → ((x : ℕ) (t : Term) → variableCoefficient σ x t ≡ occurrences x t) →
+    (n : ℕ) (s t : Term) → noneOftener σ n s t ≡ noneMore n s t
+unfolding noneOftener noneMore
+noneMore-ones σ o zero s t = refl
+noneMore-ones σ o (suc n) s t = ap₂ _&&_ (ap₂ leb (o n t) (o n s)) (noneMore-ones σ o n s t)
+
+-- A signature without symbols has no coefficients.
+pub noneMore-facts : (n : ℕ) (s t : Term) →
+    noneMore n s t ≡ true ↔ ((x : ℕ) → x < n → occurrences x t ≤ occurrences x s)
+noneMore-facts n s t =
+    let bare : Signature = record { w0 = 1; symbols = [] } in
+    rw (← noneMore-ones bare (λ x u. refl) n s t) (noneOftener-facts bare n s t)
 
 module _ (σ : Signature) (P Q : Term → Type 0) (like like' : Term → Term → Bool) (h : AgreeOn P Q like like')
     (greater greater' : Term → Term → Bool) (k : AgreeOn P Q greater greater') where

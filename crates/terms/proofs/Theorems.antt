@@ -3,12 +3,13 @@ use mathlib.Core.List.{[]}
 use mathlib.Core.Path.{refl}
 use lib.Dec.{eqb}
 use mathlib.Core.Bool.{cond}
-use Rattle.terms.specs.Signature.{Signature, symbolOf}
+use Rattle.terms.specs.Signature.{Signature, symbolOf, coefficientsOf}
 use Rattle.multisets.specs.Multiset.{multisetEqual, multisetGreater, rowEqual, rowGreater}
 use Rattle.terms.specs.Equivalence.{isEquivalentTo, isEquivalent}
 use Rattle.terms.specs.Order.{noneOftener, flattenedMark, rootMark, decreasingMark, isGreaterTo, isGreater, mark}
 use Rattle.terms.specs.Rewriting.{System}
-use Rattle.terms.specs.Statements.{StarredCasesHold, TestDecides, MeasuresRespectEquivalence, WordsReadBack}
+use Rattle.terms.specs.Statements.{StarredCasesHold, ExampleRulesHold, RuleFourWeighs, TestDecides}
+use Rattle.terms.specs.Statements.{MeasuresRespectEquivalence, WordsReadBack}
 use Rattle.terms.specs.Statements.{FirstOftenerFound, FingerprintByArguments, FingerprintRespectsEquivalence}
 use Rattle.terms.specs.Statements.{FingerprintFits, WordForEachNode, StepsKeepExpressions}
 use Rattle.terms.specs.FirstUse.{firstUses, placeIn, renumbered, ruleWords, renumberedRule}
@@ -17,7 +18,8 @@ use Rattle.terms.specs.FirstUseStatements.{RenamingsAgree, WordsRenamed,
 use Rattle.terms.specs.FirstUseStatements.{RuleRenumberedAgain, RuleRenamingsAgree, RuleInOrderUnchanged}
 use Rattle.terms.specs.EnumerationStatements.{EnumeratesExpressions, EnumeratesInOrder, BeforeIrreflexive}
 use Rattle.terms.proofs.EquivalenceComplete.{Equivalent→isEquivalent}
-use Rattle.terms.proofs.EquivalenceMeasures.{measure-resp-equivalent, root-resp-equivalent}
+use Rattle.terms.proofs.EquivalenceMeasures.{measure-resp-equivalent, plain-resp-equivalent}
+use Rattle.terms.proofs.EquivalenceMeasures.{root-resp-equivalent}
 use Rattle.terms.proofs.EquivalenceSound.{isEquivalent→Equivalent}
 use Rattle.terms.proofs.OftenerLaws.{first-answer}
 use Rattle.terms.proofs.FingerprintLaws.{fingerprint-app, fingerprint-lt, fingerprint-resp-equivalent}
@@ -35,8 +37,16 @@ unfolding mark isGreater isGreaterTo decreasingMark rootMark flattenedMark noneO
     multisetEqual multisetGreater rowEqual rowGreater
 starred-cases-hold = refl
 
-pub first-oftener-found : FirstOftenerFound
-first-oftener-found = first-answer
+pub example-rules-hold : ExampleRulesHold
+unfolding mark isGreater isGreaterTo decreasingMark rootMark flattenedMark noneOftener isEquivalent isEquivalentTo
+    multisetEqual multisetGreater rowEqual rowGreater
+example-rules-hold = refl
+
+pub rule-four-weighs : RuleFourWeighs
+rule-four-weighs = (refl, refl)
+
+pub first-oftener-found : (σ : Signature) → FirstOftenerFound σ
+first-oftener-found σ = first-answer σ
 
 pub word-for-each-node : WordForEachNode
 word-for-each-node = length-words
@@ -46,10 +56,12 @@ module _ (σ : Signature) where
   test-decides binary s t v w = (isEquivalent→Equivalent σ binary s t v w, Equivalent→isEquivalent σ)
 
   pub measures-respect-equivalence : MeasuresRespectEquivalence σ
-  measures-respect-equivalence s t d = record {
-    size = measure-resp-equivalent σ (λ x. 1) (λ f. 1) d;
-    weight = measure-resp-equivalent σ (λ x. σ .w0) (λ f. symbolOf σ f .weight) d;
-    occurrences = λ x. measure-resp-equivalent σ (λ y. cond (eqb x y) 1 0) (λ f. 0) d;
+  measures-respect-equivalence ones s t d = record {
+    size = plain-resp-equivalent σ (λ x. 1) (λ f. 1) d;
+    weight = measure-resp-equivalent σ (coefficientsOf σ) ones (λ x. σ .w0) (λ f. symbolOf σ f .weight) d;
+    occurrences = λ x. plain-resp-equivalent σ (λ y. cond (eqb x y) 1 0) (λ f. 0) d;
+    variableCoefficients =
+        λ x. measure-resp-equivalent σ (coefficientsOf σ) ones (λ y. cond (eqb x y) 1 0) (λ f. 0) d;
     root = root-resp-equivalent σ d;
   }
 

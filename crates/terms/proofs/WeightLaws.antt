@@ -2,7 +2,7 @@
 --     weight-least, -pos, variable-lightest a well-formed term weighs at least w0, as a variable does
 --     nodes-le-weight                       a term of weight W has at most 2 W - 1 nodes, if no unary symbol weighs 0
 --     weight-among-lt, weight-among-same    an argument exchanged for a lighter one, for one as heavy
---     weight-argument                       an argument is lighter than the term, or all under a weightless symbol
+--     weight-argument, -le                  an argument is lighter than the term, or all under a weightless symbol
 --     flattening-lighter                    an element of a flattening is the term itself, or lighter
 use mathlib.Core.List.{List, [], _∷_, _++_, List·Memᴰ, List·Memᴰ·head, List·Memᴰ·tail, List·Memᴰ·eq-of-singleton}
 use mathlib.Core.List.{List·Memᴰ·not-nil}
@@ -13,49 +13,59 @@ use native.Mathlib.Omega.{arith}
 use lib.ListN.{length}
 use lib.Dec.{eqb}
 use borrow.Author.Tests.{eqb-true}
-use Rattle.terms.specs.Signature.{Signature, leastWeight, symbolOf, ZeroWeightUnary}
-use Rattle.terms.specs.Signature.{NoZeroWeightUnary, Admissible}
-use Rattle.terms.specs.Term.{Term, Terms, row, arguments, measures, size, sizes, flattening, weight, WellFormed}
-use Rattle.terms.specs.Term.{WellFormeds}
+use Rattle.terms.specs.Signature.{Signature, leastWeight, scale, others, AllPositive, symbolOf, coefficientsOf}
+use Rattle.terms.specs.Signature.{ZeroWeightUnary, NoZeroWeightUnary, Admissible}
+use Rattle.terms.specs.Term.{Term, Terms, row, arguments, measures, size, sizes, flattening}
+use Rattle.terms.specs.Term.{weight, WellFormed, WellFormeds}
 use Rattle.terms.specs.Term.Term.{var, app}
 use Rattle.terms.specs.Term.Terms.{nil, cons}
 use Rattle.multisets.proofs.Relations.{byTest, byOrder}
 use Rattle.terms.proofs.TermLaws.{Hereditary, row-each, flattening-each}
+use Rattle.terms.proofs.MeasureLaws.{scale-le, scale-lt, others-each, bounded, measure-argument}
 use Rattle.terms.proofs.FlatteningLaws.{flattenings-member}
 
-abbrev pub weights : Signature → Terms → ℕ
-weights σ = measures (λ (x : ℕ). σ .w0) (λ (f : ℕ). symbolOf σ f .weight)
+abbrev pub weights : Signature → Terms → List ℕ → ℕ
+weights σ = measures (coefficientsOf σ) (λ (x : ℕ). σ .w0) (λ (f : ℕ). symbolOf σ f .weight)
 
-module _ (σ : Signature) where
+module _ (σ : Signature) (A : Admissible σ) where
+  positive : (f : ℕ) → AllPositive (coefficientsOf σ f)
+  positive = A .coefficientsPositive
+
   -- ---- one argument among others
 
-  weights-among : (ss ts : List Term) (s t : Term) →
-      weights σ (arguments (ss ++ (s ∷ ts))) + weight σ t ≡ weights σ (arguments (ss ++ (t ∷ ts))) + weight σ s
-  weights-among [] ts s t = omega arith
-  weights-among (r ∷ ss) ts s t = omega (arith, weights-among ss ts s t)
+  weights-among-lt : (ss ts : List Term) (s t : Term) → weight σ t < weight σ s → (ks : List ℕ) → AllPositive ks →
+      weights σ (arguments (ss ++ (t ∷ ts))) ks < weights σ (arguments (ss ++ (s ∷ ts))) ks
+  weights-among-lt [] ts s t h ks p = omega (arith, scale-lt ks p (weight σ t) (weight σ s) h)
+  weights-among-lt (r ∷ ss) ts s t h ks p =
+      omega (arith, weights-among-lt ss ts s t h (others ks) (others-each ks p))
+
+  weights-among-same : (ss ts : List Term) (s t : Term) → weight σ t ≡ weight σ s → (ks : List ℕ) →
+      weights σ (arguments (ss ++ (t ∷ ts))) ks ≡ weights σ (arguments (ss ++ (s ∷ ts))) ks
+  weights-among-same [] ts s t h ks = omega (arith, ap (scale ks) h)
+  weights-among-same (r ∷ ss) ts s t h ks = omega (arith, weights-among-same ss ts s t h (others ks))
 
   module _ (f : ℕ) (ss ts : List Term) (s t : Term) where
     pub weight-among-lt : weight σ t < weight σ s →
         weight σ (app f (arguments (ss ++ (t ∷ ts)))) < weight σ (app f (arguments (ss ++ (s ∷ ts))))
-    weight-among-lt h = omega (arith, weights-among ss ts s t)
+    weight-among-lt h = omega (arith, weights-among-lt ss ts s t h (coefficientsOf σ f) (positive f))
 
     pub weight-among-same : weight σ t ≡ weight σ s →
         weight σ (app f (arguments (ss ++ (t ∷ ts)))) ≡ weight σ (app f (arguments (ss ++ (s ∷ ts))))
-    weight-among-same h = omega (arith, weights-among ss ts s t)
+    weight-among-same h = omega (arith, weights-among-same ss ts s t h (coefficientsOf σ f))
 
-module _ (σ : Signature) (A : Admissible σ) where
   -- ---- the least weight
 
   mutual
     pub weight-least : (t : Term) → WellFormed σ t → σ .w0 ≤ weight σ t
     weight-least (var x) w = omega arith
     weight-least (app f ts) w =
-        weights-least ts (symbolOf σ f .weight) (w .2) (rw (w .1) (A .weighsEnough f (w .0)))
+        weights-least ts (symbolOf σ f .weight) (coefficientsOf σ f) (positive f) (w .2)
+        (rw (w .1) (A .weighsEnough f (w .0)))
 
-    weights-least : (ts : Terms) (k : ℕ) → WellFormeds σ ts → leastWeight (σ .w0) (length (row ts)) ≤ k →
-        σ .w0 ≤ k + weights σ ts
-    weights-least nil k w h = omega arith
-    weights-least (cons t ts) k w h = omega (arith, weight-least t (w .0))
+    weights-least : (ts : Terms) (k : ℕ) (ks : List ℕ) → AllPositive ks → WellFormeds σ ts →
+        leastWeight (σ .w0) (length (row ts)) ≤ k → σ .w0 ≤ k + weights σ ts ks
+    weights-least nil k ks p w h = omega arith
+    weights-least (cons t ts) k ks p w h = omega (arith, weight-least t (w .0), scale-le ks p (weight σ t))
 
   pub variable-lightest : (x : ℕ) (t : Term) → WellFormed σ t → weight σ (var x) ≤ weight σ t
   variable-lightest x t w = weight-least t w
@@ -78,35 +88,62 @@ module _ (σ : Signature) (A : Admissible σ) where
       nodes-le-weight (app f ts) (i, n, w) =
           omega (
             arith,
-            nodes-le-weights ts w,
+            nodes-le-weights ts w (coefficientsOf σ f) (positive f),
             enough (symbolOf σ f .arity) (symbolOf σ f .weight) (length (row ts)) (A .weighsEnough f i) (heavy f i) n,
           )
 
-      nodes-le-weights : (ts : Terms) → WellFormeds σ ts → sizes ts + length (row ts) ≤ 2 * weights σ ts
-      nodes-le-weights nil w = omega arith
-      nodes-le-weights (cons t ts) (v, w) = omega (arith, nodes-le-weight t v, nodes-le-weights ts w)
+      nodes-le-weights : (ts : Terms) → WellFormeds σ ts → (ks : List ℕ) → AllPositive ks →
+          sizes ts + length (row ts) ≤ 2 * weights σ ts ks
+      nodes-le-weights nil w ks p = omega arith
+      nodes-le-weights (cons t ts) (v, w) ks p =
+          omega (
+            arith,
+            nodes-le-weight t v,
+            scale-le ks p (weight σ t),
+            nodes-le-weights ts w (others ks) (others-each ks p),
+          )
 
   -- ---- parts
 
-  light : (n : ℕ) → Hereditary (λ (t : Term). weight σ t ≤ n) (λ (ts : Terms). weights σ ts ≤ n)
-  light n = record { inner = λ f ts h. omega arith; head = λ t ts h. omega arith; tail = λ t ts h. omega arith }
+  light : (n : ℕ) → Hereditary (λ (t : Term). weight σ t ≤ n)
+      (λ (ts : Terms). (ks : List ℕ) × AllPositive ks × (weights σ ts ks ≤ n))
+  light = bounded (coefficientsOf σ) (λ (x : ℕ). σ .w0) (λ (f : ℕ). symbolOf σ f .weight) positive
 
-  argument-lighter : (ts : Terms) → 2 ≤ length (row ts) → WellFormeds σ ts → (u : Term) → List·Memᴰ u (row ts) →
-      weight σ u < weights σ ts
-  argument-lighter nil n w u m = absurd (omega arith)
-  argument-lighter (cons t nil) n w u m = absurd (omega arith)
-  argument-lighter (cons t (cons r ts)) n (v, (w, z)) u (List·Memᴰ·head e) = rw e (omega (arith, weight-pos r w))
-  argument-lighter (cons t (cons r ts)) n (v, (w, z)) u (List·Memᴰ·tail m) =
-      omega (arith, weight-pos t v, row-each (light (weights σ (cons r ts))) u (cons r ts) (omega arith) m)
+  pub weight-argument-le : (f : ℕ) (ts : Terms) (u : Term) → List·Memᴰ u (row ts) → weight σ u ≤ weight σ (app f ts)
+  weight-argument-le = measure-argument (coefficientsOf σ) (λ x. σ .w0) (λ f. symbolOf σ f .weight) positive
+
+  argument-lighter : (ts : Terms) → 2 ≤ length (row ts) → WellFormeds σ ts → (ks : List ℕ) → AllPositive ks →
+      (u : Term) → List·Memᴰ u (row ts) → weight σ u < weights σ ts ks
+  argument-lighter nil n w ks p u m = absurd (omega arith)
+  argument-lighter (cons t nil) n w ks p u m = absurd (omega arith)
+  argument-lighter (cons t (cons r ts)) n (v, (w, z)) ks p u (List·Memᴰ·head e) =
+      rw e (omega (
+        arith,
+        weight-pos r w,
+        scale-le ks p (weight σ t),
+        scale-le (others ks) (others-each ks p) (weight σ r),
+      ))
+  argument-lighter (cons t (cons r ts)) n (v, (w, z)) ks p u (List·Memᴰ·tail m) =
+      let l = weights σ (cons r ts) (others ks) in
+      omega (
+        arith,
+        weight-pos t v,
+        scale-le ks p (weight σ t),
+        row-each (light l) u (cons r ts) (others ks, others-each ks p, omega arith) m,
+      )
 
   pub weight-argument : (f : ℕ) (ts : Terms) → WellFormed σ (app f ts) → (u : Term) → List·Memᴰ u (row ts) →
       (weight σ u < weight σ (app f ts)) ⊎ (ZeroWeightUnary σ f × (ts ≡ cons u nil))
   weight-argument f nil w u m = absurd (List·Memᴰ·not-nil m)
   weight-argument f (cons t nil) w u m =
-      rw (List·Memᴰ·eq-of-singleton m) (byOrder 0 (symbolOf σ f .weight) (λ h. inl (omega arith))
+      rw (List·Memᴰ·eq-of-singleton m) (byOrder 0 (symbolOf σ f .weight)
+      (λ h. inl (omega (arith, scale-le (coefficientsOf σ f) (positive f) (weight σ t))))
       λ h. inr (record { unary = sym (w .1); weightless = omega arith }, refl))
   weight-argument f (cons t (cons r ts)) w u m =
-      inl (omega (arith, argument-lighter (cons t (cons r ts)) (omega arith) (w .2) u m))
+      inl (omega (
+        arith,
+        argument-lighter (cons t (cons r ts)) (omega arith) (w .2) (coefficientsOf σ f) (positive f) u m,
+      ))
 
   module _ (f : ℕ) (binary : symbolOf σ f .arity ≡ 2) where
     pub flattening-lighter : (t : Term) → WellFormed σ t → (u : Term) → List·Memᴰ u (flattening f t) →
@@ -119,7 +156,7 @@ module _ (σ : Signature) (A : Admissible σ) where
         let (a, j, l) = flattenings-member f ts u (rw e at m) in
         inr (omega (
           arith,
-          argument-lighter ts k w a j,
+          argument-lighter ts k w (coefficientsOf σ g) (positive g) a j,
           flattening-each (light (weight σ a)) u a f (omega arith) l,
         )))
         λ e. inl (List·Memᴰ·eq-of-singleton (rw e at m))

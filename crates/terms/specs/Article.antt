@@ -1,13 +1,13 @@
 -- The order as the article has it.
 -- Renders: 000, Definition 2.1, the extensions of an order pair to rows and to multisets, for AC-equivalence and the
--- order; the submultisets of section 4; Definition 5.1, with its case 0.
+-- order; the submultisets of section 4; Definition 5.1, with its case 0, as Definition 8.1 has it.
 use mathlib.Core.List.{List, [], _∷_, _++_, List·Memᴰ}
 use mathlib.Core.Path.{_≡_}
 use mathlib.Core.Bool.{true, false, _&&_, not}
 use Prim.Native.Nat.{ℕ, _≤_, _<_}
 use lib.ListN.{length}
 use Rattle.terms.specs.Signature.{Signature, symbolOf}
-use Rattle.terms.specs.Term.{Term, Terms, row, weight, occurrences, flattenings, isVar}
+use Rattle.terms.specs.Term.{Term, Terms, row, weight, variableCoefficient, flattenings, isVar}
 use Rattle.terms.specs.Term.Term.{var, app}
 use Rattle.multisets.specs.Multiset.{choose, cancel}
 use Rattle.terms.specs.Equivalence.{Equivalent, isEquivalent}
@@ -22,9 +22,9 @@ pub data Permutation {A : Type 0} : List A → List A → Type 0 where
   after : {l m n : List A} → Permutation l m → Permutation m n → Permutation l n
 
 module _ (σ : Signature) where
-  -- |s|x ≥ |t|x for all variables x, and the weights are equal.
+  -- vc(x, s) ≥ vc(x, t) for all variables x, and the weights are equal.
   pub record Even (s t : Term) : Type 0 where
-    pub variables : (x : ℕ) → occurrences x t ≤ occurrences x s
+    pub variables : (x : ℕ) → variableCoefficient σ x t ≤ variableCoefficient σ x s
     pub weights : weight σ s ≡ weight σ t
 
   pub data Pairwise : List Term → List Term → Type 0 where
@@ -52,7 +52,8 @@ module _ (σ : Signature) where
 
   mutual
     pub data Greater : Term → Term → Type 0 where
-      heavier : {s t : Term} → ((x : ℕ) → occurrences x t ≤ occurrences x s) → weight σ t < weight σ s → Greater s t
+      heavier : {s t : Term} → ((x : ℕ) → variableCoefficient σ x t ≤ variableCoefficient σ x s) →
+          weight σ t < weight σ s → Greater s t
       case0 : {f x : ℕ} {s : Term} → Even s (var x) → Iterated f s (var x) → Greater s (var x)
       case1 : {f g : ℕ} {ss ts : Terms} → Even (app f ss) (app g ts) →
           symbolOf σ g .precedence < symbolOf σ f .precedence → Greater (app f ss) (app g ts)

@@ -16,6 +16,7 @@ pub mod Enumeration
 pub mod Renaming
 pub mod FirstUse
 pub mod Sample
+pub mod CoefficientSample
 pub mod Statements
 pub mod FirstUseStatements
 pub mod EnumerationStatements

@@ -7,18 +7,18 @@ use mathlib.Core.Bool.{true, false}
 use Prim.Native.Nat.{ℕ, _≤_, _<_}
 use lib.ListN.{length}
 use Rattle.terms.specs.Signature.{Signature, symbolOf, ZeroWeightUnary}
-use Rattle.terms.specs.Term.{Term, Terms, row, weight, occurrences, variableCount, flattenings}
+use Rattle.terms.specs.Term.{Term, Terms, row, weight, variableCoefficient, variableCount, flattenings}
 use Rattle.terms.specs.Term.Term.{var, app}
 use Rattle.multisets.specs.Multiset.{rowGreater}
 use Rattle.terms.specs.Equivalence.{Equivalent, isEquivalent}
 use Rattle.terms.specs.Iterated.{Iterated}
 use Rattle.terms.specs.Order.{highGreater, highEqual, lowGreater, isGreater}
 
--- No variable occurs oftener in t.
-abbrev pub NoneOftener : Term → Term → Type 0
-NoneOftener s t = (x : ℕ) → x < variableCount → occurrences x t ≤ occurrences x s
-
 module _ (σ : Signature) where
+  -- No variable occurs oftener in t, counted with the coefficients.
+  abbrev pub NoneOftener : Term → Term → Type 0
+  NoneOftener s t = (x : ℕ) → x < variableCount → variableCoefficient σ x t ≤ variableCoefficient σ x s
+
   -- No variable occurs oftener in t, and the weights are equal.
   pub record Balanced (s t : Term) : Type 0 where
     pub none : NoneOftener s t
@@ -42,7 +42,8 @@ module _ (σ : Signature) where
         length (flattenings f ts) ≡ length (flattenings f ss) →
         lowGreater σ (isEquivalent σ) (isGreater σ) f (flattenings f ss) (flattenings f ts) ≡ true →
         Marked 6 (app f ss) (app f ts)
-    mark7 : {s t : Term} (x : ℕ) → x < variableCount → occurrences x s < occurrences x t → Marked 7 s t
+    mark7 : {s t : Term} (x : ℕ) → x < variableCount → variableCoefficient σ x s < variableCoefficient σ x t →
+        Marked 7 s t
     mark8 : {s t : Term} → NoneOftener s t → weight σ s < weight σ t → Marked 8 s t
     mark9 : {s t : Term} → Equivalent σ s t → Marked 9 s t
     mark10 : {s t : Term} → Balanced s t → isGreater σ s t ≡ false → (Equivalent σ s t → ⊥) → Marked 10 s t

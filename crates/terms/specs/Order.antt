@@ -1,7 +1,7 @@
 -- The AC-compatible Knuth-Bendix order, the marks 1 to 11, and the margin.
 -- Renders: 01, "The order", from "Marks 1 to 6 need" to "Exactly one mark holds"; "Comparing": "the margin: left weight
 -- minus right weight, signed"; 02, order 8, mark 11: "It counts as falling, also for parts compared within, and is
--- tested before 10". 01 takes the order from Definition 5.1 of 000.
+-- tested before 10"; order 9, which is Definition 8.1 of 000. 01 takes the order from Definition 5.1 of 000.
 use mathlib.Core.List.{List, _++_}
 use mathlib.Core.Bool.{Bool, true, false, cond, _&&_, not}
 use Prim.Native.Nat.{ℕ, suc, zero}
@@ -10,20 +10,20 @@ use lib.ListN.{length}
 use lib.Dec.{eqb, ltb, leb}
 use Rattle.multisets.specs.Multiset.{choose, cancel, multisetEqual, multisetGreater, rowGreater}
 use Rattle.terms.specs.Signature.{Signature, symbolOf}
-use Rattle.terms.specs.Term.{Term, size, row, weight, occurrences, variableCount, flattenings, isVar}
+use Rattle.terms.specs.Term.{Term, size, row, weight, variableCoefficient, variableCount, flattenings, isVar}
 use Rattle.terms.specs.Term.Term.{var, app}
 use Rattle.terms.specs.Equivalence.{isEquivalent}
 use Rattle.terms.specs.Iterated.{isPower}
-
--- None of the variables below n occurs oftener in t.
-unfoldable pub noneOftener : ℕ → Term → Term → Bool
-noneOftener zero s t = true
-noneOftener (suc x) s t = leb (occurrences x t) (occurrences x s) && noneOftener x s t
 
 abbrev pub variables : List Term → List Term
 variables ts = choose isVar ts
 
 module _ (σ : Signature) where
+  -- None of the variables below n occurs oftener in t, counted with the coefficients.
+  unfoldable pub noneOftener : ℕ → Term → Term → Bool
+  noneOftener zero s t = true
+  noneOftener (suc x) s t = leb (variableCoefficient σ x t) (variableCoefficient σ x s) && noneOftener x s t
+
   abbrev pub rootAbove : ℕ → Term → Bool
   rootAbove f (var x) = false
   rootAbove f (app g ts) = ltb (symbolOf σ f .precedence) (symbolOf σ g .precedence)

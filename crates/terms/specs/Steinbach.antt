@@ -1,33 +1,45 @@
 -- Steinbach's order: the definition, and the test that decides it.
 -- Renders: 004, Definition 3.3, its cases by their numbers, with 01's "Bag S is above bag T" for its extension to
--- multisets, as 02, order 7, asks: "over document 01's bag comparison".
+-- multisets, as 02, order 7, asks: "over document 01's bag comparison". It knows no coefficients.
 use mathlib.Core.List.{List, [], _∷_, List·Memᴰ}
 use mathlib.Core.Path.{_≡_}
 use mathlib.Core.Bool.{Bool, true, false, cond, _&&_, _||_}
 use Prim.Native.Nat.{ℕ, suc, zero, _≤_, _<_}
-use lib.Dec.{eqb, ltb}
+use lib.Dec.{eqb, ltb, leb}
 use Rattle.multisets.specs.Multiset.{isEmpty, cancel, multisetGreater, rowGreater}
 use Rattle.terms.specs.Signature.{Signature, symbolOf}
-use Rattle.terms.specs.Term.{Term, Terms, row, size, weight, occurrences, variableCount, flattenings}
+use Rattle.terms.specs.Term.{Term, Terms, row, measure, plain, size, occurrences, variableCount, flattenings}
 use Rattle.terms.specs.Term.Term.{var, app}
 use Rattle.terms.specs.Equivalence.{Equivalent, isEquivalent}
-use Rattle.terms.specs.Order.{noneOftener}
 use Rattle.terms.specs.Iterated.{Iterated, isPower}
-use Rattle.terms.specs.Article.{Even}
+
+-- None of the variables below n occurs oftener in t.
+unfoldable pub noneMore : ℕ → Term → Term → Bool
+noneMore zero s t = true
+noneMore (suc x) s t = leb (occurrences x t) (occurrences x s) && noneMore x s t
 
 -- ---- the definition
 
 module _ (σ : Signature) where
+  -- 01: "Of another term: its symbol's weight plus the weights of its arguments."
+  abbrev pub plainWeight : Term → ℕ
+  plainWeight = measure plain (λ (x : ℕ). σ .w0) (λ (f : ℕ). symbolOf σ f .weight)
+
+  -- No variable occurs oftener in t, and the weights are equal.
+  pub record PlainlyEven (s t : Term) : Type 0 where
+    pub variables : (x : ℕ) → occurrences x t ≤ occurrences x s
+    pub weights : plainWeight s ≡ plainWeight t
+
   mutual
     pub data SteinbachGreater : Term → Term → Type 0 where
-      heavier : {s t : Term} → ((x : ℕ) → occurrences x t ≤ occurrences x s) → weight σ t < weight σ s →
+      heavier : {s t : Term} → ((x : ℕ) → occurrences x t ≤ occurrences x s) → plainWeight t < plainWeight s →
           SteinbachGreater s t
-      case1 : {f x : ℕ} {s : Term} → Even σ s (var x) → Iterated f s (var x) → SteinbachGreater s (var x)
-      case2 : {f g : ℕ} {ss ts : Terms} → Even σ (app f ss) (app g ts) →
+      case1 : {f x : ℕ} {s : Term} → PlainlyEven s (var x) → Iterated f s (var x) → SteinbachGreater s (var x)
+      case2 : {f g : ℕ} {ss ts : Terms} → PlainlyEven (app f ss) (app g ts) →
           symbolOf σ g .precedence < symbolOf σ f .precedence → SteinbachGreater (app f ss) (app g ts)
-      case3 : {f : ℕ} {ss ts : Terms} → Even σ (app f ss) (app f ts) → symbolOf σ f .ac ≡ false →
+      case3 : {f : ℕ} {ss ts : Terms} → PlainlyEven (app f ss) (app f ts) → symbolOf σ f .ac ≡ false →
           SteinbachLex (row ss) (row ts) → SteinbachGreater (app f ss) (app f ts)
-      case4 : {f : ℕ} {ss ts : Terms} → Even σ (app f ss) (app f ts) → symbolOf σ f .ac ≡ true →
+      case4 : {f : ℕ} {ss ts : Terms} → PlainlyEven (app f ss) (app f ts) → symbolOf σ f .ac ≡ true →
           SteinbachAbove (flattenings f ss) (flattenings f ts) → SteinbachGreater (app f ss) (app f ts)
 
     -- AC-equivalent up to some place, and there greater.
@@ -64,8 +76,8 @@ module _ (σ : Signature) where
     -- The whole definition, where like and greater compare the parts.
     unfoldable pub steinbachDecreases : Term → Term → Bool
     steinbachDecreases s t =
-        noneOftener variableCount s t &&
-        (ltb (weight σ t) (weight σ s) || (eqb (weight σ t) (weight σ s) && steinbachCases s t))
+        noneMore variableCount s t &&
+        (ltb (plainWeight t) (plainWeight s) || (eqb (plainWeight t) (plainWeight s) && steinbachCases s t))
 
   -- The test, down to depth n. At depth 0 nothing is greater; no term of n nodes has a part that deep.
   unfoldable pub isSteinbachGreaterTo : ℕ → Term → Term → Bool

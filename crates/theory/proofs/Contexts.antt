@@ -12,14 +12,15 @@ use mathlib.Core.Bool.{true, true≢false}
 use Prim.Native.Nat.{ℕ, suc, zero, _≤_, _<_}
 use native.Mathlib.Omega.{arith}
 use borrow.Author.Tests.{eq-eqb}
-use Rattle.terms.specs.Signature.{Signature, symbolOf, IsSymbol, ZeroWeightUnary, Admissible}
-use Rattle.terms.specs.Term.{Term, Terms, row, arguments, size, flattening, flattenings, weight, WellFormed}
-use Rattle.terms.specs.Term.{Expression}
+use Rattle.terms.specs.Signature.{Signature, symbolOf, coefficientsOf, IsSymbol, ZeroWeightUnary, Admissible}
+use Rattle.terms.specs.Term.{Term, Terms, row, arguments, size, flattening, flattenings, weight}
+use Rattle.terms.specs.Term.{WellFormed, Expression}
 use Rattle.terms.specs.Term.Term.{var, app}
 use Rattle.terms.specs.Term.Terms.{nil, cons}
 use Rattle.terms.specs.Iterated.{Iterated}
 use Rattle.terms.specs.Iterated.Iterated.{once, more}
 use Rattle.terms.specs.Order.{variables, rootAbove, highPart, isGreater}
+use Rattle.terms.specs.Marks.{NoneOftener}
 use Rattle.terms.specs.Rewriting.{Context, fill, ExpressionContext}
 use Rattle.terms.specs.Rewriting.Context.{hole, inside}
 use Rattle.multisets.proofs.Relations.{byTest, byOrder, refuted, eqb-self, IsEquivalence, IsStrictOrder}
@@ -29,9 +30,10 @@ use Rattle.multisets.proofs.MultisetLaws.{multisetEqual-equivalence}
 use Rattle.multisets.proofs.MultisetOrder.{multiset-part, multisetGreater-one}
 use Rattle.terms.proofs.TermLaws.{row-arguments, among-member, size-pos, row-each, flattening-each, formed}
 use Rattle.terms.proofs.TermLaws.{each-choose}
+use Rattle.terms.proofs.MeasureLaws.{scale-le}
 use Rattle.terms.proofs.FlatteningLaws.{flattenings-among, flattenings-long}
 use Rattle.terms.proofs.RewritingLaws.{formed-filling, fill-expression}
-use Rattle.terms.proofs.VariableLaws.{occurrences-argument, not-ground, noneOftener-ground, expressions}
+use Rattle.terms.proofs.VariableLaws.{coefficient-argument, not-ground, noneOftener-ground, expressions}
 use Rattle.terms.proofs.WeightLaws.{weight-among-lt, weight-among-same, weight-argument, flattening-lighter}
 use Rattle.terms.proofs.IteratedLaws.{Iterated→isPower}
 use Rattle.theory.proofs.RootTests.{place, above-says, below-says}
@@ -82,14 +84,17 @@ module _ (σ : Signature) (A : Admissible σ) where
     weightless-greater : (n : ℕ) (u : Term) → size u ≤ n → WellFormed σ (over u) → isGreater σ (over u) u ≡ true
     weightless-greater zero u l w = absurd (omega (arith, size-pos u))
     weightless-greater (suc n) u l w =
+        let o : NoneOftener σ (over u) u = λ x h. coefficient-argument σ x A f (cons u nil) u (List·Memᴰ·head refl) in
+        let e = scale-le (coefficientsOf σ f) (A .coefficientsPositive f) (weight σ u) in
         formed-view σ (over u) u w (w .2 .0) .1
-        (byRoot (record { none = λ x h. omega arith; weights = omega (arith, z .weightless) })
+        (byOrder (weight σ u) (weight σ (over u)) (byWeight o)
+        λ k. byRoot (record { none = o; weights = omega arith })
         (weightless-roots u w λ t k. weightless-greater n t (omega arith)))
 
   pub greater-argument : (f : ℕ) (ts : Terms) (u : Term) → WellFormed σ (app f ts) → List·Memᴰ u (row ts) →
       isGreater σ (app f ts) u ≡ true
   greater-argument f ts u w m =
-      ⊎-elim (λ l. isGreater-view σ (app f ts) u .1 (byWeight (λ x h. occurrences-argument x f ts u m) l))
+      ⊎-elim (λ l. isGreater-view σ (app f ts) u .1 (byWeight (λ x h. coefficient-argument σ x A f ts u m) l))
       (λ h. rw (h .1) (weightless-greater f (h .0) (size u) u (omega arith) (rw (h .1) at w)))
       (weight-argument σ A f ts w u m)
 
@@ -121,7 +126,7 @@ module _ (σ : Signature) (A : Admissible σ) where
         v,
         y,
         isGreater-view σ s u .1
-            (byWeight (noneOftener-ground s u n) (omega (arith, greater-weight σ s t g))),
+            (byWeight (noneOftener-ground σ s u n) (omega (arith, greater-weight σ s t g))),
       ))
       (flattening-lighter σ A f b t (e .0) u m)
 
@@ -224,11 +229,11 @@ module _ (σ : Signature) (A : Admissible σ) where
     greater-around : IsSymbol σ f → (s t : Term) → Expression σ s → Expression σ t → Expression σ (around s) →
         Expression σ (around t) → isGreater σ s t ≡ true → isGreater σ (around s) (around t) ≡ true
     greater-around i s t d e x y g =
-        let o = noneOftener-ground (around s) (around t) (y .1) in
+        let o = noneOftener-ground σ (around s) (around t) (y .1) in
         formed-view σ (around s) (around t) (x .0) (y .0) .1
-        (byOrder (weight σ t) (weight σ s) (λ l. byWeight o (weight-among-lt σ f ss ts s t l))
+        (byOrder (weight σ t) (weight σ s) (λ l. byWeight o (weight-among-lt σ A f ss ts s t l))
         λ l. let w : weight σ t ≡ weight σ s = omega (arith, greater-weight σ s t g) in
-        byRoot (record { none = o; weights = weight-among-same σ f ss ts s t w }) (roots-around i s t d e w g))
+        byRoot (record { none = o; weights = weight-among-same σ A f ss ts s t w }) (roots-around i s t d e w g))
 
   pub greater-fill : (c : Context) (s t : Term) → ExpressionContext σ c → Expression σ s → Expression σ t →
       isGreater σ s t ≡ true → isGreater σ (fill c s) (fill c t) ≡ true

@@ -48,7 +48,7 @@ module _ (σ : Signature) (like : Term → Term → Bool) (E : IsEquivalence lik
         Decreases σ like greater s t → Decreases σ like greater t u → Decreases σ like greater s u
     decreases-trans A {s} {t} {u} v w d e = go d e
       where
-        fewer : NoneOftener s t → NoneOftener t u → NoneOftener s u
+        fewer : NoneOftener σ s t → NoneOftener σ t u → NoneOftener σ s u
         fewer n m x h = omega (arith, n x h, m x h)
 
         go : Decreases σ like greater s t → Decreases σ like greater t u → Decreases σ like greater s u

@@ -46,7 +46,7 @@ module _ (σ : Signature) (like greater : Term → Term → Bool) where
 
   -- Marks 1 to 6 and 11.
   pub data Decreases (s t : Term) : Type 0 where
-    byWeight : NoneOftener s t → weight σ t < weight σ s → Decreases s t
+    byWeight : NoneOftener σ s t → weight σ t < weight σ s → Decreases s t
     byRoot : Balanced σ s t → RootDecreases s t → Decreases s t
 
   pub root-of-iterated : {f x : ℕ} {s t : Term} → Iterated f s t → isPower f x s ≡ true → RootDecreases s (var x)
@@ -114,8 +114,8 @@ module _ (σ : Signature) (like greater : Term → Term → Bool) where
   decreases-of-mark : (s t : Term) → ltb 0 (decreasingMark σ like greater s t) ≡ true → Decreases σ like greater s t
   unfolding decreasingMark
   decreases-of-mark s t h =
-      byTest (noneOftener variableCount s t)
-      (λ n. let o = noneOftener-facts variableCount s t .0 n in
+      byTest (noneOftener σ variableCount s t)
+      (λ n. let o = noneOftener-facts σ variableCount s t .0 n in
       byTest (ltb (weight σ t) (weight σ s)) (λ e. byWeight o (ltb-true _ _ e))
       λ e. byTest (eqb (weight σ t) (weight σ s))
       (λ d. byRoot (record { none = o; weights = eqb-true _ _ d }) (root-of-mark s t (rw (n, e, d) at h)))
@@ -124,10 +124,10 @@ module _ (σ : Signature) (like greater : Term → Term → Bool) where
 
   mark-of-decreases : (s t : Term) → Decreases σ like greater s t → ltb 0 (decreasingMark σ like greater s t) ≡ true
   unfolding decreasingMark
-  mark-of-decreases s t (byWeight o e) = rw (noneOftener-facts variableCount s t .1 o, lt-ltb _ _ e)
+  mark-of-decreases s t (byWeight o e) = rw (noneOftener-facts σ variableCount s t .1 o, lt-ltb _ _ e)
   mark-of-decreases s t (byRoot b r) =
       rw (
-        noneOftener-facts variableCount s t .1 (b .none),
+        noneOftener-facts σ variableCount s t .1 (b .none),
         le-ltb (weight σ t) (weight σ s) (omega (arith, b .weights)),
         eq-eqb _ _ (b .weights),
       )

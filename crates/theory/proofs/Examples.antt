@@ -9,7 +9,7 @@ use mathlib.Core.Bool.{true, false≢true}
 use Prim.Native.Nat.{ℕ, suc, zero, _-_, _*_, _^_, _≤_, _<_}
 use native.Mathlib.Omega.{arith}
 use Rattle.multisets.specs.Multiset.{multisetEqual, rowEqual, multisetGreater, rowGreater}
-use Rattle.terms.specs.Signature.{leastWeight, symbolOf, IsSymbol, NoZeroWeightUnary, Admissible}
+use Rattle.terms.specs.Signature.{leastWeight, symbolOf, coefficientsOf, IsSymbol, Ones, NoZeroWeightUnary, Admissible}
 use Rattle.terms.specs.Term.{Term, weight, WellFormed, Expression}
 use Rattle.terms.specs.Equivalence.{isEquivalentTo, isEquivalent}
 use Rattle.terms.specs.Equivalence.Equivalent.{same, then, under, exchange, regroup}
@@ -21,6 +21,7 @@ use Rattle.terms.specs.Rewriting.Context.{hole, inside}
 use Rattle.terms.specs.Rewriting.Derivation.{done, more}
 use Rattle.terms.specs.Sample.{sample, o, z, b, _⊕_, neg, sub, u}
 use Rattle.terms.proofs.FormedTest.{isFormed, formed-decides}
+use Rattle.terms.proofs.MeasureLaws.{replicate-ones, positive-of-ones}
 use Rattle.theory.proofs.Ceiling.{stepCount-ceiling}
 
 -- ---- the signature
@@ -47,6 +48,15 @@ sample-symbol (suc (suc (suc (suc zero)))) h = (refl, omega arith, λ e. omega a
 sample-symbol (suc (suc (suc (suc (suc zero))))) h = (refl, omega arith, λ e. omega arith)
 sample-symbol (suc (suc (suc (suc (suc (suc f)))))) h = absurd (omega arith)
 
+sample-ones : Ones sample
+sample-ones zero = replicate-ones 0
+sample-ones (suc zero) = replicate-ones 0
+sample-ones (suc (suc zero)) = replicate-ones 0
+sample-ones (suc (suc (suc zero))) = replicate-ones 2
+sample-ones (suc (suc (suc (suc zero)))) = replicate-ones 1
+sample-ones (suc (suc (suc (suc (suc zero))))) = replicate-ones 2
+sample-ones (suc (suc (suc (suc (suc (suc f)))))) = replicate-ones 0
+
 heavy : NoZeroWeightUnary sample
 heavy f h = sample-symbol f h .2
 
@@ -57,6 +67,8 @@ admissible = record {
   weighsEnough = λ f h. sample-symbol f h .1;
   precedencesDiffer = λ f g h k e. sym (sample-symbol f h .0) ∙ e ∙ sample-symbol g k .0;
   zeroWeightHighest = λ f g h k z. absurd (omega (arith, heavy f h (z .unary), z .weightless));
+  acOnes = λ f a. sample-ones f;
+  coefficientsPositive = λ f. positive-of-ones (coefficientsOf sample f) (sample-ones f);
 }
 
 -- ---- three rules

@@ -9,7 +9,7 @@ use mathlib.Core.Path.{_≡_, sym, _∙_}
 use mathlib.Core.Bool.{Bool, true, false, false≢true}
 use Prim.Native.Nat.{ℕ}
 use Rattle.multisets.specs.Multiset.{multisetEqual}
-use Rattle.terms.specs.Signature.{Signature, AcBinary}
+use Rattle.terms.specs.Signature.{Signature, Admissible}
 use Rattle.terms.specs.Term.{Term, WellFormed}
 use Rattle.terms.specs.Term.Term.{var, app}
 use Rattle.terms.specs.Equivalence.{isEquivalent}
@@ -69,14 +69,14 @@ module _ (σ : Signature) where
       like-formed f ss ts (formed-parts σ (app f ss) v) (formed-parts σ (app f ts) (rw (← p) at w)))
       ∙ arguments-of-isEquivalent σ f g ss ts e))
 
-  pub alike-of-test : AcBinary σ → {s t : Term} → WellFormed σ s → WellFormed σ t → isEquivalent σ s t ≡ true →
+  pub alike-of-test : Admissible σ → {s t : Term} → WellFormed σ s → WellFormed σ t → isEquivalent σ s t ≡ true →
       Alike σ likeFormed s t
-  alike-of-test binary {s} {t} v w e =
-      let d = test-decides σ binary s t v w .0 e in
-      let i = measures-respect-equivalence σ s t d in
+  alike-of-test A {s} {t} v w e =
+      let d = test-decides σ (A .acBinary) s t v w .0 e in
+      let i = measures-respect-equivalence σ (A .acOnes) s t d in
       record {
         weights = i .weight;
-        oftenness = i .occurrences;
+        oftenness = i .variableCoefficients;
         powers = λ f x. power-resp-equivalent f x σ d;
         roots = sameRoot s t v w e;
       }

@@ -27,7 +27,9 @@ pub mod Digits
 pub mod Pigeonhole
 pub mod RenumberedRules
 pub mod Ceiling
+pub mod Coefficients
 pub mod Examples
 mod WeightlessExample
+mod CoefficientExample
 pub mod Theorems
 mod SteinbachChecks

@@ -11,7 +11,7 @@ use lib.Dec.{eqb}
 use borrow.Author.Tests.{eqb-true}
 use Rattle.multisets.specs.Multiset.{multisetEqual, rowEqual, multisetGreater, rowGreater}
 use Rattle.terms.specs.Signature.{Signature, symbolOf}
-use Rattle.terms.specs.Term.{Term, Terms, row, occurrences, isVar, flattenings, variableCount, weight}
+use Rattle.terms.specs.Term.{Term, Terms, row, variableCoefficient, isVar, flattenings, variableCount, weight}
 use Rattle.terms.specs.Term.Term.{var, app}
 use Rattle.terms.specs.Equivalence.{argumentsAlike}
 use Rattle.terms.specs.Iterated.{isPower}
@@ -33,7 +33,7 @@ module _ (σ : Signature) (like : Term → Term → Bool) where
 
   pub record Alike (s t : Term) : Type 0 where
     pub weights : weight σ s ≡ weight σ t
-    pub oftenness : (x : ℕ) → occurrences x s ≡ occurrences x t
+    pub oftenness : (x : ℕ) → variableCoefficient σ x s ≡ variableCoefficient σ x t
     pub powers : (f x : ℕ) → isPower f x s ≡ isPower f x t
     pub roots : SameRoot s t
 
@@ -106,7 +106,7 @@ module _ (σ : Signature) (like : Term → Term → Bool) (E : IsEquivalence lik
   unfolding decreasingMark
   decreasingMark-resp s s' t t' a b =
       rw (
-        noneOftener-resp variableCount s s' t t' (a .oftenness) (b .oftenness),
+        noneOftener-resp σ variableCount s s' t t' (a .oftenness) (b .oftenness),
         a .weights,
         b .weights,
         rootMark-resp (a .powers) (a .roots) (b .roots),

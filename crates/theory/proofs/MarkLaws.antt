@@ -57,14 +57,14 @@ module _ (σ : Signature) where
 
   mark-otherwise : (s t : Term) → isGreater σ s t ≡ false →
       mark σ s t ≡
-      otherMark (noneOftener variableCount s t) (ltb (weight σ s) (weight σ t)) (isEquivalent σ s t)
+      otherMark (noneOftener σ variableCount s t) (ltb (weight σ s) (weight σ t)) (isEquivalent σ s t)
   unfolding mark
   mark-otherwise s t e =
       let m = decreasingMark σ (isEquivalent σ) (isGreater σ) s t in
       let z : m ≡ 0 = omega (arith, ltb-false 0 m (sym (isGreater-unfolds σ s t) ∙ e)) in
       rw z
 
-  not-greater : (s t : Term) → (NoneOftener s t → weight σ t ≤ weight σ s → ⊥) → isGreater σ s t ≡ false
+  not-greater : (s t : Term) → (NoneOftener σ s t → weight σ t ≤ weight σ s → ⊥) → isGreater σ s t ≡ false
   not-greater s t h = refuted (isGreater σ s t) λ e. go (isGreater-view σ s t .0 e)
     where
       go : Decreases σ (isEquivalent σ) (isGreater σ) s t → ⊥
@@ -76,7 +76,7 @@ module _ (σ : Signature) where
   unfolding decreasingMark
   balanced-mark {s} {t} b =
       rw (
-        noneOftener-facts variableCount s t .1 (b .none),
+        noneOftener-facts σ variableCount s t .1 (b .none),
         le-ltb (weight σ t) (weight σ s) (omega (arith, b .weights)),
         eq-eqb (weight σ t) (weight σ s) (b .weights),
       )
@@ -97,7 +97,7 @@ module _ (σ : Signature) where
       let m : decreasingMark σ (isEquivalent σ) (isGreater σ) (app f ss) (var x) ≡ 11 = balanced-mark b ∙ rw e in
       rw (
         m,
-        noneOftener-facts variableCount (app f ss) (var x) .1 (b .none),
+        noneOftener-facts σ variableCount (app f ss) (var x) .1 (b .none),
         le-ltb (weight σ (app f ss)) (weight σ (var x)) (omega (arith, b .weights)),
         isEquivalent-app-var σ f x ss,
       )
@@ -123,7 +123,7 @@ module _ (σ : Signature) where
     pub mark-exact : {k : ℕ} {s t : Term} → WellFormed σ s → WellFormed σ t → Marked σ k s t → mark σ s t ≡ k
     unfolding decreasingMark rootMark flattenedMark
     mark-exact v w (mark1 {s} {t} o h) =
-        mark-cases s t 0 (omega arith) (rw (noneOftener-facts variableCount s t .1 o, lt-ltb _ _ h))
+        mark-cases s t 0 (omega arith) (rw (noneOftener-facts σ variableCount s t .1 o, lt-ltb _ _ h))
     mark-exact v w (mark2 b h) = root-exact 1 (omega arith) b (rw (lt-ltb _ _ h))
     mark-exact v w (mark3 b c h) = arguments-exact 2 (omega arith) b (rw (c, h))
     mark-exact v w (mark4 b c h) = arguments-exact 3 (omega arith) b (rw (c, h))
@@ -134,23 +134,24 @@ module _ (σ : Signature) where
         arguments-exact 5 (omega arith) b (rw (c, level-not-high f ss ts v w e, e, n, eq-eqb _ _ h, g))
     mark-exact v w (mark7 {s} {t} x h o) =
         mark-otherwise s t (not-greater s t λ n k. omega (arith, n x h))
-        ∙ rw (refuted (noneOftener variableCount s t) λ e. omega (arith, noneOftener-facts variableCount s t .0 e x h))
+        ∙ rw (refuted (noneOftener σ variableCount s t)
+        λ e. omega (arith, noneOftener-facts σ variableCount s t .0 e x h))
     mark-exact v w (mark8 {s} {t} o h) =
         mark-otherwise s t (not-greater s t λ n k. omega arith)
-        ∙ rw (noneOftener-facts variableCount s t .1 o, lt-ltb _ _ h)
+        ∙ rw (noneOftener-facts σ variableCount s t .1 o, lt-ltb _ _ h)
     mark-exact v w (mark9 {s} {t} d) =
         let e = test-decides σ (A .acBinary) s t v w .1 d in
-        let i = measures-respect-equivalence σ s t d in
+        let i = measures-respect-equivalence σ (A .acOnes) s t d in
         mark-otherwise s t (refuted _ λ g. isGreater-order σ A .irreflexive v w g e)
         ∙ rw (
-          noneOftener-facts variableCount s t .1 (λ x k. omega (arith, i .occurrences x)),
+          noneOftener-facts σ variableCount s t .1 (λ x k. omega (arith, i .variableCoefficients x)),
           le-ltb (weight σ s) (weight σ t) (omega arith),
           e,
         )
     mark-exact v w (mark10 {s} {t} b h d) =
         mark-otherwise s t h
         ∙ rw (
-          noneOftener-facts variableCount s t .1 (b .none),
+          noneOftener-facts σ variableCount s t .1 (b .none),
           le-ltb (weight σ s) (weight σ t) (omega arith),
           refuted (isEquivalent σ s t) (λ e. d (test-decides σ (A .acBinary) s t v w .0 e)),
         )
@@ -171,8 +172,8 @@ module _ (σ : Signature) where
         byRoots v b (byFlattening c (byLow e h g)) = (6, inl (omega arith), mark6 b c e h g)
         byRoots v b (byPower {f} {x} {ss} e) =
             let i = isPower→Iterated f x f ss e in
-            let w : symbolOf σ f .weight ≡ 0 = omega (arith, iterated-weight σ i, b .weights) in
-            (11, inr refl, mark11 b (record { unary = iterated-unary σ i v .1; weightless = w }) i)
+            let w : symbolOf σ f .weight ≡ 0 = omega (arith, iterated-weight σ A i, b .weights) in
+            (11, inr refl, mark11 b (record { unary = iterated-unary σ i v; weightless = w }) i)
 
     pub decreases-of-marked : {k : ℕ} {s t : Term} → IsDecreasing k → Marked σ k s t →
         Decreases σ (isEquivalent σ) (isGreater σ) s t
@@ -192,8 +193,8 @@ module _ (σ : Signature) where
     some-mark : (s t : Term) → WellFormed σ s → WellFormed σ t → (k : ℕ) × Marked σ k s t
     some-mark s t v w =
         byTest (isGreater σ s t) (λ e. let (k, l, m) = marked-of-decreases v (isGreater-view σ s t .0 e) in (k, m))
-        λ e. byTest (noneOftener variableCount s t)
-        (λ n. let o = noneOftener-facts variableCount s t .0 n in
+        λ e. byTest (noneOftener σ variableCount s t)
+        (λ n. let o = noneOftener-facts σ variableCount s t .0 n in
         byOrder (weight σ s) (weight σ t) (λ h. (8, mark8 o h))
         λ h. byOrder (weight σ t) (weight σ s)
         (λ k. absurd (true≢false (sym (isGreater-view σ s t .1 (byWeight o k)) ∙ e)))
@@ -203,7 +204,7 @@ module _ (σ : Signature) where
           mark10 (record { none = o; weights = omega arith }) e
               λ q. true≢false (sym (test-decides σ (A .acBinary) s t v w .1 q) ∙ d),
         ))
-        λ n. let (x, h, o) = oftener variableCount s t n in (7, mark7 x h o)
+        λ n. let (x, h, o) = oftener σ variableCount s t n in (7, mark7 x h o)
 
     pub mark-holds : (s t : Term) → WellFormed σ s → WellFormed σ t → Marked σ (mark σ s t) s t
     mark-holds s t v w = let (k, m) = some-mark s t v w in rw (mark-exact v w m) m
@@ -219,7 +220,7 @@ module _ (σ : Signature) where
     mark-equivalent s t v w = (
       λ e. let no = refuted (isGreater σ s t)
           λ (g : isGreater σ s t ≡ true). not-decreasing (mark-greater s t v w .0 g) (omega arith) (omega arith) in
-          test-decides σ (A .acBinary) s t v w .0 (nine (noneOftener variableCount s t)
+          test-decides σ (A .acBinary) s t v w .0 (nine (noneOftener σ variableCount s t)
           (ltb (weight σ s) (weight σ t)) (isEquivalent σ s t) (sym (mark-otherwise s t no) ∙ e)),
       λ d. mark-exact v w (mark9 d),
     )
@@ -236,11 +237,11 @@ module _ (σ : Signature) where
         isEquivalent σ s s' ≡ true → isEquivalent σ t t' ≡ true → mark σ s t ≡ mark σ s' t'
     unfolding mark
     mark-resp-like s s' t t' u u' v v' d e =
-        let a = alike-of-test σ (A .acBinary) u u' d in
-        let b = alike-of-test σ (A .acBinary) v v' e in
+        let a = alike-of-test σ A u u' d in
+        let b = alike-of-test σ A v v' e in
         rw (
           decreasingMark-resp-like σ A (isGreater σ) (isGreater-order σ A) s s' t t' u u' v v' d e,
-          noneOftener-resp variableCount s s' t t' (a .oftenness) (b .oftenness),
+          noneOftener-resp σ variableCount s s' t t' (a .oftenness) (b .oftenness),
           a .weights,
           b .weights,
           like-resp (isEquivalent σ) (isEquivalent-equivalence σ) d e,
@@ -248,10 +249,10 @@ module _ (σ : Signature) where
 
 -- ---- mark 7 and the variable test
 
-pub oftener-found : (σ : Signature) (s t : Term) → Marked σ 7 s t → firstOftener s t < variableCount
+pub oftener-found : (σ : Signature) (s t : Term) → Marked σ 7 s t → firstOftener σ s t < variableCount
 oftener-found σ s t (mark7 x l h) =
-    let f = first-oftener-found s t in
-    byOrder (firstOftener s t) variableCount (λ m. m) λ m. absurd (omega (arith, f .before x (omega arith)))
+    let f = first-oftener-found σ s t in
+    byOrder (firstOftener σ s t) variableCount (λ m. m) λ m. absurd (omega (arith, f .before x (omega arith)))
 
-pub found-oftener : (σ : Signature) (s t : Term) → firstOftener s t < variableCount → Marked σ 7 s t
-found-oftener σ s t l = mark7 (firstOftener s t) l (first-oftener-found s t .oftener l)
+pub found-oftener : (σ : Signature) (s t : Term) → firstOftener σ s t < variableCount → Marked σ 7 s t
+found-oftener σ s t l = mark7 (firstOftener σ s t) l (first-oftener-found σ s t .oftener l)

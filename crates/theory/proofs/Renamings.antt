@@ -12,7 +12,8 @@ use lib.Dec.{ltb}
 use lib.ListN.{length-map}
 use Rattle.multisets.specs.Multiset.{Rest, cancel, multisetEqual, multisetGreater}
 use Rattle.terms.specs.Signature.{Signature}
-use Rattle.terms.specs.Term.{Term, row, size, occurrences, isVar, flattenings, variableCount, WellFormed}
+use Rattle.terms.specs.Term.{Term, row, size, occurrences, isVar, flattenings, variableCount, variableCoefficient}
+use Rattle.terms.specs.Term.{WellFormed}
 use Rattle.terms.specs.Term.Term.{var, app}
 use Rattle.terms.specs.Equivalence.{isEquivalent}
 use Rattle.terms.specs.Order.{noneOftener, variables, rootAbove, rootBelow, highPart, lowPart, joinedHigh, highEqual}
@@ -24,9 +25,9 @@ use Rattle.multisets.proofs.MapLaws.{along, choose-map, cancel-map, multisetEqu
 use Rattle.multisets.proofs.MapLaws.{rowGreater-map}
 use Rattle.terms.proofs.TermLaws.{AgreeOn}
 use Rattle.terms.proofs.OrderLaws.{noneOftener-facts, decreasingMark-agree}
-use Rattle.terms.proofs.VariableLaws.{occurrences-past}
+use Rattle.terms.proofs.VariableLaws.{occurrences-past, coefficient-none}
 use Rattle.terms.proofs.RenamingLaws.{size-rename, weight-rename, row-renames, flattenings-rename, isVar-rename}
-use Rattle.terms.proofs.RenamingLaws.{rootAbove-rename, rootBelow-rename, Over, over-parts, occurrences-rename}
+use Rattle.terms.proofs.RenamingLaws.{rootAbove-rename, rootBelow-rename, Over, over-parts, coefficient-rename}
 use Rattle.terms.proofs.RenamingLaws.{occurrences-renamed, over-var, isPower-rename, isEquivalent-rename}
 
 module _ (σ : Signature) (ρ : ℕ → ℕ) (like : Term → Term → Bool) where
@@ -109,27 +110,26 @@ module _ (ρ : ℕ → ℕ) (Among : ℕ → Type 0) (one : (x y : ℕ) → Amon
           rowGreater-map (rename ρ) like greater (row ss) (row ts),
         )
 
-  noneOftener-rename : (s t : Term) → Over Among s → Over Among t →
-      noneOftener variableCount (rename ρ s) (rename ρ t) ≡ noneOftener variableCount s t
-  noneOftener-rename s t h k =
-      sameTest (noneOftener variableCount (rename ρ s) (rename ρ t)) (noneOftener variableCount s t)
-      (λ e. noneOftener-facts variableCount s t .1 λ x l. byOrder 0 (occurrences x t)
+  noneOftener-rename : (σ : Signature) (s t : Term) → Over Among s → Over Among t →
+      noneOftener σ variableCount (rename ρ s) (rename ρ t) ≡ noneOftener σ variableCount s t
+  noneOftener-rename σ s t h k =
+      let kept : (x : ℕ) → 0 < occurrences x t →
+      (variableCoefficient σ (ρ x) (rename ρ s) ≡ variableCoefficient σ x s) ×
+      (variableCoefficient σ (ρ x) (rename ρ t) ≡ variableCoefficient σ x t) =
+      λ x o. (coefficient-rename ρ Among one σ x (k x o) s h, coefficient-rename ρ Among one σ x (k x o) t k) in
+      sameTest (noneOftener σ variableCount (rename ρ s) (rename ρ t)) (noneOftener σ variableCount s t)
+      (λ e. noneOftener-facts σ variableCount s t .1 λ x l. byOrder 0 (occurrences x t)
       (λ o. omega (
         arith,
-        occurrences-rename ρ Among one x (k x o) s h,
-        occurrences-rename ρ Among one x (k x o) t k,
-        noneOftener-facts variableCount (rename ρ s) (rename ρ t) .0 e (ρ x) (after x (k x o)),
+        kept x o,
+        noneOftener-facts σ variableCount (rename ρ s) (rename ρ t) .0 e (ρ x) (after x (k x o)),
       ))
-      λ o. omega arith)
-      λ e. noneOftener-facts variableCount (rename ρ s) (rename ρ t) .1 λ y l. byOrder 0 (occurrences y (rename ρ t))
+      λ o. omega (arith, coefficient-none σ x t (omega arith)))
+      λ e. noneOftener-facts σ variableCount (rename ρ s) (rename ρ t) .1 λ y l.
+      byOrder 0 (occurrences y (rename ρ t))
       (λ o. let (x, q, i) = occurrences-renamed ρ y t o in
-      rw (← q) (omega (
-        arith,
-        occurrences-rename ρ Among one x (k x i) s h,
-        occurrences-rename ρ Among one x (k x i) t k,
-        noneOftener-facts variableCount s t .0 e x (before x (k x i)),
-      )))
-      λ o. omega arith
+      rw (← q) (omega (arith, kept x i, noneOftener-facts σ variableCount s t .0 e x (before x (k x i)))))
+      λ o. omega (arith, coefficient-none σ y (rename ρ t) (omega arith))
 
   module _ (σ : Signature) where
     abbrev like : Term → Term → Bool
@@ -142,7 +142,7 @@ module _ (ρ : ℕ → ℕ) (Among : ℕ → Type 0) (one : (x y : ℕ) → Amon
     unfolding decreasingMark
     decreasingMark-rename greater agree s t h k =
         rw (
-          noneOftener-rename s t h k,
+          noneOftener-rename σ s t h k,
           weight-rename ρ σ s,
           weight-rename ρ σ t,
           rootMark-along σ like greater s t h k,
@@ -168,7 +168,7 @@ module _ (ρ : ℕ → ℕ) (Among : ℕ → Type 0) (one : (x y : ℕ) → Amon
     mark-rename s t h k =
         rw (
           decreasingMark-rename (isGreater σ) greater-rename s t h k,
-          noneOftener-rename s t h k,
+          noneOftener-rename σ s t h k,
           weight-rename ρ σ s,
           weight-rename ρ σ t,
           isEquivalent-rename ρ Among one σ s t h k,

@@ -5,28 +5,36 @@ use mathlib.Core.Bool.{Bool, true, false, false≢true}
 use Prim.Native.Nat.{ℕ, suc, zero}
 use native.Mathlib.Omega.{arith}
 use Rattle.multisets.specs.Multiset.{multisetEqual, multisetGreater, rowEqual, rowGreater}
-use Rattle.terms.specs.Signature.{Signature}
+use Rattle.terms.specs.Signature.{Symbol, Signature}
 use Rattle.terms.specs.Term.{Term}
 use Rattle.terms.specs.Equivalence.{isEquivalentTo, isEquivalent}
 use Rattle.terms.specs.Order.{noneOftener, flattenedMark, rootMark, decreasingMark, isGreaterTo, isGreater}
-use Rattle.terms.specs.Steinbach.{steinbachCases, steinbachDecreases, isSteinbachGreaterTo, isSteinbachGreater}
+use Rattle.terms.specs.Steinbach.{noneMore, steinbachCases, steinbachDecreases, isSteinbachGreaterTo}
+use Rattle.terms.specs.Steinbach.{isSteinbachGreater}
 use Rattle.terms.specs.Sample.{entry, sample, o, z, b, u, neg, _⊕_}
 use Rattle.theory.specs.SteinbachStatements.{AcLowest}
 
--- The sample's symbols with + ranked lowest and neg highest, and that weight of neg. With o for a and neg for f, of
+-- The sample's symbols with + ranked lowest and neg highest, neg as given. With o for a and neg for f, of
 -- weight 0, it is Example 3.4's: f > a > +, w(+) = w(a) = 1.
-abbrev lowest : ℕ → Signature
-lowest w = record {
+abbrev withNeg : Symbol → Signature
+withNeg n = record {
   w0 = 1;
   symbols =
       entry 0 false 1 1 ∷
       entry 0 false 1 2 ∷
       entry 0 false 3 3 ∷
       entry 2 true 1 0 ∷
-      entry 1 false w 5 ∷
+      n ∷
       entry 2 false 1 4 ∷
       [];
 }
+
+abbrev lowest : ℕ → Signature
+lowest w = withNeg (entry 1 false w 5)
+
+-- neg weighs 1 and has the coefficient 2.
+abbrev doubled : Signature
+doubled = withNeg (record { arity = 1; ac = false; weight = 1; precedence = 5; coefficients = 2 ∷ [] })
 
 ac-lowest : (w : ℕ) → AcLowest (lowest w)
 ac-lowest w zero g h k e = absurd (false≢true e)
@@ -53,7 +61,7 @@ line σ s t g h = record { signature = σ; left = s; right = t; greater = g; ste
 
 -- The rules of Example 3.4, by cases 2 and 4, and case 1; the second rule where f weighs 1, and pairs with variables;
 -- then 01's starred case of mark 5, with + ranked lowest, and in the sample book, where it is not: there Steinbach's
--- order turns the case round.
+-- order turns the case round. With a coefficient the orders differ by weight: 7 or 4 against 5.
 abbrev pairs : List Pair
 pairs =
     line (lowest 0) (neg (o ⊕ o)) (neg o ⊕ neg o) true true ∷
@@ -67,6 +75,7 @@ pairs =
     line (lowest 1) (z ⊕ b) (z ⊕ z ⊕ z) true true ∷
     line sample (z ⊕ z ⊕ z) (z ⊕ b) true false ∷
     line sample (z ⊕ b) (z ⊕ z ⊕ z) false true ∷
+    line doubled (neg b) (b ⊕ o) true false ∷
     []
 
 abbrev judged : Pair → Pair
@@ -77,5 +86,5 @@ judged p =
 pairs-judged : map judged pairs ≡ pairs
 unfolding isGreater isGreaterTo decreasingMark rootMark flattenedMark noneOftener isEquivalent isEquivalentTo
     multisetEqual multisetGreater rowEqual rowGreater isSteinbachGreater isSteinbachGreaterTo steinbachDecreases
-    steinbachCases
+    steinbachCases noneMore
 pairs-judged = refl

@@ -1,27 +1,29 @@
 -- Where every AC symbol is ranked lowest, Steinbach's order is the order: the cases of both are the same but for those
--- of flattenings, which then have no low part (FlattenedWhole). Case 1 is mark 11.
+-- of flattenings, which then have no low part (FlattenedWhole). Case 1 is mark 11. Coefficients that are all 1 change
+-- neither weights nor occurrences.
 --     one-of-lowest, lowest-of-one     the one AC symbol is ranked lowest of all
 --     greater-steinbach                the orders agree
 use mathlib.Core.Path.{_≡_, refl, sym, ap, _∙_}
-use mathlib.Core.Bool.{true, false, not, false≢true}
+use mathlib.Core.Bool.{true, false, cond, not, false≢true}
 use Prim.Native.Nat.{ℕ, suc, zero, _≤_, _<_}
 use native.Mathlib.Omega.{arith}
 use lib.Dec.{eqb, ltb}
 use borrow.Author.Tests.{eqb-false, eqb-true, le-ltb}
 use Rattle.multisets.specs.Multiset.{rowGreater}
-use Rattle.terms.specs.Signature.{Signature, symbolOf, IsSymbol, Admissible}
+use Rattle.terms.specs.Signature.{Signature, symbolOf, coefficientsOf, IsSymbol, Ones, Admissible}
 use Rattle.terms.specs.Term.{Term, Terms, row, size, isVar, flattenings, variableCount, weight, WellFormed}
 use Rattle.terms.specs.Term.Term.{var, app}
 use Rattle.terms.specs.Equivalence.{isEquivalent}
 use Rattle.terms.specs.Order.{noneOftener, rootAbove, rootBelow, rootMark, decreasingMark, isGreater}
 use Rattle.terms.specs.Iterated.{isPower}
-use Rattle.terms.specs.Steinbach.{steinbachCases, steinbachDecreases, isSteinbachGreaterTo}
+use Rattle.terms.specs.Steinbach.{noneMore, plainWeight, steinbachCases, steinbachDecreases, isSteinbachGreaterTo}
 use Rattle.terms.specs.Steinbach.{isSteinbachGreater}
 use Rattle.multisets.proofs.Relations.{byTest, refuted}
 use Rattle.terms.proofs.TermLaws.{size-pos, flattenings-formed, formed-parts, smaller-parts, parts-both}
 use Rattle.terms.proofs.FlatteningLaws.{NotRoot, flattenings-roots}
 use Rattle.terms.proofs.OrderLaws.{isGreater-unfolds}
-use Rattle.terms.proofs.SteinbachLaws.{steinbachDecreases-agree}
+use Rattle.terms.proofs.MeasureLaws.{measure-ones}
+use Rattle.terms.proofs.SteinbachLaws.{noneMore-ones, steinbachDecreases-agree}
 use Rattle.theory.specs.SteinbachStatements.{AcLowest, OneAcLowest}
 use Rattle.theory.proofs.RootTests.{place, root-apart}
 use Rattle.theory.proofs.RootTests.Placed.{placedAbove, placedOwn, placedBelow}
@@ -45,7 +47,7 @@ module _ (σ : Signature) (A : Admissible σ) (f : ℕ) (i : IsSymbol σ f) (c :
       λ q. omega (arith, O h k (eqb-false h f q) .1)))
       λ e. absurd (false≢true (sym (O g j (eqb-false g f e) .0) ∙ d))
 
-module _ (σ : Signature) (A : Admissible σ) (L : AcLowest σ) where
+module _ (σ : Signature) (A : Admissible σ) (ones : Ones σ) (L : AcLowest σ) where
   -- A flattening for an AC symbol has no low part.
   upper : (f : ℕ) (ts : Terms) → symbolOf σ f .ac ≡ true → WellFormed σ (app f ts) → Upper σ f (flattenings f ts)
   upper f ts c w a m = go a (flattenings-formed σ ts f (w .2) a m) (flattenings-roots f ts a m)
@@ -73,16 +75,23 @@ module _ (σ : Signature) (A : Admissible σ) (L : AcLowest σ) where
       λ d. rw (a, b, c, d))
       λ b. rw (a, b)
 
+  weight-plain : (t : Term) → weight σ t ≡ plainWeight σ t
+  weight-plain t = measure-ones (coefficientsOf σ) (λ x. σ .w0) (λ f. symbolOf σ f .weight) ones t
+
+  none-plain : (s t : Term) → noneOftener σ variableCount s t ≡ noneMore variableCount s t
+  none-plain =
+      noneMore-ones σ (λ x. measure-ones (coefficientsOf σ) (λ y. cond (eqb x y) 1 0) (λ f. 0) ones) variableCount
+
   decreases-same : (s t : Term) → WellFormed σ s → WellFormed σ t →
       ltb 0 (decreasingMark σ (likeFormed σ) (greaterFormed σ) s t) ≡
       steinbachDecreases σ (likeFormed σ) (greaterFormed σ) s t
   unfolding decreasingMark steinbachDecreases
   decreases-same s t v w =
-      byTest (noneOftener variableCount s t)
-      (λ a. byTest (ltb (weight σ t) (weight σ s)) (λ b. rw (a, b))
-      λ b. byTest (eqb (weight σ t) (weight σ s)) (λ c. rw (a, b, c) (cases-same s t v w))
+      rw (none-plain s t, weight-plain s, weight-plain t) (byTest (noneMore variableCount s t)
+      (λ a. byTest (ltb (plainWeight σ t) (plainWeight σ s)) (λ b. rw (a, b))
+      λ b. byTest (eqb (plainWeight σ t) (plainWeight σ s)) (λ c. rw (a, b, c) (cases-same s t v w))
       λ c. rw (a, b, c))
-      λ a. rw a
+      λ a. rw a)
 
   by-depth : (n : ℕ) (s t : Term) → size s ≤ n → WellFormed σ s → WellFormed σ t →
       isGreater σ s t ≡ isSteinbachGreaterTo σ n s t

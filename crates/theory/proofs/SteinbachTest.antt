@@ -12,20 +12,18 @@ use lib.Dec.{eqb, ltb}
 use borrow.Author.Tests.{eq-eqb, eqb-true, le-ltb, lt-ltb, ltb-true, not-true}
 use Rattle.multisets.specs.Multiset.{some, every, isEmpty, cancel, multisetGreater, rowGreater}
 use Rattle.terms.specs.Signature.{Signature, symbolOf, Admissible}
-use Rattle.terms.specs.Term.{Term, Terms, row, size, occurrences, flattenings, variableCount, weight, WellFormed}
+use Rattle.terms.specs.Term.{Term, Terms, row, size, occurrences, flattenings, variableCount, WellFormed}
 use Rattle.terms.specs.Term.Term.{var, app}
 use Rattle.terms.specs.Equivalence.{isEquivalent}
-use Rattle.terms.specs.Order.{noneOftener}
 use Rattle.terms.specs.Iterated.{Iterated}
 use Rattle.terms.specs.Iterated.Iterated.{once, more}
-use Rattle.terms.specs.Article.{Even}
-use Rattle.terms.specs.Steinbach.{SteinbachGreater, SteinbachLex, SteinbachAbove, SteinbachCovered, steinbachCases}
-use Rattle.terms.specs.Steinbach.{steinbachDecreases, isSteinbachGreater}
+use Rattle.terms.specs.Steinbach.{noneMore, plainWeight, PlainlyEven, SteinbachGreater, SteinbachLex, SteinbachAbove}
+use Rattle.terms.specs.Steinbach.{SteinbachCovered, steinbachCases, steinbachDecreases, isSteinbachGreater}
 use Rattle.terms.specs.Steinbach.SteinbachGreater.{heavier, case1, case2, case3, case4}
 use Rattle.terms.specs.Steinbach.SteinbachLex.{ahead, level}
 use Rattle.terms.specs.Steinbach.SteinbachAbove.{left}
 use Rattle.terms.specs.Steinbach.SteinbachCovered.{nothing, another}
-use Rattle.multisets.proofs.Relations.{byTest, refuted, eqb-self}
+use Rattle.multisets.proofs.Relations.{byTest, byOrder, refuted, eqb-self}
 use Rattle.multisets.proofs.RowLaws.{rowGreater-equal}
 use Rattle.multisets.proofs.MultisetOrder.{multisetGreater-equal}
 use Rattle.multisets.proofs.MultisetMaps.{some-member, some-of-member}
@@ -33,11 +31,11 @@ use Rattle.multisets.proofs.Agreement.{cancel-leaves}
 use Rattle.terms.proofs.TermLaws.{size-pos, Each, Parts, smaller-parts, formed-parts, parts-both}
 use Rattle.terms.proofs.EquivalenceLaws.{isEquivalent-app-var, symbol-of-isEquivalent, arguments-of-isEquivalent}
 use Rattle.terms.proofs.EquivalenceComplete.{Equivalent→isEquivalent}
-use Rattle.terms.proofs.OrderLaws.{noneOftener-facts}
 use Rattle.terms.proofs.IteratedLaws.{isPower→Iterated, Iterated→isPower}
-use Rattle.terms.proofs.SteinbachLaws.{isSteinbachGreater-unfolds}
-use Rattle.terms.proofs.VariableLaws.{noneOftener-everywhere}
-use Rattle.terms.proofs.Theorems.{test-decides, measures-respect-equivalence}
+use Rattle.terms.proofs.SteinbachLaws.{noneMore-facts, isSteinbachGreater-unfolds}
+use Rattle.terms.proofs.EquivalenceMeasures.{plain-resp-equivalent}
+use Rattle.terms.proofs.VariableLaws.{occurrences-past}
+use Rattle.terms.proofs.Theorems.{test-decides}
 
 -- ---- the two ways in which the test passes
 
@@ -49,31 +47,32 @@ module _ (σ : Signature) where
   Cases = steinbachCases σ (isEquivalent σ) G
 
   data Passes (s t : Term) : Type 0 where
-    byWeight : ((x : ℕ) → occurrences x t ≤ occurrences x s) → weight σ t < weight σ s → Passes s t
-    byCases : Even σ s t → Cases s t ≡ true → Passes s t
+    byWeight : ((x : ℕ) → occurrences x t ≤ occurrences x s) → plainWeight σ t < plainWeight σ s → Passes s t
+    byCases : PlainlyEven σ s t → Cases s t ≡ true → Passes s t
 
   passes→test : {s t : Term} → Passes s t → G s t ≡ true
   unfolding steinbachDecreases
   passes→test {s} {t} (byWeight o h) =
       isSteinbachGreater-unfolds σ s t
-      ∙ rw (noneOftener-facts variableCount s t .1 (λ x k. o x), lt-ltb (weight σ t) (weight σ s) h)
+      ∙ rw (noneMore-facts variableCount s t .1 (λ x k. o x), lt-ltb (plainWeight σ t) (plainWeight σ s) h)
   passes→test {s} {t} (byCases o c) =
       isSteinbachGreater-unfolds σ s t
       ∙ rw (
-        noneOftener-facts variableCount s t .1 (λ x k. o .variables x),
-        le-ltb (weight σ t) (weight σ s) (omega (arith, o .weights)),
-        eq-eqb (weight σ t) (weight σ s) (sym (o .weights)),
+        noneMore-facts variableCount s t .1 (λ x k. o .variables x),
+        le-ltb (plainWeight σ t) (plainWeight σ s) (omega (arith, o .weights)),
+        eq-eqb (plainWeight σ t) (plainWeight σ s) (sym (o .weights)),
         c,
       )
 
   test→passes : (s t : Term) → WellFormed σ t → G s t ≡ true → Passes s t
   unfolding steinbachDecreases
   test→passes s t w e =
-      let (n, h) = both (noneOftener variableCount s t) _ .0 (sym (isSteinbachGreater-unfolds σ s t) ∙ e) in
+      let (n, h) = both (noneMore variableCount s t) _ .0 (sym (isSteinbachGreater-unfolds σ s t) ∙ e) in
       let o : (x : ℕ) → occurrences x t ≤ occurrences x s =
-      noneOftener-everywhere σ s t w (noneOftener-facts variableCount s t .0 n) in
-      byTest (ltb (weight σ t) (weight σ s)) (λ k. byWeight o (ltb-true _ _ k))
-      λ k. let (q, c) = both (eqb (weight σ t) (weight σ s)) _ .0 (rw k at h) in
+      λ x. byOrder x variableCount (noneMore-facts variableCount s t .0 n x)
+      λ l. omega (arith, occurrences-past σ x l t w) in
+      byTest (ltb (plainWeight σ t) (plainWeight σ s)) (λ k. byWeight o (ltb-true _ _ k))
+      λ k. let (q, c) = both (eqb (plainWeight σ t) (plainWeight σ s)) _ .0 (rw k at h) in
       byCases (record { variables = o; weights = sym (eqb-true _ _ q) }) c
 
   same-root : (f : ℕ) (ss ts : Terms) →
@@ -100,7 +99,8 @@ module _ (σ : Signature) (A : Admissible σ) where
     where
       go : isEquivalent σ s t ≡ true → Passes σ s t → ⊥
       go e (byWeight o h) =
-          omega (arith, measures-respect-equivalence σ s t (test-decides σ (A .acBinary) s t v w .0 e) .weight)
+          let d = test-decides σ (A .acBinary) s t v w .0 e in
+          omega (arith, plain-resp-equivalent σ (λ x. σ .w0) (λ f. symbolOf σ f .weight) d)
       go e (byCases o c) = false≢true (sym (level-cases σ s t e) ∙ c)
 
   -- ---- from the definition
@@ -184,7 +184,7 @@ module _ (σ : Signature) (A : Admissible σ) where
         let (n, h) = both (not (isEmpty (cancel (isEquivalent σ) ss ts .left))) _ .0 e in
         left (not-true _ n) (every→Covered _ _ (λ a m. p a (k .left a m)) (λ b m. q b (k .right b m)) h)
 
-    cases→Greater : (s t : Term) → Parts P s → WellFormed σ t → Even σ s t → Cases σ s t ≡ true →
+    cases→Greater : (s t : Term) → Parts P s → WellFormed σ t → PlainlyEven σ s t → Cases σ s t ≡ true →
         SteinbachGreater σ s t
     unfolding steinbachCases
     cases→Greater (var x) t p w o e = absurd (false≢true e)

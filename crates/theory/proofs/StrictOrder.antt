@@ -59,7 +59,7 @@ module _ (σ : Signature) (A : Admissible σ) where
       decreasingMark-resp-like s s' t t' u u' v v' e f =
           mark-formed σ greater s t u v
           ∙ decreasingMark-resp σ (likeFormed σ) (likeFormed-equivalence σ) (likeFormed-root σ) held held-order s s' t
-          t' (alike-of-test σ (A .acBinary) u u' e) (alike-of-test σ (A .acBinary) v v' f)
+          t' (alike-of-test σ A u u' e) (alike-of-test σ A v v' f)
           ∙ sym (mark-formed σ greater s' t' u' v')
 
       deeper-order : ((x : ℕ) (t : Term) → WellFormed σ t → greater (var x) t ≡ true → ⊥) →
@@ -73,7 +73,7 @@ module _ (σ : Signature) (A : Admissible σ) where
                 out u w (decreases-trans σ (likeFormed σ) E roots held held-order low A u w (into u v e) (into v w f));
             irreflexive = λ {a} {b} v w e f.
                 decreases-irrefl σ (likeFormed σ) E roots held held-order low (into v w e)
-                (alike-of-test σ (A .acBinary) v w f);
+                (alike-of-test σ A v w f);
             respects = λ {a} {a'} {b} {b'} u u' v v' e f g.
                 ap (ltb 0) (sym (decreasingMark-resp-like a a' b b' u u' v v' e f)) ∙ g;
           }

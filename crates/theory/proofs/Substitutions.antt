@@ -113,7 +113,7 @@ module _ (σ : Signature) (A : Admissible σ) (τ : Substitution)
       WellFormed σ t → Decreases σ (likeFormed σ) (greaterFormed σ) s t →
       Decreases σ (likeFormed σ) (greaterFormed σ) (substitute τ s) (substitute τ t)
   decreases-substitute s t h v w d =
-      let o = noneOftener-ground (substitute τ s) (substitute τ t) (substitute-expression σ τ images t w .1) in
+      let o = noneOftener-ground σ (substitute τ s) (substitute τ t) (substitute-expression σ τ images t w .1) in
       let grows = weight-substitute-le σ A τ images s t w in
       elim d [
         | byWeight n l ↦ byWeight o (omega (arith, grows n))

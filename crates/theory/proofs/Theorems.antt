@@ -1,5 +1,5 @@
--- The theorems of specs/: of Statements, StepStatements, TerminationStatements, RenamingStatements and
--- SteinbachStatements.
+-- The theorems of specs/: of Statements, StepStatements, TerminationStatements, RenamingStatements, SteinbachStatements
+-- and CoefficientStatements.
 use mathlib.Core.Path.{refl, sym, ap₂, _∙_}
 use Prim.Native.Nat.{_<_}
 use native.Mathlib.Omega.{arith}
@@ -23,6 +23,7 @@ use Rattle.theory.specs.RenamingStatements.{EquivalenceRenamed, OrderRen
 use Rattle.theory.specs.RenamingStatements.{RulesConverted}
 use Rattle.theory.specs.SteinbachStatements.{SteinbachUnfolds, TestDecidesSteinbach, AgreesWithSteinbach}
 use Rattle.theory.specs.SteinbachStatements.{AcLowestMeans, ArticlesAgree}
+use Rattle.theory.specs.CoefficientStatements.{OnesChangeNothing}
 use Rattle.multisets.proofs.Relations.{refuted}
 use Rattle.multisets.proofs.Accessibility.{endless-absurd}
 use Rattle.terms.proofs.EquivalenceLaws.{isEquivalent-app, isEquivalent-app-var}
@@ -48,6 +49,7 @@ use Rattle.theory.proofs.RenumberedRules.{renumbering-within}
 use Rattle.theory.proofs.Renamings.{equivalent-renamed, greater-renamed, less-renamed, mark-renamed}
 use Rattle.theory.proofs.Steps.{step-decreases, along-descends, steps-accessible}
 use Rattle.theory.proofs.Ceiling.{stepCount-ceiling}
+use Rattle.theory.proofs.Coefficients.{ones-unchanged}
 use Rattle.theory.proofs.Examples.{admissible}
 use Rattle.theory.proofs.WeightlessExample.{unwrapping-fails}
 
@@ -107,13 +109,13 @@ module _ (σ : Signature) where
   ac-lowest-means A f i c = (one-of-lowest σ A f i c, lowest-of-one σ A f i c)
 
   pub agrees-with-steinbach : AgreesWithSteinbach σ
-  agrees-with-steinbach L A = greater-steinbach σ A L
+  agrees-with-steinbach ones L A = greater-steinbach σ A ones L
 
   pub articles-agree : ArticlesAgree σ
-  articles-agree L A s t v w =
+  articles-agree ones L A s t v w =
       let (down, up) = test-decides-article A s t v w in
       let (to, from) = test-decides-steinbach A s t v w in
-      let e = agrees-with-steinbach L A s t v w in
+      let e = agrees-with-steinbach ones L A s t v w in
       (λ g. to (sym e ∙ up g), λ g. down (e ∙ from g))
 
   pub total-on-expressions : TotalOnExpressions σ
@@ -165,6 +167,9 @@ module _ (σ : Signature) where
 
   pub nodes-bounded : NodesBounded σ
   nodes-bounded A heavy t w = omega (arith, nodes-le-weight σ A heavy t w)
+
+  pub ones-change-nothing : OnesChangeNothing σ
+  ones-change-nothing = ones-unchanged σ
 
 module _ (R : System) where
   pub steps-decrease : StepsDecrease R

@@ -124,7 +124,7 @@ module _ (σ : Signature) (A : Admissible σ) where
   root-greater : {s t : Term} → Expression σ s → Expression σ t → weight σ t ≡ weight σ s →
       RootDecreases σ (likeFormed σ) (greaterFormed σ) s t → isGreater σ s t ≡ true
   root-greater {s} {t} v w e r =
-      formed-view σ s t (v .0) (w .0) .1 (byRoot (record { none = noneOftener-ground s t (w .1); weights = e }) r)
+      formed-view σ s t (v .0) (w .0) .1 (byRoot (record { none = noneOftener-ground σ s t (w .1); weights = e }) r)
 
   -- Two terms with one root and equal weights, whose parts compare.
   module _ (f : ℕ) (ss ts : Terms) (v : Expression σ (app f ss)) (w : Expression σ (app f ts))
@@ -177,7 +177,7 @@ module _ (σ : Signature) (A : Admissible σ) where
     one-root = byTest (symbolOf σ f .ac) flat rows
 
   heavier : (s t : Term) → Expression σ t → weight σ t < weight σ s → isGreater σ s t ≡ true
-  heavier s t w h = isGreater-view σ s t .1 (byWeight (noneOftener-ground s t (w .1)) h)
+  heavier s t w h = isGreater-view σ s t .1 (byWeight (noneOftener-ground σ s t (w .1)) h)
 
   by-size : (n : ℕ) (s t : Term) → size s ≤ n → Expression σ s → Expression σ t → TermsCompared s t
   by-size zero s t l v w = absurd (omega (arith, size-pos s))

@@ -10,7 +10,8 @@ use mathlib.Core.Bool.{true, false, false≢true}
 use Prim.Native.Nat.{ℕ, suc, zero, _≤_}
 use native.Mathlib.Omega.{arith}
 use Rattle.multisets.specs.Multiset.{multisetEqual, rowEqual, multisetGreater, rowGreater}
-use Rattle.terms.specs.Signature.{Signature, leastWeight, symbolOf, IsSymbol, ZeroWeightUnary, Admissible}
+use Rattle.terms.specs.Signature.{Signature, leastWeight, symbolOf, coefficientsOf, IsSymbol, Ones, ZeroWeightUnary}
+use Rattle.terms.specs.Signature.{Admissible}
 use Rattle.terms.specs.Term.{Term, weight, WellFormed, Expression}
 use Rattle.terms.specs.Term.Term.{var, app}
 use Rattle.terms.specs.Term.Terms.{nil, cons}
@@ -24,6 +25,7 @@ use Rattle.terms.specs.Rewriting.Derivation.{done, more}
 use Rattle.terms.specs.Sample.{entry}
 use Rattle.theory.specs.TerminationStatements.{NoCeilingByWeight, CeilingFails}
 use Rattle.terms.proofs.FormedTest.{isFormed, formed-decides}
+use Rattle.terms.proofs.MeasureLaws.{replicate-ones, positive-of-ones}
 use Rattle.theory.proofs.Steps.{along-descends}
 
 -- The AC symbol +, the constant a and f, with f > a > +; f and + weigh nothing.
@@ -88,6 +90,12 @@ symbol (suc zero) h = (refl, omega arith, λ z. absurd (omega (arith, z .unary))
 symbol (suc (suc zero)) h = (refl, omega arith, λ z. omega arith)
 symbol (suc (suc (suc g))) h = absurd (omega arith)
 
+ones : Ones signature
+ones zero = replicate-ones 2
+ones (suc zero) = replicate-ones 0
+ones (suc (suc zero)) = replicate-ones 1
+ones (suc (suc (suc g))) = replicate-ones 0
+
 admissible : Admissible signature
 admissible = record {
   variableWeighs = omega arith;
@@ -95,6 +103,8 @@ admissible = record {
   weighsEnough = λ g i. symbol g i .1;
   precedencesDiffer = λ g h i j e. sym (symbol g i .0) ∙ e ∙ symbol h j .0;
   zeroWeightHighest = λ g h i j z. omega (arith, symbol g i .2 z, symbol g i .0, symbol h j .0);
+  acOnes = λ g e. ones g;
+  coefficientsPositive = λ g. positive-of-ones (coefficientsOf signature g) (ones g);
 }
 
 -- ---- a derivation

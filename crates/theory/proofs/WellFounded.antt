@@ -19,13 +19,13 @@ use Rattle.terms.specs.Term.Term.{var, app}
 use Rattle.terms.specs.Term.Terms.{nil, cons}
 use Rattle.terms.specs.Order.{variables, rootAbove, rootBelow, highPart, lowPart, highEqual, lowGreater}
 use Rattle.theory.specs.TerminationStatements.{AccessibleAmong}
-use Rattle.multisets.proofs.Relations.{byTest, eqb-self, IsEquivalence, IsStrictOrder}
+use Rattle.multisets.proofs.Relations.{byTest, byOrder, eqb-self, IsEquivalence, IsStrictOrder}
 use Rattle.multisets.proofs.MultisetLaws.{count-append, multisetEqual-counts, multisetEqual-equivalence}
 use Rattle.multisets.proofs.MultisetOrder.{multisetGreater-mono, multiset-part, multisetGreater-order}
 use Rattle.multisets.proofs.Accessibility.{Accessible, AllAccessible, AccessibleList, multiset-accessible}
 use Rattle.multisets.proofs.Accessibility.{RowBelow, AccessibleRow, row-accessible}
 use Rattle.terms.proofs.TermLaws.{size-pos, row-smaller, flattenings-smaller, each-choose, formed-parts}
-use Rattle.terms.proofs.WeightLaws.{variable-lightest, weight-argument, flattening-lighter}
+use Rattle.terms.proofs.WeightLaws.{variable-lightest, weight-argument, weight-argument-le, flattening-lighter}
 use Rattle.theory.proofs.DecreasesView.{FlattenedDecreases, RootDecreases, Decreases}
 use Rattle.theory.proofs.DecreasesView.Decreases.{byWeight, byRoot}
 use Rattle.theory.proofs.DecreasesView.FlattenedDecreases.{byHigh, byLength, byLow}
@@ -250,10 +250,9 @@ module _ (σ : Signature) (A : Admissible σ) where
     by-size (suc n) (var x) h w e = variable-reached x
     by-size (suc n) (app f ss) h w e =
         by-precedence (suc (symbolOf σ f .precedence)) f ss (omega arith) (w, e) λ a m.
-        ⊎-elim (λ k. lighter a (argument-formed f ss w a m) (omega arith))
-        (λ k. by-size n a (omega (arith, row-smaller ss a m)) (argument-formed f ss w a m)
-        (omega (arith, k .0 .weightless, ap (λ (ts : Terms). weight σ (app f ts)) (k .1))))
-        (weight-argument σ A f ss w a m)
+        byOrder (weight σ a) W (lighter a (argument-formed f ss w a m))
+        λ k. by-size n a (omega (arith, row-smaller ss a m)) (argument-formed f ss w a m)
+        (omega (arith, weight-argument-le σ A f ss a m))
 
   by-weight : (n : ℕ) (t : Term) → weight σ t < n → WellFormed σ t → Reached t
   by-weight zero t h w = absurd (omega arith)

@@ -1,6 +1,8 @@
--- The theorems of the order, of rewrite steps, derivations and their end, of renamings, of Steinbach's order, as types.
+-- The theorems of the order, of rewrite steps, derivations and their end, of renamings, of Steinbach's order and of
+-- coefficients, as types.
 pub mod Statements
 pub mod StepStatements
 pub mod TerminationStatements
 pub mod RenamingStatements
 pub mod SteinbachStatements
+pub mod CoefficientStatements

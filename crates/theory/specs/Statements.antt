@@ -1,7 +1,7 @@
 -- The theorems of the order, as types; those of steps are in StepStatements. The proofs stand in proofs/Theorems.antt.
--- Renders: 01, "The order" and "Kept by contexts"; 02, order 8: mark 11 "counts as falling"; 000, Definition 5.1, the
--- properties that make the order an AC-compatible simplification order (Theorem 5.10), and its totality on ground terms
--- (Theorem 5.12).
+-- Renders: 01, "The order" and "Kept by contexts"; 02, order 8: mark 11 "counts as falling"; 000, Definitions 5.1 and
+-- 8.1, the properties that make the order an AC-compatible simplification order (Theorems 5.10 and 8.2), and its
+-- totality on ground terms (Theorem 5.12).
 use mathlib.Core.List.{List}
 use mathlib.Core.Logic.{_↔_, _⊎_}
 use mathlib.Core.Path.{_≡_}
@@ -60,7 +60,7 @@ module _ (σ : Signature) where
 
   -- 02, order 3: a rule has mark 7 exactly if the variable test answers a variable.
   abbrev pub MarkSeven : Type 0
-  MarkSeven = ForWellFormed λ s t. mark σ s t ≡ 7 ↔ (firstOftener s t < variableCount)
+  MarkSeven = ForWellFormed λ s t. mark σ s t ≡ 7 ↔ (firstOftener σ s t < variableCount)
 
   -- 01: "9 the sides are AC-equal".
   abbrev pub MarkNine : Type 0
@@ -78,7 +78,7 @@ module _ (σ : Signature) where
   abbrev pub OrderUnfolds : Type 0
   OrderUnfolds = (s t : Term) → isGreater σ s t ≡ ltb 0 (decreasingMark σ (isEquivalent σ) (isGreater σ) s t)
 
-  -- 01: "The order is Definition 5.1 of source document 000".
+  -- 01: "The order is Definition 5.1 of source document 000"; with coefficients it is Definition 8.1.
   abbrev pub TestDecidesArticle : Type 0
   TestDecidesArticle = ForWellFormed λ s t. isGreater σ s t ≡ true ↔ Greater σ s t
 

@@ -1,11 +1,12 @@
 -- The theorems of Steinbach's order, as types. The proofs stand in proofs/Theorems.antt.
 -- Renders: 02, order 7: "For a book with one AC symbol, ranked lowest of all, show that both orders .. say the same of
--- every pair of terms, variables included."; 004, Theorem 3.13 (000, Theorem 5.2).
+-- every pair of terms, variables included."; order 9: "Agreement with Steinbach stays with form 2", whose coefficients
+-- are all 1; 004, Theorem 3.13 (000, Theorem 5.2).
 use mathlib.Core.Logic.{_↔_}
 use mathlib.Core.Path.{_≡_}
 use mathlib.Core.Bool.{true, false}
 use Prim.Native.Nat.{ℕ, _≤_, _<_}
-use Rattle.terms.specs.Signature.{Signature, symbolOf, IsSymbol, Admissible}
+use Rattle.terms.specs.Signature.{Signature, symbolOf, IsSymbol, Ones, Admissible}
 use Rattle.terms.specs.Term.{Term}
 use Rattle.terms.specs.Equivalence.{isEquivalent}
 use Rattle.terms.specs.Order.{isGreater}
@@ -39,9 +40,10 @@ module _ (σ : Signature) where
   abbrev pub AcLowestMeans : Type 0
   AcLowestMeans = Admissible σ → (f : ℕ) → IsSymbol σ f → symbolOf σ f .ac ≡ true → AcLowest ↔ OneAcLowest f
 
-  -- Under AcLowest both orders say the same of any two terms: by the tests, and by the articles' definitions.
+  -- Where all coefficients are 1, under AcLowest both orders say the same of any two terms: by the tests, and by the
+  -- articles' definitions.
   abbrev pub AgreesWithSteinbach : Type 0
-  AgreesWithSteinbach = AcLowest → ForWellFormed σ λ s t. isGreater σ s t ≡ isSteinbachGreater σ s t
+  AgreesWithSteinbach = Ones σ → AcLowest → ForWellFormed σ λ s t. isGreater σ s t ≡ isSteinbachGreater σ s t
 
   abbrev pub ArticlesAgree : Type 0
-  ArticlesAgree = AcLowest → ForWellFormed σ λ s t. Greater σ s t ↔ SteinbachGreater σ s t
+  ArticlesAgree = Ones σ → AcLowest → ForWellFormed σ λ s t. Greater σ s t ↔ SteinbachGreater σ s t

@@ -1,7 +1,8 @@
 -- The theorems of rewrite steps and derivations, as types. Their proofs stand in proofs/Theorems.antt.
 -- Renders: 01, "Rewrite steps and like comparisons": "What demand 3 says of steps is one claim about the whole list";
 -- 02, order 8: "For a book with a wrapper, users rely on the strict fall of every step; the ceiling on steps is kept
--- for books without one."
+-- for books without one."; order 9: "Ceiling and fall cover form 3, the wrapper's exception kept, weight meaning this
+-- one."
 use mathlib.Core.Path.{_≡_}
 use mathlib.Core.Bool.{true}
 use Prim.Native.Nat.{suc, _-_, _*_, _^_, _≤_, _<_}

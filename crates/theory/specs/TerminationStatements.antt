@@ -1,7 +1,7 @@
 -- The theorems that no descent and no list of steps goes on for ever, as types. The proofs stand in
 -- proofs/Theorems.antt.
--- Renders: 02, order 8: "For a book with a wrapper, users rely on the strict fall of every step; the ceiling on steps is
--- kept for books without one."; 000, Theorem 5.10.
+-- Renders: 02, order 8: "For a book with a wrapper, users rely on the strict fall of every step; the ceiling on steps
+-- is kept for books without one."; order 9: "Ceiling and fall cover form 3"; 000, Theorems 5.10 and 8.2.
 use mathlib.Core.Path.{_≡_}
 use mathlib.Core.Bool.{true}
 use mathlib.Core.WellFounded.{Acc}

@@ -10,7 +10,7 @@ use lib.ListN.{length, getD, set, replicate, getD-replicate, List·getD-eq-defau
 use lib.Seq.{getD-set-same, getD-set-other}
 use borrow.Author.Tests.{lt-ltb, le-ltb}
 use Rattle.multisets.proofs.Relations.{byOrder}
-use Rattle.terms.specs.Signature.{Signature, symbolOf}
+use Rattle.terms.specs.Signature.{Signature, symbolOf, Ones}
 use Rattle.weights.specs.Nodes.{nodeSum, triple, NodeSums, Weighed, Occurring}
 use Rattle.weights.proofs.TripleLaws.{which, triple-other, triple-same}
 
@@ -109,9 +109,10 @@ module _ (σ : Signature) where
         rw (lt-ltb f 256 h) (second (3 * f + 2) (omega arith) (λ e. absurd (omega arith)))
     symbol-sum (suc (suc (suc kind))) f k h = absurd (omega arith)
 
-    pub node-sums : NodeSums σ after
-    node-sums = record {
+    pub node-sums : Ones σ → NodeSums σ after
+    node-sums ones = record {
       few = few;
+      ones = ones;
       sum = λ kind word k h. byOrder word 256 (symbol-sum kind word k) λ l. v .0 kind word k l h;
       small = record {
         weight = λ word h. byOrder word 256 (λ l. first word l .1) λ l. v .1 word l h;

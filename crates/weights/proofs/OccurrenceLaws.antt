@@ -3,16 +3,19 @@
 --     digitsOf-first                               the first digit that is greater
 --     counts-small                               the digits in the totals of a term
 --     counted-low, counted-high, counted-none    the first variable that occurs oftener, by the totals of two terms
+use mathlib.Core.List.{[]}
 use mathlib.Core.Path.{_≡_, refl, ap, _∙_}
 use mathlib.Core.Bool.{cond}
 use Prim.Native.Nat.{ℕ, suc, zero, _+_, _*_, _/_, _%_, _≤_, _<_}
 use native.Mathlib.Omega.{arith}
 use lib.Dec.{eqb, ltb}
 use Rattle.multisets.proofs.Relations.{byTest}
-use Rattle.terms.specs.Term.{Term, Terms, size, sizes, measures, occurrences, variableCount}
+use Rattle.terms.specs.Signature.{Signature, coefficientsOf, Ones}
+use Rattle.terms.specs.Term.{Term, Terms, size, sizes, measures, plain, occurrences, variableCoefficient, variableCount}
 use Rattle.terms.specs.Term.Term.{var, app}
 use Rattle.terms.specs.Term.Terms.{nil, cons}
 use Rattle.terms.specs.Oftener.{oftenerFrom, firstOftener}
+use Rattle.terms.proofs.MeasureLaws.{measure-ones}
 use Rattle.terms.proofs.OftenerLaws.{First, oftener-first, first-oftener, first-low, first-high}
 use Rattle.weights.specs.declared.totals.Totals.{Totals}
 use Rattle.weights.specs.Digits.{digit, digitsOf, firstGreater, SmallDigits}
@@ -21,10 +24,10 @@ use Rattle.weights.specs.Totals.{Counted, Counts}
 -- ---- digits are occurrences
 
 abbrev digitsOfAll : ℕ → ℕ → Terms → ℕ
-digitsOfAll k n = measures (λ (x : ℕ). digit k n x) (λ (f : ℕ). 0)
+digitsOfAll k n ts = measures plain (λ (x : ℕ). digit k n x) (λ (f : ℕ). 0) ts []
 
 abbrev occurrencesIn : ℕ → Terms → ℕ
-occurrencesIn x = measures (λ (y : ℕ). cond (eqb x y) 1 0) (λ (f : ℕ). 0)
+occurrencesIn x ts = measures plain (λ (y : ℕ). cond (eqb x y) 1 0) (λ (f : ℕ). 0) ts []
 
 mutual
   digitsOf-more : (k n : ℕ) (t : Term) → digitsOf k (suc n) t ≡ occurrences k t + 256 * digitsOf (suc k) n t
@@ -69,16 +72,22 @@ module _ (t : Term) (h : size t ≤ 128) where
   digitsOf-small (suc n) k =
       let (e, d) = step k n in rw (e, d) (occurrences-few k t h, digitsOf-small n (suc k))
 
--- The first digit that is greater is that of the first variable that occurs oftener.
-digitsOf-first : (s t : Term) → size s ≤ 128 → size t ≤ 128 → (n k : ℕ) →
-    k + firstGreater n (digitsOf k n s) (digitsOf k n t) ≡ oftenerFrom k n s t
-unfolding firstGreater oftenerFrom
-digitsOf-first s t p q zero k = omega arith
-digitsOf-first s t p q (suc n) k =
-    let (a, b) = step s p k n in
-    let (c, d) = step t q k n in
-    rw (a, b, c, d) (byTest (ltb (occurrences k s) (occurrences k t)) (λ e. rw e (omega arith))
-    λ e. rw e (omega (arith, digitsOf-first s t p q n (suc k))))
+-- Where every coefficient is 1, a variable counts as often as it occurs.
+module _ (σ : Signature) (ones : Ones σ) where
+  coefficient-ones : (x : ℕ) (t : Term) → variableCoefficient σ x t ≡ occurrences x t
+  coefficient-ones x = measure-ones (coefficientsOf σ) (λ (y : ℕ). cond (eqb x y) 1 0) (λ (f : ℕ). 0) ones
+
+  -- The first digit that is greater is that of the first variable that occurs oftener.
+  digitsOf-first : (s t : Term) → size s ≤ 128 → size t ≤ 128 → (n k : ℕ) →
+      k + firstGreater n (digitsOf k n s) (digitsOf k n t) ≡ oftenerFrom σ k n s t
+  unfolding firstGreater oftenerFrom
+  digitsOf-first s t p q zero k = omega arith
+  digitsOf-first s t p q (suc n) k =
+      let (a, b) = step s p k n in
+      let (c, d) = step t q k n in
+      rw (a, b, c, d, coefficient-ones k s, coefficient-ones k t)
+      (byTest (ltb (occurrences k s) (occurrences k t)) (λ e. rw e (omega arith))
+      λ e. rw e (omega (arith, digitsOf-first s t p q n (suc k))))
 
 -- ---- by the totals of two terms
 
@@ -86,27 +95,27 @@ pub counts-small : {r : Totals} → Counts r → SmallDigits 8 (r .low) × Small
 counts-small (t, A) =
     (rw (A .low) (digitsOf-small t (A .short) 8 0), rw (A .high) (digitsOf-small t (A .short) 8 8))
 
-module _ {s t : Term} {a b : Totals} (A : Counted s a) (B : Counted t b) {q r : ℕ}
+module _ (σ : Signature) (ones : Ones σ) {s t : Term} {a b : Totals} (A : Counted s a) (B : Counted t b) {q r : ℕ}
     (d : q ≡ firstGreater 8 (a .low) (b .low)) (e : r ≡ firstGreater 8 (a .high) (b .high)) where
-  low-first : First s t 0 8 q
+  low-first : First σ s t 0 8 q
   low-first =
-      let f = digitsOf-first s t (A .short) (B .short) 8 0 in
-      let g : q ≡ oftenerFrom 0 8 s t = rw (A .low, B .low) at d ∙ omega (arith, f) in
-      rw g (oftener-first s t 8 0)
+      let f = digitsOf-first σ ones s t (A .short) (B .short) 8 0 in
+      let g : q ≡ oftenerFrom σ 0 8 s t = rw (A .low, B .low) at d ∙ omega (arith, f) in
+      rw g (oftener-first σ s t 8 0)
 
-  high-first : First s t 8 8 (8 + r)
+  high-first : First σ s t 8 8 (8 + r)
   high-first =
-      let f = digitsOf-first s t (A .short) (B .short) 8 8 in
-      let g : 8 + r ≡ oftenerFrom 8 8 s t = ap (λ (n : ℕ). 8 + n) (rw (A .high, B .high) at e) ∙ f in
-      rw g (oftener-first s t 8 8)
+      let f = digitsOf-first σ ones s t (A .short) (B .short) 8 8 in
+      let g : 8 + r ≡ oftenerFrom σ 8 8 s t = ap (λ (n : ℕ). 8 + n) (rw (A .high, B .high) at e) ∙ f in
+      rw g (oftener-first σ s t 8 8)
 
-  pub counted-low : q < 8 → q ≡ firstOftener s t
+  pub counted-low : q < 8 → q ≡ firstOftener σ s t
   unfolding firstOftener
-  counted-low l = first-oftener s t (first-low s t 8 low-first l)
+  counted-low l = first-oftener σ s t (first-low σ s t 8 low-first l)
 
-  pub counted-high : 8 ≤ q → 8 + r ≡ firstOftener s t
+  pub counted-high : 8 ≤ q → 8 + r ≡ firstOftener σ s t
   unfolding firstOftener
-  counted-high l = first-oftener s t (first-high s t low-first l high-first)
+  counted-high l = first-oftener σ s t (first-high σ s t low-first l high-first)
 
-  pub counted-none : 8 ≤ q → 8 ≤ r → variableCount ≡ firstOftener s t
+  pub counted-none : 8 ≤ q → 8 ≤ r → variableCount ≡ firstOftener σ s t
   counted-none l m = let g : variableCount ≡ 8 + r = omega (arith, high-first .to) in g ∙ counted-high l

@@ -14,7 +14,7 @@ use lib.ListN.{length, take, drop, take-append-drop}
 use borrow.Author.Tests.{lt-ltb, le-ltb, eq-eqb, ne-eqb}
 use Rattle.multisets.proofs.Relations.{byTest, byOrder}
 use Rattle.terms.specs.Signature.{Signature, symbolOf}
-use Rattle.terms.specs.Term.{Term, measure, measures, arguments}
+use Rattle.terms.specs.Term.{Term, measure, measures, plain, arguments}
 use Rattle.terms.specs.Words.{firstVariable, grow, forestOf, termOf}
 use Rattle.terms.proofs.WordsLaws.{forestOf-words}
 use Rattle.format.specs.Statements.{IsTerm}
@@ -25,7 +25,7 @@ use Rattle.weights.specs.Nodes.{node, nodes}
 
 module _ (σ : Signature) (v w : ℕ → ℕ) where
   abbrev pub totals : List Term → ℕ
-  totals l = measures v w (arguments l)
+  totals l = measures plain v w (arguments l) []
 
   totals-append : (l m : List Term) → totals (l ++ m) ≡ totals l + totals m
   totals-append [] m = omega arith
@@ -45,7 +45,7 @@ module _ (σ : Signature) (v w : ℕ → ℕ) where
 
 -- The words of a term.
 pub term-sum : (σ : Signature) → length (σ .symbols) ≤ firstVariable → {ws : List ℕ} → IsTerm σ ws → (v w : ℕ → ℕ) →
-    nodes v w ws ≡ measure v w (termOf σ ws)
+    nodes v w ws ≡ measure plain v w (termOf σ ws)
 unfolding forestOf
 term-sum σ few {ws} p v w =
     let one = rw append-nil at (forestOf-words σ few (termOf σ ws) (p .wellFormed) []) in

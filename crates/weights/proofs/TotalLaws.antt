@@ -2,14 +2,15 @@
 --     totals-none, totals-more, sums-within-more     the sums, node by node from the right
 --     term-nodes, totalled                           those of a whole term
 use mathlib.Core.List.{List}
-use mathlib.Core.Path.{_≡_, _∙_}
+use mathlib.Core.Path.{_≡_, sym, _∙_}
 use Prim.Native.Nat.{ℕ, suc, zero, _+_, _-_, _*_, _≤_, _<_}
 use native.Mathlib.Omega.{arith}
 use native.Mathlib.Numerals.{add-one}
 use lib.ListN.{length, getD, drop}
 use lib.Seq.{drop-cons, drop-length}
-use Rattle.terms.specs.Signature.{Signature}
+use Rattle.terms.specs.Signature.{Signature, coefficientsOf}
 use Rattle.terms.specs.Words.{termOf}
+use Rattle.terms.proofs.MeasureLaws.{measure-ones}
 use Rattle.format.specs.Statements.{IsTerm}
 use Rattle.subterms.proofs.PartLaws.{node-range}
 use Rattle.subterms.proofs.FormedLaws.{term-complete, term-size}
@@ -64,7 +65,8 @@ module _ {σ : Signature} {adds ws : List ℕ} (N : NodeSums σ adds) (p : IsTer
   totalled t b =
       let size = term-size p in
       record {
-        weight = t .weight ∙ whole 0;
+        weight = t .weight ∙ whole 0
+            ∙ sym (measure-ones (coefficientsOf σ) (atVariable σ 0) (atSymbol σ 0) (N .ones) (termOf σ ws));
         counted = record { low = t .low ∙ whole 1; high = t .high ∙ whole 2; short = omega (arith, p .short) };
         small = omega (arith, b .weight, p .short);
       }

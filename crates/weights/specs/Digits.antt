@@ -3,7 +3,7 @@ use mathlib.Core.Bool.{cond}
 use mathlib.Core.Path.{_≡_}
 use Prim.Native.Nat.{ℕ, suc, zero, _+_, _*_, _/_, _%_, _<_}
 use lib.Dec.{eqb, ltb}
-use Rattle.terms.specs.Term.{Term, measure}
+use Rattle.terms.specs.Term.{Term, measure, plain}
 
 -- The place value of variable x among the n variables from k on: 256 to the power of x - k, and 0 for the others.
 abbrev pub digit : ℕ → ℕ → ℕ → ℕ
@@ -12,7 +12,7 @@ digit k (suc n) x = cond (eqb k x) 1 0 + 256 * digit (suc k) n x
 
 -- The occurrences of the n variables from k on, a digit each.
 abbrev pub digitsOf : ℕ → ℕ → Term → ℕ
-digitsOf k n = measure (λ (x : ℕ). digit k n x) (λ (f : ℕ). 0)
+digitsOf k n = measure plain (λ (x : ℕ). digit k n x) (λ (f : ℕ). 0)
 
 -- The first of the n digits that is greater in b than in a, n if none is.
 unfoldable pub firstGreater : ℕ → ℕ → ℕ → ℕ

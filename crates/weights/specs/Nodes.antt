@@ -5,8 +5,8 @@ use mathlib.Core.Path.{_≡_}
 use Prim.Native.Nat.{ℕ, suc, zero, _+_, _-_, _*_, _%_, _≤_, _<_}
 use lib.Dec.{ltb}
 use lib.ListN.{length, getD, set}
-use Rattle.terms.specs.Signature.{Signature, symbolOf}
-use Rattle.terms.specs.Term.{Term, measure}
+use Rattle.terms.specs.Signature.{Signature, symbolOf, Ones}
+use Rattle.terms.specs.Term.{Term, measure, plain}
 use Rattle.terms.specs.Words.{firstVariable}
 use Rattle.weights.specs.Digits.{digit}
 
@@ -51,11 +51,12 @@ module _ (σ : Signature) where
   wordSum kind = nodes (atVariable kind) (atSymbol kind)
 
   abbrev pub termSum : ℕ → Term → ℕ
-  termSum kind = measure (atVariable kind) (atSymbol kind)
+  termSum kind = measure plain (atVariable kind) (atSymbol kind)
 
-  -- What is stored for the node words is what each adds to the sums.
+  -- What is stored for the node words is what each adds to the sums, where every coefficient is 1.
   pub record NodeSums (adds : List ℕ) : Type 0 where
     pub few : length (σ .symbols) ≤ firstVariable
+    pub ones : Ones σ
     pub sum : (kind word : ℕ) → kind < 3 → word < 272 → getD adds (3 * word + kind) 0 ≡ nodeSum kind word
     pub small : SmallSums adds
 

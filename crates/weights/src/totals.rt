@@ -4,7 +4,7 @@ use crate::digits::first_greater;
 ghost use mathlib.Core.List.{List};
 ghost use mathlib.Core.Path.{_≡_};
 ghost use Prim.Native.Nat.{ℕ, _+_, _≤_, _<_};
-ghost use Rattle.terms.specs.Signature.{Signature};
+ghost use Rattle.terms.specs.Signature.{Signature, Ones};
 ghost use Rattle.terms.specs.Term.{Term};
 ghost use Rattle.terms.specs.Words.{termOf};
 ghost use Rattle.terms.specs.Order.{margin as marginOf};
@@ -57,7 +57,7 @@ pub fn total(table: &[u16], adds: &[u64; NODE_SUMS], words: &[u16]) -> Totals
 // variable of the first eight settles it, whatever the last eight have.
 pub fn first_oftener(left: Totals, right: Totals) -> usize
     requires { ⌜ Counts left × Counts right ⌝ }
-    ensures { λ r. ⌜ ((s t : Term) → Counted s left → Counted t right → r ≡ firstOftener s t) ⌝ }
+    ensures { λ r. ⌜ ((σ : Signature) → Ones σ → (s t : Term) → Counted s left → Counted t right → r ≡ firstOftener σ s t) ⌝ }
 {
     let low = first_greater(left.low, right.low);
     let high = first_greater(left.high, right.high);

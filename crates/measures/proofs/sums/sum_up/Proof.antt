@@ -77,7 +77,7 @@ returns c =
     let l = c .before .loop in
     let z : l .i ≡ 0 = omega arith in
     let (N, p, room) = c6 .pre in (
-      record { room = l .inv .1; sum = λ kind k m q. l .inv .4 kind k m (omega arith) q },
+      record { room = l .inv .1; ones = N .ones; sum = λ kind k m q. l .inv .4 kind k m (omega arith) q },
       totalled N p (rw z at (l .inv .2)) (sums-within-more (omega arith) (l .inv .3)),
     )
 

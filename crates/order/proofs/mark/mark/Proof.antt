@@ -34,13 +34,13 @@ returns : tie.Need-returns
 returns c =
     let c5 = c .before .before .before .before .before in
     let (S, (A, B, N)) = c5 .pre in
-    whole-seven _ _ _ (c .before .first-oftener .ensures _ _ (A .counted) (B .counted)) (c .if1 .taken)
+    whole-seven _ _ _ (c .before .first-oftener .ensures _ (N .ones) _ _ (A .counted) (B .counted)) (c .if1 .taken)
 
 returns-2 : tie.Need-returns-2
 returns-2 c =
     let c6 = c .before .before .before .before .before .before in
     let (S, (A, B, N)) = c6 .pre in
-    let none = oftener-none _ _ (c .before .before .first-oftener .ensures _ _ (A .counted) (B .counted))
+    let none = oftener-none _ _ _ (c .before .before .first-oftener .ensures _ (N .ones) _ _ (A .counted) (B .counted))
     (c .before .if1 .left) in
     whole-one _ _ _ none (A .weight) (B .weight) (c .if2 .taken)
 
@@ -49,7 +49,7 @@ returns-3 c =
     let c3 = c .before .before .before in
     let c7 = c3 .before .before .before .before in
     let (S, (A, B, N)) = c7 .pre in
-    let none = oftener-none _ _ (c3 .first-oftener .ensures _ _ (A .counted) (B .counted))
+    let none = oftener-none _ _ _ (c3 .first-oftener .ensures _ (N .ones) _ _ (A .counted) (B .counted))
     (c .before .before .if1 .left) in
     whole-eight _ _ _ none (A .weight) (B .weight) (c .if3 .taken)
 
@@ -69,7 +69,7 @@ mark-prepared-requires c κs =
     let c6 = c5 .before in
     let c10 = c6 .before .before .before .before in
     let (S, (A, B, N)) = c10 .pre in
-    let none = oftener-none _ _ (c6 .first-oftener .ensures _ _ (A .counted) (B .counted)) (c5 .if1 .left) in
+    let none = oftener-none _ _ _ (c6 .first-oftener .ensures _ (N .ones) _ _ (A .counted) (B .counted)) (c5 .if1 .left) in
     (S, record { root = c .if4 .taken; few = none; level = omega (arith, A .weight, B .weight) }, N)
 
 returns-5 : tie.Need-returns-5
@@ -81,7 +81,7 @@ returns-5 c =
     let c13 = c9 .before .before .before .before in
     let a = c13 .args in
     let (S, (A, B, N)) = c13 .pre in
-    let none = oftener-none _ _ (c9 .first-oftener .ensures _ _ (A .counted) (B .counted)) (c8 .if1 .left) in
+    let none = oftener-none _ _ _ (c9 .first-oftener .ensures _ (N .ones) _ _ (A .counted) (B .counted)) (c8 .if1 .left) in
     let root = differing S none (omega (arith, c7 .if2 .left, c6 .if3 .left, A .weight, B .weight))
     (c .before .before .before .if4 .left)
     (sym (c .before .if5 .taken) ∙ c .before .before .higher .ensures) in
@@ -99,7 +99,7 @@ returns-6 c =
     let c12 = c8 .before .before .before .before in
     let a = c12 .args in
     let (S, (A, B, N)) = c12 .pre in
-    let none = oftener-none _ _ (c8 .first-oftener .ensures _ _ (A .counted) (B .counted)) (c7 .if1 .left) in
+    let none = oftener-none _ _ _ (c8 .first-oftener .ensures _ (N .ones) _ _ (A .counted) (B .counted)) (c7 .if1 .left) in
     let zero = differing S none (omega (arith, c6 .if2 .left, c5 .if3 .left, A .weight, B .weight))
     (c .before .before .if4 .left)
     (sym (c .if5 .left) ∙ c .before .higher .ensures) in

@@ -2,6 +2,7 @@
 use mathlib.Core.Path.{ap}
 use lib.Dec.{ltb}
 use Rattle.terms.proofs.OftenerLaws.{oftener-none}
+use Rattle.symbols.proofs.TableLaws.{table-ones}
 use Rattle.order.proofs.GreaterLaws.{greater-oftener, greater-level}
 use Rattle.order.proofs.WholeLaws.{left-some, right-some}
 use Rattle.order.proofs.relation.greater_level.Statement.{statement}
@@ -16,7 +17,7 @@ returns : tie.Need-returns
 returns c =
     let c5 = c .before .before .before .before .before in
     let L = c5 .pre .0 in
-    greater-oftener _ _ _ (c .before .first-oftener .ensures _ _ (L .left .counted) (L .right .counted))
+    greater-oftener _ _ _ (c .before .first-oftener .ensures _ (table-ones _) _ _ (L .left .counted) (L .right .counted))
     (c .if1 .taken)
 
 arguments-mark-requires : tie.Need-arguments-mark-requires
@@ -28,8 +29,8 @@ returns-2 : tie.Need-returns-2
 returns-2 c =
     let c6 = c .before .before .before .before .before .before in
     let L = c6 .pre .0 in
-    let none = oftener-none _ _
-    (c .before .before .first-oftener .ensures _ _ (L .left .counted) (L .right .counted)) (c .before .if1 .left) in
+    let none = oftener-none _ _ _
+    (c .before .before .first-oftener .ensures _ (table-ones _) _ _ (L .left .counted) (L .right .counted)) (c .before .if1 .left) in
     greater-level _ _ _ none (L .left .weight) (L .right .weight) (L .level)
     (ap (ltb 0) (c .arguments-mark .ensures))
 

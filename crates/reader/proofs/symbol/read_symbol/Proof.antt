@@ -3,6 +3,7 @@ use mathlib.Core.Path.{refl, sym, _∙_}
 use native.Mathlib.Omega.{arith}
 use lib.Dec.{eqb}
 use lib.ListN.{length-set}
+use Rattle.format.specs.Symbols.{ones}
 use Rattle.terms.specs.Signature.{Symbol}
 use Rattle.symbols.specs.Table.{symbolsAt}
 use Rattle.symbols.proofs.EntryLaws.{entry-words}
@@ -150,6 +151,7 @@ returns-6 c =
       ac = eqb (c18 .read2 .given .0 .0) 1;
       weight = c10 .read3 .given .0 .0;
       precedence = c5 .read4 .given .0 .0;
+      coefficients = ones (c22 .read .given .0 .0);
     } in
     let source = sourceOf (a .packed) (a .book .now) (a .sheet .now) in
     let weighed = tested-field source weightWidth _ weightInadmissible _ _ _ weight .0 in

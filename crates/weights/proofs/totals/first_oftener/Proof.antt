@@ -13,17 +13,18 @@ first-greater-requires-2 c κs = let (A, B) = c .before .pre in (counts-small A 
 returns : tie.Need-returns
 returns c =
     let low = c .before .before .first-greater .ensures in
-    λ s t A B. counted-low A B low (c .before .first-greater2 .ensures) (c .if1 .taken)
+    λ σ o s t A B. counted-low σ o A B low (c .before .first-greater2 .ensures) (c .if1 .taken)
 
 returns-2 : tie.Need-returns-2
 returns-2 c =
     let low = c .before .before .before .first-greater .ensures in
-    λ s t A B. counted-high A B low (c .before .before .first-greater2 .ensures) (c .before .if1 .left)
+    λ σ o s t A B. counted-high σ o A B low (c .before .before .first-greater2 .ensures) (c .before .if1 .left)
 
 returns-3 : tie.Need-returns-3
 returns-3 c =
     let low = c .before .before .before .first-greater .ensures in
-    λ s t A B. counted-none A B low (c .before .before .first-greater2 .ensures) (c .before .if1 .left) (c .if2 .left)
+    λ σ o s t A B.
+    counted-none σ o A B low (c .before .before .first-greater2 .ensures) (c .before .if1 .left) (c .if2 .left)
 
 pub first-oftener-spec : {M : Type 1} → statement M
 first-oftener-spec =

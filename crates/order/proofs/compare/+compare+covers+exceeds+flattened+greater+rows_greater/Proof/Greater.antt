@@ -45,9 +45,10 @@ greater-returns : (t : ℕ) → greater-lts.Need-returns (greater-claims t) (gre
 greater-returns t c =
     let c5 = c .before .before .before .before .before in
     let right = c .before .before .total-at2 .ensures .1 in
-    let first = c .before .first-oftener .ensures _ _ (c5 .total-at .ensures .1) right in
+    let (m, h) = c5 .before .before .before .pre in
     let a = c5 .before .before .before .args in
     let σ = signatureOf (a .table .now .now) in
+    let first = c .before .first-oftener .ensures σ (h .0 .left .ones) _ _ (c5 .total-at .ensures .1) right in
     greater-oftener σ (partAt σ (a .s .now .now) (a .i)) (partAt σ (a .t .now .now) (a .j)) first (c .if1 .taken)
 
 greater-exceeds-requires : (t : ℕ) → greater-lts.Need-exceeds-requires (greater-claims t) (greater-at t) greater.Post
@@ -55,8 +56,9 @@ greater-exceeds-requires t c κs =
     let c5 = c .before .before .before .before .before in
     let (m, h) = c5 .before .before .before .pre in
     let right = c .before .before .total-at2 .ensures .1 in
-    let first = c .before .first-oftener .ensures _ _ (c5 .total-at .ensures .1) right in
-    (omega (arith, m), (h .0, (h .1 .0, h .1 .1, oftener-none _ _ first (c .if1 .left))))
+    let σ = signatureOf (c5 .before .before .before .args .table .now .now) in
+    let first = c .before .first-oftener .ensures σ (h .0 .left .ones) _ _ (c5 .total-at .ensures .1) right in
+    (omega (arith, m), (h .0, (h .1 .0, h .1 .1, oftener-none σ _ _ first (c .if1 .left))))
 
 greater-returns-2 : (t : ℕ) → greater-lts.Need-returns-2 (greater-claims t) (greater-at t) greater.Post
 greater-returns-2 t c = c .exceeds .ensures

@@ -1,24 +1,24 @@
 -- Text as bytes: words, decimal numbers, lines, and text set in columns.
 -- Renders: 01, "Sample book and cases": what `marker` prints, "Each ends in byte 10"; 02, order 5: "right-set",
 -- "left-set", "spaces".
-use mathlib.Core.List.{List, [] as []ᴸ, _∷_ as _∷ᴸ_, _++_}
+use mathlib.Core.List.{List, [], _∷_, _++_}
 use mathlib.Core.Bool.{cond}
 use Prim.Native.Nat.{ℕ, suc, zero, _+_, _-_, _/_, _%_}
 use Prim.Native.Char.{code}
-use Prim.Native.String.{String, [], _∷_}
+use Prim.Native.String.{String, [] as []ˢ, _∷_ as _∷ˢ_}
 use lib.IntN.{ℤ, pos, negsuc}
 use lib.Dec.{ltb}
 use lib.ListN.{length, replicate}
 
 -- The codes of the characters.
 abbrev pub ascii : String → List ℕ
-ascii [] = []ᴸ
-ascii (c ∷ s) = code c ∷ᴸ ascii s
+ascii []ˢ = []
+ascii (c ∷ˢ s) = code c ∷ ascii s
 
 -- The decimal digits of n, at most k of them.
 unfoldable pub digits : ℕ → ℕ → List ℕ
-digits zero n = []ᴸ
-digits (suc k) n = cond (ltb n 10) ((48 + n) ∷ᴸ []ᴸ) (digits k (n / 10) ++ ((48 + n % 10) ∷ᴸ []ᴸ))
+digits zero n = []
+digits (suc k) n = cond (ltb n 10) ((48 + n) ∷ []) (digits k (n / 10) ++ ((48 + n % 10) ∷ []))
 
 -- Without leading zeros; n has at most n + 1 digits.
 abbrev pub decimal : ℕ → List ℕ
@@ -30,9 +30,9 @@ signedDecimal (negsuc n) = ascii "-" ++ decimal (suc n)
 
 -- A line of words, with a space between any two.
 abbrev pub line : List (List ℕ) → List ℕ
-line []ᴸ = 10 ∷ᴸ []ᴸ
-line (w ∷ᴸ []ᴸ) = w ++ (10 ∷ᴸ []ᴸ)
-line (w ∷ᴸ v ∷ᴸ ws) = w ++ (32 ∷ᴸ line (v ∷ᴸ ws))
+line [] = 10 ∷ []
+line (w ∷ []) = w ++ (10 ∷ [])
+line (w ∷ v ∷ ws) = w ++ (32 ∷ line (v ∷ ws))
 
 abbrev pub spaces : ℕ → List ℕ
 spaces n = replicate n 32

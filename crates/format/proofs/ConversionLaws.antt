@@ -1,4 +1,5 @@
 -- A file of form 1 as one of form 2: the converted file of a readable one is readable, and as long.
+--     symbols-before, before-heavy         symbols weigh enough in form 1 if no unary one weighs 0, and only then
 --     converted-words                      a rule's node words are renumbered by first use
 --     renumbered-fit                       the new numbers are such as a variable may have
 --     converted-readable                   the converted file is readable
@@ -114,11 +115,15 @@ symbols-now σ oks =
     omega (arith, weighs-at oks f l, least-less (σ .w0) (symbolOf σ f .arity))
 
 -- And the other way round, if no unary symbol weighs 0.
-symbols-before : (σ : Signature) → NoZeroWeightUnary σ → SymbolsOk (leastWeightIn formNumber (σ .w0)) [] (σ .symbols) →
+pub symbols-before : (σ : Signature) → NoZeroWeightUnary σ → SymbolsOk (leastWeightIn formNumber (σ .w0)) [] (σ .symbols) →
     SymbolsOk (leastWeightIn firstForm (σ .w0)) [] (σ .symbols)
 symbols-before σ heavy oks =
     symbols-weigh (leastWeightIn formNumber (σ .w0)) (leastWeightIn firstForm (σ .w0)) (σ .symbols) oks λ f l.
     least-heavy (σ .w0) (symbolOf σ f .arity) (symbolOf σ f .weight) (heavy f l) (weighs-at oks f l)
+
+-- In form 1 none does.
+pub before-heavy : (σ : Signature) → SymbolsOk (leastWeightIn firstForm (σ .w0)) [] (σ .symbols) → NoZeroWeightUnary σ
+before-heavy σ oks f l unary = rw unary at (weighs-at oks f l)
 
 -- ---- the file
 

@@ -4,19 +4,23 @@ use mathlib.Core.List.{List, []}
 use Prim.Native.Nat.{ℕ, _+_, _<_}
 use native.Mathlib.Omega.{arith}
 use lib.ListN.{length}
+use lib.Dec.{lit<}
 use Rattle.terms.specs.Signature.{Symbol, symbolOf}
-use Rattle.format.specs.Layout.{formNumber, weightWidth}
+use Rattle.format.specs.Layout.{formNumber, firstForm, weightWidth}
 use Rattle.format.specs.Reading.{Source, bitSource, wordSource}
 use Rattle.format.specs.Reading.Reading.{got}
 use Rattle.format.specs.Symbols.{symbolsReader, weightOffset}
 use Rattle.format.specs.Format.{RuleFile}
 use Rattle.format.specs.Statements.{IsRead, ReadableWellFormed, WellFormedFilesRead, ReadTermWellFormed}
-use Rattle.format.specs.Statements.{WellFormedReads, WeightsPlaced, FaultsWithin}
+use Rattle.format.specs.Statements.{OldFilesRead, WellFormedReads, WeightsPlaced, FaultsWithin}
 use Rattle.format.specs.Statements.IsRead.{fromBytes, fromWords}
 use Rattle.format.proofs.ReadingLaws.{holds-got}
 use Rattle.format.proofs.RankLaws.{symbols-placed}
+use Rattle.format.proofs.FormLaws.{taken-old, taken-own, taken-fits}
+use Rattle.format.proofs.SymbolLaws.{symbols-of-admissible}
 use Rattle.format.proofs.FileLaws.{Readable, bytes-readable, words-readable, fileBits, packed-reads}
 use Rattle.format.proofs.FileLaws.{unpacked-reads}
+use Rattle.format.proofs.ConversionLaws.{symbols-before, before-heavy}
 use Rattle.format.proofs.PromiseLaws.{readable-formed, readable-system}
 use Rattle.format.proofs.PromiseLaws.{first-term, whole-term}
 use Rattle.format.proofs.TermReading.{first-reads, term-reads, term-refused}
@@ -35,8 +39,22 @@ readable-well-formed file h =
 
 pub well-formed-files-read : WellFormedFilesRead
 well-formed-files-read file t w =
-    let r = well-formed-readable file t w in
+    let weigh = symbols-of-admissible (file .signature) (w .admissible) (w .plain) (file .form) t in
+    let r = well-formed-readable formNumber file t (taken-fits (file .form) t) w weigh in
     (λ short. (length (fileBits file), packed-reads formNumber file r short), unpacked-reads file r)
+
+pub old-files-read : OldFilesRead
+old-files-read file = (
+  λ bytes end e.
+      let r = bytes-readable firstForm bytes file end e in
+      let old = taken-old (file .form) (r .ok .formTaken) in
+      (old, readable-formed firstForm file r, before-heavy (file .signature) (rw old at (r .ok .symbolsOk))),
+  λ (old, w, heavy) short.
+      let now = symbols-of-admissible (file .signature) (w .admissible) (w .plain) formNumber (taken-own formNumber) in
+      let weigh = symbols-before (file .signature) heavy now in
+      let r = well-formed-readable firstForm file (rw old (taken-own firstForm)) (rw old (lit< tt)) w (rw old weigh) in
+      (length (fileBits file), packed-reads firstForm file r short),
+)
 
 pub read-term-well-formed : ReadTermWellFormed
 read-term-well-formed σ input nodes end = (first-term σ input nodes end, whole-term σ input nodes end)

@@ -15,17 +15,16 @@ use Rattle.terms.specs.Term.{size}
 use Rattle.terms.specs.Words.{firstVariable, termOf}
 use Rattle.terms.specs.FirstUse.{inOrderFrom}
 use Rattle.terms.proofs.WordsLaws.{length-words}
-use Rattle.format.specs.Layout.{formNumber, acWidth, maxNodes}
-use Rattle.format.specs.Forms.{unusedOf}
+use Rattle.format.specs.Layout.{formWidth, acWidth, maxNodes}
+use Rattle.format.specs.Forms.{isTaken, unusedOf, leastWeightIn}
 use Rattle.format.specs.Format.{Sides, RuleFile}
 use Rattle.format.specs.Packing.{symbolItems, ruleItems, items}
 use Rattle.format.specs.Packing.Item.{node}
-use Rattle.format.specs.Statements.{IsTerm, WellFormedFile, IsCurrent}
+use Rattle.format.specs.Statements.{IsTerm, WellFormedFile}
 use Rattle.format.proofs.SpellingLaws.{AllFit, all-fit-append}
-use Rattle.format.proofs.FormLaws.{taken-fits}
-use Rattle.format.proofs.FormatLaws.{Forest, RulesOk}
+use Rattle.format.proofs.FormatLaws.{Forest, SymbolsOk, RulesOk}
 use Rattle.format.proofs.FileLaws.{Readable}
-use Rattle.format.proofs.SymbolLaws.{symbols-of-admissible, ranked-of-admissible, fits-of}
+use Rattle.format.proofs.SymbolLaws.{ranked-of-admissible, fits-of}
 use Rattle.format.proofs.TermReading.{words-fit, nodes-form}
 
 module _ (σ : Signature) (few : length (σ .symbols) ≤ firstVariable) where
@@ -55,9 +54,12 @@ bit-fits : (b : Bool) → cond b 1 0 < 2 ^ acWidth
 bit-fits true = lit< tt
 bit-fits false = lit< tt
 
-pub well-formed-readable : (file : RuleFile) → IsCurrent file → WellFormedFile file → Readable formNumber file
+-- By a reader that takes its form, if its symbols weigh what the form asks for.
+pub well-formed-readable : (reader : ℕ) (file : RuleFile) → isTaken reader (file .form) ≡ true →
+    file .form < 2 ^ formWidth → WellFormedFile file →
+    SymbolsOk (leastWeightIn (file .form) (file .signature .w0)) [] (file .signature .symbols) → Readable reader file
 unfolding items
-well-formed-readable file t w =
+well-formed-readable reader file t formFits w weigh =
     let σ = file .signature in
     let within = w .within in
     let few : length (σ .symbols) ≤ firstVariable = omega (arith, within .symbolCount) in
@@ -72,9 +74,9 @@ well-formed-readable file t w =
         formTaken = t;
         someSymbol = lt-ltb 0 (length (σ .symbols)) (w .someSymbol);
         variableWeighs = lt-ltb 0 (σ .w0) (w .admissible .variableWeighs);
-        symbolsOk = symbols-of-admissible σ (w .admissible) (w .plain) (file .form) t;
+        symbolsOk = weigh;
         noneOutranked = ranked-of-admissible σ (w .admissible) (w .plain);
         rulesOk = ok;
       };
-      fits = (taken-fits (file .form) t, (within .symbolCount, (within .w0, (within .ruleCount, rest))));
+      fits = (formFits, (within .symbolCount, (within .w0, (within .ruleCount, rest))));
     }

@@ -8,21 +8,21 @@ use mathlib.Core.Path.{_≡_}
 use mathlib.Core.Bool.{true}
 use Prim.Native.Nat.{ℕ, _*_, _^_, _≤_, _<_}
 use lib.ListN.{length, take}
-use Rattle.terms.specs.Signature.{Symbol, Signature, symbolOf, Admissible}
+use Rattle.terms.specs.Signature.{Symbol, Signature, symbolOf, NoZeroWeightUnary, Admissible}
 use Rattle.terms.specs.Term.{Term, size, WellFormed}
 use Rattle.terms.specs.Words.{firstVariable, words, termOf}
 use Rattle.terms.specs.FirstUse.{inOrderFrom}
 use Rattle.terms.specs.Rewriting.{WellFormedRules}
 use Rattle.format.specs.Errors.{tooManyNodes}
 use Rattle.format.specs.Layout.{symbolCountWidth, weightWidth, ruleCountWidth, arityWidth, rankWidth, maxNodes}
-use Rattle.format.specs.Layout.{formNumber, maxBytes}
+use Rattle.format.specs.Layout.{formNumber, firstForm, maxBytes}
 use Rattle.format.specs.Reading.{bitSource, wordSource}
 use Rattle.format.specs.Reading.Reading.{got, fault}
 use Rattle.format.specs.Symbols.{ones, symbolsReader, weightOffset}
 use Rattle.format.specs.Forms.{isTaken, unusedOf}
 use Rattle.format.specs.Format.{Sides, RuleFile, systemOf}
 use Rattle.format.specs.Packing.{packed, unpacked}
-use Rattle.format.specs.Files.{readBytes, readWords, readFirstTerm, readTerm}
+use Rattle.format.specs.Files.{readBytesIn, readBytes, readWords, readFirstTerm, readTerm}
 
 -- ---- the promise
 
@@ -77,6 +77,17 @@ abbrev pub WellFormedFilesRead : Type 0
 WellFormedFilesRead = (file : RuleFile) → IsCurrent file → WellFormedFile file →
     (length (packed file) ≤ maxBytes → (end : ℕ) × (readBytes (packed file) ≡ got file end))
     × (readWords (unpacked file) ≡ got file (length (unpacked file)))
+
+-- The same of the form that the converter reads, where a symbol of arity 1 weighs at least 1: what it reads is well
+-- formed, and every such file is read.
+abbrev pub OldWellFormed : RuleFile → Type 0
+OldWellFormed file = (file .form ≡ firstForm) × WellFormedFile file × NoZeroWeightUnary (file .signature)
+
+abbrev pub OldFilesRead : Type 0
+OldFilesRead = (file : RuleFile) →
+    ((bytes : List ℕ) (end : ℕ) → readBytesIn firstForm bytes ≡ got file end → OldWellFormed file)
+    × (OldWellFormed file → length (packed file) ≤ maxBytes →
+    (end : ℕ) × (readBytesIn firstForm (packed file) ≡ got file end))
 
 -- A term that is read from the front of words is the words up to where it ends; with nothing after it, all of them.
 abbrev pub ReadTermWellFormed : Type 0

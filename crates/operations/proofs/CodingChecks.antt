@@ -1,12 +1,9 @@
--- What decoding and encoding give back for the listing; each error that they can give, with its input and offset, and
--- the output unchanged (a file that is too long to encode: LongFileChecks).
+-- What decoding and encoding give back for the listing; each error that they can give, by 01's and 02's number, with its
+-- input and offset, and the output unchanged (a file that is too long to encode: LongFileChecks).
 use mathlib.Core.Path.{_≡_, refl}
 use mathlib.Core.List.{List, [], _∷_, _++_, map, flatMap}
 use Prim.Native.Nat.{ℕ}
 use lib.ListN.{take, replicate}
-use Rattle.format.specs.Errors.{fileTooLong, fieldMissing, wrongForm, noSymbols, variableWeightless, acNotBinary}
-use Rattle.format.specs.Errors.{weightInadmissible, rankTaken, noSuchSymbol, tooManyNodes, badPadding}
-use Rattle.format.specs.Errors.{wordsTooShort, wordTooWide, wordsLeftOver, bytesTooShort, oldForm, variableOutOfTurn}
 use Rattle.format.specs.Layout.{formWidth, symbolCountWidth, weightWidth, ruleCountWidth, arityWidth, acWidth}
 use Rattle.format.specs.Layout.{rankWidth, formNumber}
 use Rattle.format.specs.Reading.{bitField, wordBelow}
@@ -81,30 +78,30 @@ twoRules = header 1 1 2 ++ symbol 0 0 1 0
 -- The two before the last are the listing with a set bit after its last rule, and with a byte too many.
 abbrev decodeCases : List ErrorCase
 decodeCases =
-    gives (replicate 32769 0) fileTooLong 0 ∷
-    gives [] fieldMissing 0 ∷
-    gives (0x20 ∷ []) fieldMissing 4 ∷
-    gives (take 16 listing) fieldMissing 122 ∷
-    gives (0x10 ∷ []) oldForm 0 ∷
-    gives (0x30 ∷ []) wrongForm 0 ∷
-    gives (bits (header 0 1 0)) noSymbols 4 ∷
-    gives (bits (header 1 0 0)) variableWeightless 12 ∷
-    gives (bits (header 1 1 0 ++ symbol 3 1 1 0)) acNotBinary 38 ∷
-    gives (bits (header 1 2 0 ++ symbol 0 0 1 0)) weightInadmissible 42 ∷
-    gives (bits (header 2 1 1 ++ symbol 1 0 0 0 ++ symbol 0 0 1 5)) weightInadmissible 42 ∷
-    gives (bits (header 2 1 1 ++ symbol 0 0 1 5 ++ symbol 1 0 0 0)) weightInadmissible 70 ∷
-    gives (bits (header 2 1 0 ++ symbol 1 0 0 5 ++ symbol 1 0 0 3)) weightInadmissible 70 ∷
-    gives (bits (header 2 1 0 ++ symbol 1 0 0 0 ++ symbol 0 0 0 5)) weightInadmissible 70 ∷
-    gives (bits (header 2 1 0 ++ symbol 1 0 0 0 ++ symbol 0 0 1 0)) rankTaken 86 ∷
-    gives (bits (header 2 1 0 ++ symbol 0 0 1 5 ++ symbol 0 0 1 5)) rankTaken 86 ∷
-    gives (bits (constant ++ (node 1 ∷ []))) noSuchSymbol 67 ∷
-    gives (bits (constant ++ (node 257 ∷ []))) variableOutOfTurn 67 ∷
-    gives (bits (constant ++ (node 256 ∷ node 258 ∷ []))) variableOutOfTurn 72 ∷
-    gives (bits (twoRules ++ (node 256 ∷ node 257 ∷ node 257 ∷ []))) variableOutOfTurn 77 ∷
-    gives (bits (unary ++ replicate 128 (node 0))) tooManyNodes 1218 ∷
-    gives (take 16 listing ++ (1 ∷ [])) badPadding 130 ∷
-    gives (listing ++ (0 ∷ [])) badPadding 130 ∷
-    tooShort listing (replicate 15 7) wordsTooShort ∷
+    gives (replicate 32769 0) 1 0 ∷
+    gives [] 2 0 ∷
+    gives (0x20 ∷ []) 2 4 ∷
+    gives (take 16 listing) 2 122 ∷
+    gives (0x10 ∷ []) 17 0 ∷
+    gives (0x30 ∷ []) 3 0 ∷
+    gives (bits (header 0 1 0)) 4 4 ∷
+    gives (bits (header 1 0 0)) 5 12 ∷
+    gives (bits (header 1 1 0 ++ symbol 3 1 1 0)) 6 38 ∷
+    gives (bits (header 1 2 0 ++ symbol 0 0 1 0)) 7 42 ∷
+    gives (bits (header 2 1 1 ++ symbol 1 0 0 0 ++ symbol 0 0 1 5)) 7 42 ∷
+    gives (bits (header 2 1 1 ++ symbol 0 0 1 5 ++ symbol 1 0 0 0)) 7 70 ∷
+    gives (bits (header 2 1 0 ++ symbol 1 0 0 5 ++ symbol 1 0 0 3)) 7 70 ∷
+    gives (bits (header 2 1 0 ++ symbol 1 0 0 0 ++ symbol 0 0 0 5)) 7 70 ∷
+    gives (bits (header 2 1 0 ++ symbol 1 0 0 0 ++ symbol 0 0 1 0)) 8 86 ∷
+    gives (bits (header 2 1 0 ++ symbol 0 0 1 5 ++ symbol 0 0 1 5)) 8 86 ∷
+    gives (bits (constant ++ (node 1 ∷ []))) 9 67 ∷
+    gives (bits (constant ++ (node 257 ∷ []))) 18 67 ∷
+    gives (bits (constant ++ (node 256 ∷ node 258 ∷ []))) 18 72 ∷
+    gives (bits (twoRules ++ (node 256 ∷ node 257 ∷ node 257 ∷ []))) 18 77 ∷
+    gives (bits (unary ++ replicate 128 (node 0))) 10 1218 ∷
+    gives (take 16 listing ++ (1 ∷ [])) 11 130 ∷
+    gives (listing ++ (0 ∷ [])) 11 130 ∷
+    tooShort listing (replicate 15 7) 13 ∷
     []
 
 decode-errors : map (λ (c : ErrorCase). decoded (c .read) (c .lent)) decodeCases ≡ map refusal decodeCases
@@ -114,32 +111,32 @@ decode-errors = refl
 
 abbrev encodeCases : List ErrorCase
 encodeCases =
-    gives [] fieldMissing 0 ∷
-    gives (sheet (constant ++ (node 0 ∷ []))) fieldMissing 9 ∷
-    gives (sheet (unary ++ replicate 127 (node 0))) fieldMissing 135 ∷
-    gives (1 ∷ []) oldForm 0 ∷
-    gives (3 ∷ []) wrongForm 0 ∷
-    gives (sheet (header 0 1 0)) noSymbols 1 ∷
-    gives (sheet (header 1 0 0)) variableWeightless 2 ∷
-    gives (sheet (header 1 1 0 ++ symbol 3 1 1 0)) acNotBinary 4 ∷
-    gives (sheet (header 1 2 0 ++ symbol 0 0 1 0)) weightInadmissible 6 ∷
-    gives (sheet (header 2 1 1 ++ symbol 1 0 0 0 ++ symbol 0 0 1 5)) weightInadmissible 6 ∷
-    gives (sheet (header 2 1 1 ++ symbol 0 0 1 5 ++ symbol 1 0 0 0)) weightInadmissible 10 ∷
-    gives (sheet (header 2 1 0 ++ symbol 1 0 0 5 ++ symbol 1 0 0 3)) weightInadmissible 10 ∷
-    gives (sheet (header 2 1 0 ++ symbol 1 0 0 0 ++ symbol 0 0 0 5)) weightInadmissible 10 ∷
-    gives (sheet (header 2 1 0 ++ symbol 1 0 0 0 ++ symbol 0 0 1 0)) rankTaken 11 ∷
-    gives (sheet (header 2 1 0 ++ symbol 0 0 1 5 ++ symbol 0 0 1 5)) rankTaken 11 ∷
-    gives (sheet (constant ++ (node 1 ∷ []))) noSuchSymbol 8 ∷
-    gives (sheet (constant ++ (node 257 ∷ []))) variableOutOfTurn 8 ∷
-    gives (sheet (constant ++ (node 256 ∷ node 258 ∷ []))) variableOutOfTurn 9 ∷
-    gives (sheet (twoRules ++ (node 256 ∷ node 257 ∷ node 257 ∷ []))) variableOutOfTurn 10 ∷
-    gives (sheet (unary ++ replicate 128 (node 0))) tooManyNodes 136 ∷
-    gives (16 ∷ []) wordTooWide 0 ∷
-    gives (2 ∷ 256 ∷ []) wordTooWide 1 ∷
-    gives (sheet (header 1 1 0 ++ symbol 3 2 1 0)) wordTooWide 5 ∷
-    gives (sheet (constant ++ (node 272 ∷ []))) wordTooWide 8 ∷
-    gives (sheet (constant ++ (node 0 ∷ node 0 ∷ node 0 ∷ []))) wordsLeftOver 10 ∷
-    tooShort listingWords (replicate 16 7) bytesTooShort ∷
+    gives [] 2 0 ∷
+    gives (sheet (constant ++ (node 0 ∷ []))) 2 9 ∷
+    gives (sheet (unary ++ replicate 127 (node 0))) 2 135 ∷
+    gives (1 ∷ []) 17 0 ∷
+    gives (3 ∷ []) 3 0 ∷
+    gives (sheet (header 0 1 0)) 4 1 ∷
+    gives (sheet (header 1 0 0)) 5 2 ∷
+    gives (sheet (header 1 1 0 ++ symbol 3 1 1 0)) 6 4 ∷
+    gives (sheet (header 1 2 0 ++ symbol 0 0 1 0)) 7 6 ∷
+    gives (sheet (header 2 1 1 ++ symbol 1 0 0 0 ++ symbol 0 0 1 5)) 7 6 ∷
+    gives (sheet (header 2 1 1 ++ symbol 0 0 1 5 ++ symbol 1 0 0 0)) 7 10 ∷
+    gives (sheet (header 2 1 0 ++ symbol 1 0 0 5 ++ symbol 1 0 0 3)) 7 10 ∷
+    gives (sheet (header 2 1 0 ++ symbol 1 0 0 0 ++ symbol 0 0 0 5)) 7 10 ∷
+    gives (sheet (header 2 1 0 ++ symbol 1 0 0 0 ++ symbol 0 0 1 0)) 8 11 ∷
+    gives (sheet (header 2 1 0 ++ symbol 0 0 1 5 ++ symbol 0 0 1 5)) 8 11 ∷
+    gives (sheet (constant ++ (node 1 ∷ []))) 9 8 ∷
+    gives (sheet (constant ++ (node 257 ∷ []))) 18 8 ∷
+    gives (sheet (constant ++ (node 256 ∷ node 258 ∷ []))) 18 9 ∷
+    gives (sheet (twoRules ++ (node 256 ∷ node 257 ∷ node 257 ∷ []))) 18 10 ∷
+    gives (sheet (unary ++ replicate 128 (node 0))) 10 136 ∷
+    gives (16 ∷ []) 14 0 ∷
+    gives (2 ∷ 256 ∷ []) 14 1 ∷
+    gives (sheet (header 1 1 0 ++ symbol 3 2 1 0)) 14 5 ∷
+    gives (sheet (constant ++ (node 272 ∷ []))) 14 8 ∷
+    gives (sheet (constant ++ (node 0 ∷ node 0 ∷ node 0 ∷ []))) 15 10 ∷
+    tooShort listingWords (replicate 16 7) 16 ∷
     []
 
 encode-errors : map (λ (c : ErrorCase). encoded (c .read) (c .lent)) encodeCases ≡ map refusal encodeCases

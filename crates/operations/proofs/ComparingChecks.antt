@@ -9,7 +9,6 @@ use Rattle.multisets.specs.Multiset.{multisetEqual, multisetGreater, rowEqual, 
 use Rattle.terms.specs.Words.{forestOf}
 use Rattle.terms.specs.Equivalence.{isEquivalentTo, isEquivalent}
 use Rattle.terms.specs.Order.{noneOftener, flattenedMark, rootMark, decreasingMark, isGreaterTo, isGreater}
-use Rattle.format.specs.Errors.{fieldMissing, noSuchSymbol, tooManyNodes, wordTooWide, wordsLeftOver}
 use Rattle.format.specs.Reading.{bitField, wordBelow}
 use Rattle.format.specs.Symbols.{symbolReader, symbolsReader, symbolTableReader}
 use Rattle.format.specs.Format.{forestReader, ruleReader, rulesReader, bodyReader, fileReader}
@@ -22,7 +21,7 @@ use Rattle.operations.specs.declared.Comparison.{Comparison}
 use Rattle.operations.specs.Inputs.{readTerms, readInputs}
 use Rattle.operations.specs.Comparing.{relation, compared}
 
--- Form 1, two symbols, w0 1, no rules; the symbols weigh 1 and have the ranks 1 and 0.
+-- Form 2, two symbols, w0 1, no rules; the symbols weigh 1 and have the ranks 1 and 0.
 abbrev pub book : List ℕ
 book = 0x20 ∷ 0x20 ∷ 0x00 ∷ 0x10 ∷ 0x00 ∷ 0x80 ∷ 0x00 ∷ 0x40 ∷ 0x40 ∷ 0x00 ∷ 0x04 ∷ 0x00 ∷ []
 
@@ -45,17 +44,17 @@ cases =
     relates (256 ∷ []) (0 ∷ 256 ∷ []) Less (negsuc 0) ∷
     relates (0 ∷ 256 ∷ []) (0 ∷ 256 ∷ []) Equivalent (pos 0) ∷
     relates (256 ∷ []) (1 ∷ []) Unrelated (pos 0) ∷
-    gives (replicate 129 0) (1 ∷ []) tooManyNodes 1 128 ∷
-    gives [] (1 ∷ []) fieldMissing 1 0 ∷
-    gives (0 ∷ 272 ∷ []) (1 ∷ []) wordTooWide 1 1 ∷
-    gives (0 ∷ 2 ∷ []) (1 ∷ []) noSuchSymbol 1 1 ∷
-    gives (1 ∷ 1 ∷ []) (1 ∷ []) wordsLeftOver 1 1 ∷
-    gives (1 ∷ []) (replicate 129 0) tooManyNodes 2 128 ∷
-    gives (1 ∷ []) (0 ∷ []) fieldMissing 2 1 ∷
-    gives (1 ∷ []) (272 ∷ []) wordTooWide 2 0 ∷
-    gives (1 ∷ []) (255 ∷ []) noSuchSymbol 2 0 ∷
-    gives (1 ∷ []) (1 ∷ 1 ∷ []) wordsLeftOver 2 1 ∷
-    gives (1 ∷ 1 ∷ []) [] wordsLeftOver 1 1 ∷
+    gives (replicate 129 0) (1 ∷ []) 10 1 128 ∷
+    gives [] (1 ∷ []) 2 1 0 ∷
+    gives (0 ∷ 272 ∷ []) (1 ∷ []) 14 1 1 ∷
+    gives (0 ∷ 2 ∷ []) (1 ∷ []) 9 1 1 ∷
+    gives (1 ∷ 1 ∷ []) (1 ∷ []) 15 1 1 ∷
+    gives (1 ∷ []) (replicate 129 0) 10 2 128 ∷
+    gives (1 ∷ []) (0 ∷ []) 2 2 1 ∷
+    gives (1 ∷ []) (272 ∷ []) 14 2 0 ∷
+    gives (1 ∷ []) (255 ∷ []) 9 2 0 ∷
+    gives (1 ∷ []) (1 ∷ 1 ∷ []) 15 2 1 ∷
+    gives (1 ∷ 1 ∷ []) [] 15 1 1 ∷
     []
 
 cases-hold : map (λ (c : Case). compared book (c .left) (c .right)) cases ≡ map (λ (c : Case). c .reply) cases

@@ -5,8 +5,6 @@ use mathlib.Core.List.{List, [], _∷_, _++_, map, flatMap}
 use Prim.Native.Nat.{ℕ}
 use lib.ListN.{take, drop, replicate}
 use Rattle.terms.specs.FirstUse.{see, seeAll, placeIn, renameWord}
-use Rattle.format.specs.Errors.{fileTooLong, fieldMissing, wrongForm, weightInadmissible, noSuchSymbol, badPadding}
-use Rattle.format.specs.Errors.{bytesTooShort}
 use Rattle.format.specs.Reading.{bitField}
 use Rattle.format.specs.Symbols.{symbolReader, symbolsReader, symbolTableReader}
 use Rattle.format.specs.Format.{forestReader, ruleReader, rulesReader, bodyReader, fileReader}
@@ -57,18 +55,18 @@ lent = replicate 16 7
 
 abbrev cases : List ErrorCase
 cases =
-    gives (replicate 32769 0) fileTooLong 0 ∷
-    gives [] fieldMissing 0 ∷
-    gives (0x10 ∷ []) fieldMissing 4 ∷
-    gives listing wrongForm 0 ∷
-    gives (0x00 ∷ []) wrongForm 0 ∷
-    gives (0x30 ∷ []) wrongForm 0 ∷
-    gives (take 16 oldListing) fieldMissing 122 ∷
-    gives (take 16 oldListing ++ (0x80 ∷ [])) noSuchSymbol 122 ∷
-    gives (take 16 oldListing ++ (0x01 ∷ [])) badPadding 130 ∷
-    gives (oldListing ++ (0x00 ∷ [])) badPadding 130 ∷
-    gives (0x10 ∷ drop 1 wrapping) weightInadmissible 42 ∷
-    record { read = oldListing; code = bytesTooShort; input = 1; offset = 0 } ∷
+    gives (replicate 32769 0) 1 0 ∷
+    gives [] 2 0 ∷
+    gives (0x10 ∷ []) 2 4 ∷
+    gives listing 3 0 ∷
+    gives (0x00 ∷ []) 3 0 ∷
+    gives (0x30 ∷ []) 3 0 ∷
+    gives (take 16 oldListing) 2 122 ∷
+    gives (take 16 oldListing ++ (0x80 ∷ [])) 9 122 ∷
+    gives (take 16 oldListing ++ (0x01 ∷ [])) 11 130 ∷
+    gives (oldListing ++ (0x00 ∷ [])) 11 130 ∷
+    gives (0x10 ∷ drop 1 wrapping) 7 42 ∷
+    record { read = oldListing; code = 16; input = 1; offset = 0 } ∷
     []
 
 abbrev refusal : ErrorCase → Outcome ℕ

@@ -4,7 +4,6 @@ use mathlib.Core.Path.{_≡_, refl}
 use mathlib.Core.List.{List, [], _∷_, map, flatten}
 use Prim.Native.Nat.{ℕ}
 use Rattle.terms.specs.Enumeration.{groundRows}
-use Rattle.format.specs.Errors.{sizeOutOfRange, noRoomForTerms}
 use Rattle.format.specs.Reading.{bitField}
 use Rattle.format.specs.Symbols.{symbolReader, symbolsReader, symbolTableReader}
 use Rattle.format.specs.Format.{forestReader, ruleReader, rulesReader, bodyReader, fileReader}
@@ -35,9 +34,9 @@ abbrev cases : List Case
 cases =
     lists 1 (9 ∷ 9 ∷ []) 1 (1 ∷ 9 ∷ []) ∷
     lists 3 (9 ∷ 9 ∷ 9 ∷ []) 3 (0 ∷ 0 ∷ 1 ∷ []) ∷
-    gives 0 [] sizeOutOfRange 0 ∷
-    gives 8 [] sizeOutOfRange 0 ∷
-    gives 3 (9 ∷ 9 ∷ []) noRoomForTerms 1 ∷
+    gives 0 [] 22 0 ∷
+    gives 8 [] 22 0 ∷
+    gives 3 (9 ∷ 9 ∷ []) 23 1 ∷
     []
 
 cases-hold : map (λ (c : Case). listed book (c .output) (c .size)) cases ≡ map (λ (c : Case). c .outcome) cases
@@ -47,7 +46,7 @@ cases-hold = refl
 
 counts-hold : map (counted book) (1 ∷ 7 ∷ 8 ∷ []) ≡
     accepted (Exactly 1) ∷ accepted (Exactly 1) ∷
-    refused (record { code = sizeOutOfRange; input = 0; offset = 0 }) ∷ []
+    refused (record { code = 22; input = 0; offset = 0 }) ∷ []
 unfolding counted countedTerms groundRows readBytesIn wholeReader fileReader bodyReader symbolTableReader symbolsReader
     symbolReader rulesReader ruleReader forestReader bitField
 counts-hold = refl

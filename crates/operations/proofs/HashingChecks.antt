@@ -5,7 +5,6 @@ use Prim.Native.Nat.{ℕ}
 use lib.ListN.{replicate}
 use Rattle.terms.specs.Words.{forestOf}
 use Rattle.terms.specs.Fingerprint.{fingerprintTo, fingerprint}
-use Rattle.format.specs.Errors.{fieldMissing, noSuchSymbol, tooManyNodes, wordTooWide, wordsLeftOver}
 use Rattle.format.specs.Reading.{bitField, wordBelow}
 use Rattle.format.specs.Symbols.{symbolReader, symbolsReader, symbolTableReader}
 use Rattle.format.specs.Format.{forestReader, ruleReader, rulesReader, bodyReader, fileReader}
@@ -30,11 +29,11 @@ cases =
     prints (1 ∷ []) 2 ∷
     prints (271 ∷ []) 272 ∷
     prints (0 ∷ 0 ∷ 256 ∷ []) 319 ∷
-    gives (replicate 129 0) tooManyNodes 128 ∷
-    gives (0 ∷ []) fieldMissing 1 ∷
-    gives (0 ∷ 272 ∷ []) wordTooWide 1 ∷
-    gives (2 ∷ []) noSuchSymbol 0 ∷
-    gives (1 ∷ 1 ∷ []) wordsLeftOver 1 ∷
+    gives (replicate 129 0) 10 128 ∷
+    gives (0 ∷ []) 2 1 ∷
+    gives (0 ∷ 272 ∷ []) 14 1 ∷
+    gives (2 ∷ []) 9 0 ∷
+    gives (1 ∷ 1 ∷ []) 15 1 ∷
     []
 
 cases-hold : map (λ (c : Case). fingerprinted book (c .term)) cases ≡ map (λ (c : Case). c .reply) cases

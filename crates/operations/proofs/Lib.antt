@@ -19,3 +19,4 @@ mod MarkingChecks
 mod PageChecks
 mod ScoreChecks
 mod TurnsChecks
+mod BoundaryChecks

@@ -7,7 +7,6 @@ use Prim.Native.Nat.{ℕ, suc, zero}
 use lib.ListN.{length, replicate}
 use lib.Dec.{leb, lit<}
 use Rattle.terms.specs.Sample.{entry}
-use Rattle.format.specs.Errors.{fileTooLong}
 use Rattle.format.specs.Layout.{maxBytes}
 use Rattle.format.specs.Reading.{wordBelow}
 use Rattle.format.specs.Reading.Reading.{got}
@@ -73,6 +72,6 @@ unfolding packed items flatMap
 too-long = refl
 
 long-refused : (output : List ℕ) → encoded (unpacked (file 114)) output ≡
-    record { reply = refused (record { code = fileTooLong; input = 0; offset = 0 }); output = output }
+    record { reply = refused (record { code = 1; input = 0; offset = 0 }); output = output }
 unfolding encoded
 long-refused output = rw (well-formed-files-read (file 114) refl long-formed .1, too-long)

@@ -8,7 +8,6 @@ use Rattle.multisets.specs.Multiset.{multisetEqual, multisetGreater, rowEqual, 
 use Rattle.terms.specs.Words.{forestOf}
 use Rattle.terms.specs.Equivalence.{isEquivalentTo, isEquivalent}
 use Rattle.terms.specs.Order.{noneOftener, flattenedMark, rootMark, decreasingMark, isGreaterTo, isGreater}
-use Rattle.format.specs.Errors.{fieldMissing, noSuchSymbol, tooManyNodes, wordTooWide}
 use Rattle.format.specs.Reading.{bitField, wordBelow}
 use Rattle.format.specs.Symbols.{symbolReader, symbolsReader, symbolTableReader}
 use Rattle.format.specs.Format.{forestReader, ruleReader, rulesReader, bodyReader, fileReader}
@@ -44,15 +43,15 @@ cases =
     picks (0 ∷ 256 ∷ []) (0 ∷ 256 ∷ 7 ∷ []) Equivalent [] ∷
     picks (256 ∷ 272 ∷ []) (1 ∷ []) Unrelated [] ∷
     picks (1 ∷ []) (replicate 127 0 ++ (1 ∷ 1 ∷ [])) (Right 128) (replicate 127 0 ++ (1 ∷ [])) ∷
-    gives (replicate 129 0) (1 ∷ []) tooManyNodes 1 128 ∷
-    gives [] (1 ∷ []) fieldMissing 1 0 ∷
-    gives (0 ∷ 272 ∷ []) (1 ∷ []) wordTooWide 1 1 ∷
-    gives (0 ∷ 2 ∷ []) (1 ∷ []) noSuchSymbol 1 1 ∷
-    gives (1 ∷ []) (replicate 129 0) tooManyNodes 2 128 ∷
-    gives (1 ∷ []) (0 ∷ []) fieldMissing 2 1 ∷
-    gives (1 ∷ []) (272 ∷ []) wordTooWide 2 0 ∷
-    gives (1 ∷ []) (255 ∷ []) noSuchSymbol 2 0 ∷
-    gives [] (255 ∷ []) fieldMissing 1 0 ∷
+    gives (replicate 129 0) (1 ∷ []) 10 1 128 ∷
+    gives [] (1 ∷ []) 2 1 0 ∷
+    gives (0 ∷ 272 ∷ []) (1 ∷ []) 14 1 1 ∷
+    gives (0 ∷ 2 ∷ []) (1 ∷ []) 9 1 1 ∷
+    gives (1 ∷ []) (replicate 129 0) 10 2 128 ∷
+    gives (1 ∷ []) (0 ∷ []) 2 2 1 ∷
+    gives (1 ∷ []) (272 ∷ []) 14 2 0 ∷
+    gives (1 ∷ []) (255 ∷ []) 9 2 0 ∷
+    gives [] (255 ∷ []) 2 1 0 ∷
     []
 
 replies-hold : map (λ (c : Case). picked book (c .left) (c .right)) cases ≡ map (λ (c : Case). c .reply) cases

@@ -5,7 +5,6 @@ use Prim.Native.Nat.{ℕ}
 use lib.ListN.{replicate}
 use Rattle.terms.specs.Words.{forestOf}
 use Rattle.terms.specs.Oftener.{oftenerFrom, firstOftener}
-use Rattle.format.specs.Errors.{fieldMissing, noSuchSymbol, tooManyNodes, wordTooWide, wordsLeftOver}
 use Rattle.format.specs.Reading.{bitField, wordBelow}
 use Rattle.format.specs.Symbols.{symbolReader, symbolsReader, symbolTableReader}
 use Rattle.format.specs.Format.{forestReader, ruleReader, rulesReader, bodyReader, fileReader}
@@ -35,11 +34,11 @@ cases =
     answers (1 ∷ []) (256 ∷ []) 0 ∷
     answers (256 ∷ []) (264 ∷ []) 8 ∷
     answers (256 ∷ []) (271 ∷ []) 15 ∷
-    gives (replicate 129 0) (1 ∷ []) tooManyNodes 1 128 ∷
-    gives (1 ∷ 1 ∷ []) [] wordsLeftOver 1 1 ∷
-    gives (1 ∷ []) (0 ∷ []) fieldMissing 2 1 ∷
-    gives (1 ∷ []) (272 ∷ []) wordTooWide 2 0 ∷
-    gives (1 ∷ []) (255 ∷ []) noSuchSymbol 2 0 ∷
+    gives (replicate 129 0) (1 ∷ []) 10 1 128 ∷
+    gives (1 ∷ 1 ∷ []) [] 15 1 1 ∷
+    gives (1 ∷ []) (0 ∷ []) 2 2 1 ∷
+    gives (1 ∷ []) (272 ∷ []) 14 2 0 ∷
+    gives (1 ∷ []) (255 ∷ []) 9 2 0 ∷
     []
 
 cases-hold : map (λ (c : Case). oftener book (c .left) (c .right)) cases ≡ map (λ (c : Case). c .reply) cases

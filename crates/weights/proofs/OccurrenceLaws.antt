@@ -95,27 +95,28 @@ pub counts-small : {r : Totals} → Counts r → SmallDigits 8 (r .low) × Small
 counts-small (t, A) =
     (rw (A .low) (digitsOf-small t (A .short) 8 0), rw (A .high) (digitsOf-small t (A .short) 8 8))
 
-module _ (σ : Signature) (ones : Ones σ) {s t : Term} {a b : Totals} (A : Counted s a) (B : Counted t b) {q r : ℕ}
-    (d : q ≡ firstGreater 8 (a .low) (b .low)) (e : r ≡ firstGreater 8 (a .high) (b .high)) where
+module _ (σ : Signature) (ones : Ones σ) {s t : Term} {a b : Totals} (A : Counted s a) (B : Counted t b) {q : ℕ}
+    (d : q ≡ firstGreater 8 (a .low) (b .low)) where
   low-first : First σ s t 0 8 q
   low-first =
       let f = digitsOf-first σ ones s t (A .short) (B .short) 8 0 in
       let g : q ≡ oftenerFrom σ 0 8 s t = rw (A .low, B .low) at d ∙ omega (arith, f) in
       rw g (oftener-first σ s t 8 0)
 
-  high-first : First σ s t 8 8 (8 + r)
-  high-first =
-      let f = digitsOf-first σ ones s t (A .short) (B .short) 8 8 in
-      let g : 8 + r ≡ oftenerFrom σ 8 8 s t = ap (λ (n : ℕ). 8 + n) (rw (A .high, B .high) at e) ∙ f in
-      rw g (oftener-first σ s t 8 8)
-
   pub counted-low : q < 8 → q ≡ firstOftener σ s t
   unfolding firstOftener
   counted-low l = first-oftener σ s t (first-low σ s t 8 low-first l)
 
-  pub counted-high : 8 ≤ q → 8 + r ≡ firstOftener σ s t
-  unfolding firstOftener
-  counted-high l = first-oftener σ s t (first-high σ s t low-first l high-first)
+  module _ {r : ℕ} (e : r ≡ firstGreater 8 (a .high) (b .high)) where
+    high-first : First σ s t 8 8 (8 + r)
+    high-first =
+        let f = digitsOf-first σ ones s t (A .short) (B .short) 8 8 in
+        let g : 8 + r ≡ oftenerFrom σ 8 8 s t = ap (λ (n : ℕ). 8 + n) (rw (A .high, B .high) at e) ∙ f in
+        rw g (oftener-first σ s t 8 8)
 
-  pub counted-none : 8 ≤ q → 8 ≤ r → variableCount ≡ firstOftener σ s t
-  counted-none l m = let g : variableCount ≡ 8 + r = omega (arith, high-first .to) in g ∙ counted-high l
+    pub counted-high : 8 ≤ q → 8 + r ≡ firstOftener σ s t
+    unfolding firstOftener
+    counted-high l = first-oftener σ s t (first-high σ s t low-first l high-first)
+
+    pub counted-none : 8 ≤ q → 8 ≤ r → variableCount ≡ firstOftener σ s t
+    counted-none l m = let g : variableCount ≡ 8 + r = omega (arith, high-first .to) in g ∙ counted-high l

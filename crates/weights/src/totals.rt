@@ -53,17 +53,17 @@ pub fn total(table: &[u16], adds: &[u64; NODE_SUMS], words: &[u16]) -> Totals
     here
 }
 
-// The first variable that occurs oftener in the term with the right totals, 16 if none does. It goes up by eight: a
-// variable of the first eight settles it, whatever the last eight have.
+// The first variable that occurs oftener in the term with the right totals, 16 if none does. It goes up from variable 0
+// by eight, and stops where one is found.
 pub fn first_oftener(left: Totals, right: Totals) -> usize
     requires { ⌜ Counts left × Counts right ⌝ }
     ensures { λ r. ⌜ ((σ : Signature) → Ones σ → (s t : Term) → Counted s left → Counted t right → r ≡ firstOftener σ s t) ⌝ }
 {
     let low = first_greater(left.low, right.low);
-    let high = first_greater(left.high, right.high);
     if low < 8 {
         return low;
     }
+    let high = first_greater(left.high, right.high);
     if high < 8 {
         return 8 + high;
     }

@@ -7,26 +7,24 @@ use Rattle.weights.proofs.totals.first_oftener.Tie as tie
 first-greater-requires : tie.Need-first-greater-requires
 first-greater-requires c κs = let (A, B) = c .pre in (counts-small A .0, counts-small B .0)
 
-first-greater-requires-2 : tie.Need-first-greater-requires-2
-first-greater-requires-2 c κs = let (A, B) = c .before .pre in (counts-small A .1, counts-small B .1)
-
 returns : tie.Need-returns
-returns c =
-    let low = c .before .before .first-greater .ensures in
-    λ σ o s t A B. counted-low σ o A B low (c .before .first-greater2 .ensures) (c .if1 .taken)
+returns c = λ σ o s t A B. counted-low σ o A B (c .before .first-greater .ensures) (c .if1 .taken)
+
+first-greater-requires-2 : tie.Need-first-greater-requires-2
+first-greater-requires-2 c κs = let (A, B) = c .before .before .pre in (counts-small A .1, counts-small B .1)
 
 returns-2 : tie.Need-returns-2
 returns-2 c =
     let low = c .before .before .before .first-greater .ensures in
-    λ σ o s t A B. counted-high σ o A B low (c .before .before .first-greater2 .ensures) (c .before .if1 .left)
+    λ σ o s t A B. counted-high σ o A B low (c .before .first-greater2 .ensures) (c .before .before .if1 .left)
 
 returns-3 : tie.Need-returns-3
 returns-3 c =
     let low = c .before .before .before .first-greater .ensures in
     λ σ o s t A B.
-    counted-none σ o A B low (c .before .before .first-greater2 .ensures) (c .before .if1 .left) (c .if2 .left)
+    counted-none σ o A B low (c .before .first-greater2 .ensures) (c .before .before .if1 .left) (c .if2 .left)
 
 pub first-oftener-spec : {M : Type 1} → statement M
 first-oftener-spec =
     tie.close
-    (tie.spec first-greater-requires first-greater-requires-2 returns (λ c. search needs) returns-2 returns-3)
+    (tie.spec first-greater-requires returns first-greater-requires-2 (λ c. search needs) returns-2 returns-3)

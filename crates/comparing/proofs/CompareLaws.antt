@@ -40,13 +40,13 @@ module _ (table left right : List ℕ) (reading : Reply Inputs) (x : Ends) where
       c ≡ comparison (signatureOf (take n table)) (termOf (signatureOf (take n table)) (take l left))
       (termOf (signatureOf (take n table)) (take r right)) → RelatedRead reading (Read c l r)
   ends-related n l r e read c d =
-      let at = (rw e at read) .3 in (
+      let at = (rw e at read) .1 in (
         _,
         at .read,
         record {
           compares = d;
-          leftSize = front-size _ left l (length-take-le l left (at .leftWithin)) (at .leftTerm);
-          rightSize = front-size _ right r (length-take-le r right (at .rightWithin)) (at .rightTerm);
+          leftSize = front-size _ left l (length-take-le l left (at .leftWithin)) (at .decoded .left);
+          rightSize = front-size _ right r (length-take-le r right (at .rightWithin)) (at .decoded .right);
         },
       )
 

@@ -26,4 +26,4 @@ module _ (bytes table left right : List ℕ) (x : Ends) where
       v ≡ firstOftener (signatureOf (take n table)) (termOf (signatureOf (take n table)) (take l left))
       (termOf (signatureOf (take n table)) (take r right)) → accepted v ≡ oftener bytes left right
   unfolding oftener
-  tested n l r e read v d = ap accepted d ∙ rw ((rw e at read) .3 .read)
+  tested n l r e read v d = ap accepted d ∙ rw ((rw e at read) .1 .read)

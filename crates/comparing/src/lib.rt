@@ -1,15 +1,12 @@
 // Comparing two terms under a rule file.
 ghost use mathlib.Core.Path.{_≡_};
-ghost use Prim.Native.Nat.{_≤_};
-ghost use lib.ListN.{length};
-ghost use Rattle.terms.specs.Signature.{Admissible};
 ghost use Rattle.terms.specs.Words.{termOf};
-ghost use Rattle.format.specs.Statements.{IsTerm};
-ghost use Rattle.symbols.specs.Table.{signatureOf, maxTableWords};
+ghost use Rattle.symbols.specs.Table.{signatureOf};
 ghost use Rattle.operations.specs.Inputs.{readInputs};
 ghost use Rattle.operations.specs.Comparing.{comparison, compared};
 ghost use Rattle.operations.specs.Enums.{compareReply};
 ghost use Rattle.words.specs.Terms.{readerOf};
+ghost use Rattle.reader.specs.Promise.{Decoded};
 ghost use Rattle.comparing.specs.Related.{RelatedRead};
 use inputs::Ends;
 use measures::SUMS;
@@ -35,8 +32,7 @@ pub enum Related {
 
 // Compares two terms that were read.
 fn compare_read(table: &[u16], left: &[u16], right: &[u16]) -> Comparison
-    requires { ⌜ (length (now table) ≤ maxTableWords) × Admissible (signatureOf (now table)) ⌝ }
-    requires { ⌜ IsTerm (signatureOf (now table)) (now left) × IsTerm (signatureOf (now table)) (now right) ⌝ }
+    requires { ⌜ Decoded (now table) (now left) (now right) ⌝ }
     ensures { λ r. ⌜
         r
         ≡ comparison (signatureOf (now (table .entry))) (termOf (signatureOf (now (table .entry))) (now (left .entry)))

@@ -1,11 +1,9 @@
 // The variable test of two terms under a rule file.
 ghost use mathlib.Core.Path.{_≡_};
-ghost use Prim.Native.Nat.{_≤_};
-ghost use lib.ListN.{length};
 ghost use Rattle.terms.specs.Words.{termOf};
 ghost use Rattle.terms.specs.Oftener.{firstOftener};
-ghost use Rattle.format.specs.Statements.{IsTerm};
-ghost use Rattle.symbols.specs.Table.{signatureOf, maxTableWords};
+ghost use Rattle.symbols.specs.Table.{signatureOf};
+ghost use Rattle.reader.specs.Promise.{Decoded};
 ghost use Rattle.operations.specs.Variables.{oftener as oftenerOf};
 ghost use Rattle.operations.specs.Enums.{numberReply};
 use inputs::Ends;
@@ -14,8 +12,7 @@ use weights::totals::total;
 
 // The variable test of two terms that were read.
 fn oftener_read(table: &[u16], left: &[u16], right: &[u16]) -> usize
-    requires { ⌜ length (now table) ≤ maxTableWords ⌝ }
-    requires { ⌜ IsTerm (signatureOf (now table)) (now left) × IsTerm (signatureOf (now table)) (now right) ⌝ }
+    requires { ⌜ Decoded (now table) (now left) (now right) ⌝ }
     ensures { λ r. ⌜
         r
         ≡ firstOftener (signatureOf (now (table .entry))) (termOf (signatureOf (now (table .entry))) (now (left .entry)))

@@ -24,6 +24,7 @@ use Rattle.answers.specs.declared.Answer.{Answer}
 use Rattle.answers.specs.declared.Answer.the-variants.{Got, Fault}
 use Rattle.answers.specs.Answer.{endOf}
 use Rattle.words.specs.Terms.{readerOf}
+use Rattle.reader.specs.Promise.{IsTable}
 use Rattle.reader.specs.File.{PackedRead}
 use Rattle.inputs.specs.declared.Ends.{Ends}
 use Rattle.inputs.specs.declared.Ends.the-variants.{Read, Refused}
@@ -62,7 +63,10 @@ term-read whole σ words value n e =
 
 -- ---- two terms
 
-module _ (whole : Bool) (σ : Signature) (left right : List ℕ) where
+module _ (whole : Bool) (table left right : List ℕ) where
+  abbrev σ : Signature
+  σ = signatureOf table
+
   abbrev both : Reply Inputs
   both = readTerms (readerOf whole) σ left right
 
@@ -78,17 +82,17 @@ module _ (whole : Bool) (σ : Signature) (left right : List ℕ) where
     right-fault code offset f =
         rw (term-read whole σ left value l e .read, end-fault (readerOf whole σ right) code offset f)
 
-    pub terms-read : (value' r : ℕ) → Got value' r ≡ endOf (readerOf whole σ right) → TermsAt σ left right both l r
+    pub terms-read : (value' r : ℕ) → Got value' r ≡ endOf (readerOf whole σ right) → IsTable table →
+        TermsAt table left right both l r
     unfolding readTerms
-    terms-read value' r f =
+    terms-read value' r f symbols =
         let a = term-read whole σ left value l e in
         let b = term-read whole σ right value' r f in
         record {
           read = rw (a .read, b .read);
           leftWithin = a .within;
           rightWithin = b .within;
-          leftTerm = a .term;
-          rightTerm = b .term;
+          decoded = record { symbols = symbols; left = a .term; right = b .term };
         }
 
 -- ---- the file, and then the terms
@@ -100,7 +104,7 @@ book-answer bytes table before after reading (Got nodes front) room (file, end, 
   end = end;
   read = read;
   signature = parts .signature;
-  admissible = rw (parts .signature) (parts .admissible);
+  decoded = parts .decoded;
   room = omega (arith, parts .few);
   few = parts .few;
 }
@@ -113,10 +117,10 @@ module _ (whole : Bool) (bytes left right : List ℕ) where
   book-fault code offset e = rw e
 
   pub book-read : (table : List ℕ) (n : ℕ) → BookAt table (readBytes bytes) n → (r : Ends) →
-      TermsRead (signatureOf (take n table)) (length (take n table)) left right
+      TermsRead (take n table) left right
       (readTerms (readerOf whole) (signatureOf (take n table)) left right) r →
       InputsRead table left right (readInputs (readerOf whole) bytes left right) r
   unfolding readInputs
   book-read table n b (Read front l r) (same, at) =
-      rw (b .read, same ∙ length-take-le n table (b .room), ← b .signature) (b .room, b .few, b .admissible, at)
+      rw (b .read, same ∙ length-take-le n table (b .room), ← b .signature) (b .room, at)
   book-read table n b (Refused error) at = rw (b .read, ← b .signature) at

@@ -3,37 +3,35 @@ use mathlib.Core.Path.{_≡_}
 use mathlib.Core.List.{List}
 use Prim.Native.Nat.{ℕ, _≤_}
 use lib.ListN.{length, take}
-use Rattle.terms.specs.Signature.{Signature, Admissible}
 use Rattle.terms.specs.Words.{termOf}
 use Rattle.format.specs.Reading.{Reading}
 use Rattle.format.specs.Reading.Reading.{got, fault}
 use Rattle.format.specs.Format.{RuleFile}
-use Rattle.format.specs.Statements.{IsTerm}
 use Rattle.operations.specs.Replies.{Reply}
 use Rattle.operations.specs.Replies.Reply.{accepted, refused}
 use Rattle.operations.specs.Inputs.{Inputs}
 use Rattle.symbols.specs.Table.{signatureOf, maxTableWords}
 use Rattle.answers.specs.declared.Answer.{Answer}
 use Rattle.answers.specs.declared.Answer.the-variants.{Got, Fault}
+use Rattle.reader.specs.Promise.{IsTable, Decoded}
 use Rattle.inputs.specs.declared.Ends.{Ends}
 use Rattle.inputs.specs.declared.Ends.the-variants.{Read, Refused}
 
--- The terms are the words up to their ends.
-pub record TermsAt (σ : Signature) (left right : List ℕ) (reading : Reply Inputs) (l r : ℕ) : Type 0 where
+-- The terms that are read under a table are the words up to their ends, and are what reading promises.
+pub record TermsAt (table left right : List ℕ) (reading : Reply Inputs) (l r : ℕ) : Type 0 where
   pub read : reading ≡ accepted (record {
-    signature = σ;
-    left = termOf σ (take l left);
-    right = termOf σ (take r right);
+    signature = signatureOf table;
+    left = termOf (signatureOf table) (take l left);
+    right = termOf (signatureOf table) (take r right);
   })
   pub leftWithin : l ≤ length left
   pub rightWithin : r ≤ length right
-  pub leftTerm : IsTerm σ (take l left)
-  pub rightTerm : IsTerm σ (take r right)
+  pub decoded : Decoded table (take l left) (take r right)
 
--- What is read under a table of so many words, and the answer.
-abbrev pub TermsRead : Signature → ℕ → List ℕ → List ℕ → Reply Inputs → Ends → Type 0
-TermsRead σ n left right reading (Read front l r) = (front ≡ n) × TermsAt σ left right reading l r
-TermsRead σ n left right reading (Refused e) = reading ≡ refused e
+-- What is read under a table, and the answer.
+abbrev pub TermsRead : List ℕ → List ℕ → List ℕ → Reply Inputs → Ends → Type 0
+TermsRead table left right reading (Read front l r) = (front ≡ length table) × TermsAt table left right reading l r
+TermsRead table left right reading (Refused e) = reading ≡ refused e
 
 -- The front of the table has the symbols of the file that is read.
 pub record BookAt (table : List ℕ) (reading : Reading RuleFile) (front : ℕ) : Type 0 where
@@ -41,7 +39,7 @@ pub record BookAt (table : List ℕ) (reading : Reading RuleFile) (front : ℕ) 
   pub end : ℕ
   pub read : reading ≡ got file end
   pub signature : signatureOf (take front table) ≡ file .signature
-  pub admissible : Admissible (signatureOf (take front table))
+  pub decoded : IsTable (take front table)
   pub room : front ≤ length table
   pub few : front ≤ maxTableWords
 
@@ -53,6 +51,5 @@ BookRead table reading (Fault offset code) = reading ≡ fault code offset
 -- What is read of a file and two terms, and the answer.
 abbrev pub InputsRead : List ℕ → List ℕ → List ℕ → Reply Inputs → Ends → Type 0
 InputsRead table left right reading (Read front l r) =
-    (front ≤ length table) × (front ≤ maxTableWords) × Admissible (signatureOf (take front table))
-    × TermsAt (signatureOf (take front table)) left right reading l r
+    (front ≤ length table) × TermsAt (take front table) left right reading l r
 InputsRead table left right reading (Refused e) = reading ≡ refused e

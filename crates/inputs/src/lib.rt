@@ -1,11 +1,11 @@
 // Reading the inputs of an operation on a rule file and terms.
-ghost use Prim.Native.Nat.{_≤_};
 ghost use mathlib.Core.Path.{_≡_};
 ghost use lib.ListN.{length};
 ghost use Rattle.format.specs.Files.{readBytes};
 ghost use Rattle.operations.specs.Inputs.{readTerms, readInputs};
 ghost use Rattle.symbols.specs.Table.{signatureOf, maxTableWords};
 ghost use Rattle.words.specs.Terms.{readerOf};
+ghost use Rattle.reader.specs.Promise.{IsTable};
 ghost use Rattle.inputs.specs.Inputs.{TermsRead, BookRead, InputsRead};
 use answers::Answer;
 use answers::refusal;
@@ -24,10 +24,9 @@ pub enum Ends {
 
 // Reads the left term and then the right one under a symbol table, each to be all of its words where that is asked.
 fn read_terms(table: &[u16], left: &[u16], right: &[u16], whole: bool) -> Ends
-    requires { ⌜ length (now table) ≤ maxTableWords ⌝ }
+    requires { ⌜ IsTable (now table) ⌝ }
     ensures { λ r. ⌜
-        TermsRead (signatureOf (now (table .entry))) (length (now (table .entry))) (now (left .entry))
-        (now (right .entry))
+        TermsRead (now (table .entry)) (now (left .entry)) (now (right .entry))
         (readTerms (readerOf whole) (signatureOf (now (table .entry))) (now (left .entry)) (now (right .entry))) r
         ⌝ }
 {

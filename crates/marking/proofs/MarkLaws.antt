@@ -1,8 +1,6 @@
 -- What marking gives back, by what its bytes read as.
---     is-table                                 the table that reading leaves
 --     mark-fault, mark-short, mark-written     the ends of marking
-use mathlib.Core.List.{List, []}
-use mathlib.Core.Bool.{true}
+use mathlib.Core.List.{List}
 use mathlib.Core.Path.{_≡_, refl, sym, _∙_}
 use Prim.Native.Nat.{ℕ, _≤_, _<_}
 use native.Mathlib.Omega.{arith}
@@ -17,22 +15,12 @@ use Rattle.format.specs.Format.{RuleFile, systemOf}
 use Rattle.format.specs.Files.{readBytes}
 use Rattle.operations.specs.declared.Error.{Error}
 use Rattle.operations.specs.Replies.Reply.{accepted, refused}
-use Rattle.symbols.specs.Table.{tableWords, maxTableWords}
-use Rattle.reader.specs.File.{HeadParts}
-use Rattle.reader.proofs.FileLaws.{table-of}
 use Rattle.operations.specs.Score.{scoreOf}
 use Rattle.operations.specs.Marking.{marksOf, marked}
 use Rattle.marking.specs.declared.walk.FileMarked.{FileMarked}
 use Rattle.marking.specs.declared.walk.FileMarked.the-variants.{Marked, Fault}
-use Rattle.marking.specs.Rule.{IsTable, WholeMarked}
+use Rattle.marking.specs.Rule.{WholeMarked}
 use Rattle.marking.proofs.WalkLaws.{stored-front}
-
-pub is-table : (reader : ℕ) (bytes : List ℕ) (reading : Reading RuleFile) (table : List ℕ) (symbols rules offset : ℕ) →
-    maxTableWords ≡ length table → HeadParts reader true bytes [] reading table symbols rules offset →
-    IsTable (take (tableWords symbols) table)
-is-table reader bytes reading table symbols rules offset n head =
-    let (short, admissible) = table-of reader bytes [] reading table symbols rules offset n head in
-    record { short = short; admissible = admissible }
 
 module _ (bytes marks : List ℕ) (x : FileMarked) (before found : List ℕ) (margins₀ margins : List ℤ)
     (all : WholeMarked (readBytes bytes) x before found margins₀ margins) where

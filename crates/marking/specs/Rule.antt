@@ -5,14 +5,13 @@ use Prim.Native.Nat.{ℕ, _≤_, _<_}
 use lib.IntN.{ℤ}
 use lib.ListN.{length}
 use lib.Seq.{sets}
-use Rattle.terms.specs.Signature.{Signature, Admissible}
+use Rattle.terms.specs.Signature.{Signature}
 use Rattle.terms.specs.Words.{termOf}
 use Rattle.terms.specs.Order.{mark, margin}
 use Rattle.format.specs.Reading.{Reading}
 use Rattle.format.specs.Reading.Reading.{got, fault}
 use Rattle.format.specs.Format.{Sides, RuleFile, systemOf}
 use Rattle.operations.specs.Marking.{marksOf, marginsOf, decreasingCount}
-use Rattle.symbols.specs.Table.{signatureOf, maxTableWords}
 use Rattle.marking.specs.declared.rule.MarkedRule.{MarkedRule}
 use Rattle.marking.specs.declared.rule.RuleReading.{RuleReading}
 use Rattle.answers.specs.declared.Answer.{Answer}
@@ -20,11 +19,6 @@ use Rattle.answers.specs.declared.Answer.the-variants.{Got, Fault}
 use Rattle.marking.specs.declared.rule.RuleReading.the-variants as rule
 use Rattle.marking.specs.declared.walk.FileMarked.{FileMarked}
 use Rattle.marking.specs.declared.walk.FileMarked.the-variants as file
-
--- A table as reading leaves it: of at most 255 symbols, and admissible.
-pub record IsTable (table : List ℕ) : Type 0 where
-  pub short : length table ≤ maxTableWords
-  pub admissible : Admissible (signatureOf table)
 
 module _ (σ : Signature) where
   -- The mark and the margin of a rule given by the node words of its sides.

@@ -11,7 +11,8 @@ ghost use Rattle.format.specs.Statements.{IsTerm};
 ghost use Rattle.symbols.specs.Table.{signatureOf};
 ghost use Rattle.symbols.specs.Arities.{Arities};
 ghost use Rattle.weights.specs.Nodes.{NodeSums};
-ghost use Rattle.marking.specs.Rule.{IsTable, Marks, MarksRead, MarkedWithin};
+ghost use Rattle.reader.specs.Promise.{IsTable, Decoded};
+ghost use Rattle.marking.specs.Rule.{Marks, MarksRead, MarkedWithin};
 use answers::Answer;
 use weights::NODE_SUMS;
 use weights::totals::total;
@@ -37,10 +38,7 @@ fn mark_sides(
     right: &[u16],
     next: usize,
 ) -> MarkedRule
-    requires { ⌜
-        IsTable (now table) × IsTerm (signatureOf (now table)) (now left) × IsTerm (signatureOf (now table)) (now right)
-        × NodeSums (signatureOf (now table)) (now adds)
-        ⌝ }
+    requires { ⌜ Decoded (now table) (now left) (now right) × NodeSums (signatureOf (now table)) (now adds) ⌝ }
     ensures { λ r. ⌜
         Marks (signatureOf (now (table .entry))) (record { left = now (left .entry); right = now (right .entry) }) r
         ⌝ }

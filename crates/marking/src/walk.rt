@@ -15,7 +15,8 @@ ghost use Rattle.symbols.specs.Arities.{Arities};
 ghost use Rattle.answers.specs.Answer.{Within};
 ghost use Rattle.weights.specs.Nodes.{NodeSums};
 ghost use Rattle.reader.specs.File.{restReader};
-ghost use Rattle.marking.specs.Rule.{IsTable, AllMarked, WholeMarked};
+ghost use Rattle.reader.specs.Promise.{IsTable};
+ghost use Rattle.marking.specs.Rule.{AllMarked, WholeMarked};
 use crate::rule::RuleReading;
 use answers::Answer;
 

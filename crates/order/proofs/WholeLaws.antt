@@ -1,5 +1,5 @@
 -- Two whole terms: what is known of their words, and what is prepared of them.
---     whole-terms                              two terms, as they are read, under a table
+--     table-small                              the table
 --     left-some, left-complete, turned, ..     their words, and the two turned round
 --     whole-sides, whole-scale                 both sides, prepared, with their sums
 --     level-turned, scales-turned              the two turned round
@@ -8,22 +8,20 @@ use mathlib.Core.Path.{sym}
 use Prim.Native.Nat.{ℕ, _≤_, _<_}
 use native.Mathlib.Omega.{arith}
 use lib.ListN.{length}
-use Rattle.terms.specs.Signature.{Admissible}
-use Rattle.format.specs.Statements.{IsTerm}
-use Rattle.symbols.specs.Table.{signatureOf, maxTableWords}
+use Rattle.symbols.specs.Table.{signatureOf}
 use Rattle.symbols.proofs.TableLaws.{few-at}
+use Rattle.reader.specs.Promise.{Decoded}
 use Rattle.subterms.specs.Parts.{Complete}
 use Rattle.equivalence.specs.Keys.{Prepared, BothPrepared}
 use Rattle.subterms.proofs.FormedLaws.{term-some, term-complete}
 use Rattle.weights.specs.declared.totals.Totals.{Totals}
 use Rattle.measures.specs.Sums.{SummedUp, Scale}
-use Rattle.order.specs.Whole.{Whole, Level}
+use Rattle.order.specs.Whole.{Level}
 
-pub whole-terms : {table s t : List ℕ} → length table ≤ maxTableWords → Admissible (signatureOf table) →
-    IsTerm (signatureOf table) s → IsTerm (signatureOf table) t → Whole table s t
-whole-terms h a p q = record { small = omega arith; admissible = a; left = p; right = q }
+module _ {table s t : List ℕ} (S : Decoded table s t) where
+  pub table-small : length table ≤ 1025
+  table-small = omega (arith, S .symbols .short)
 
-module _ {table s t : List ℕ} (S : Whole table s t) where
   pub left-some : 0 < length s
   left-some = term-some (S .left)
 
@@ -31,28 +29,28 @@ module _ {table s t : List ℕ} (S : Whole table s t) where
   right-some = term-some (S .right)
 
   pub left-complete : Complete (signatureOf table) s
-  left-complete = term-complete (signatureOf table) (few-at table (S .small)) (S .left)
+  left-complete = term-complete (signatureOf table) (few-at table table-small) (S .left)
 
   pub right-complete : Complete (signatureOf table) t
-  right-complete = term-complete (signatureOf table) (few-at table (S .small)) (S .right)
+  right-complete = term-complete (signatureOf table) (few-at table table-small) (S .right)
 
-  pub turned : Whole table t s
-  turned = record { small = S .small; admissible = S .admissible; left = S .right; right = S .left }
+  pub turned : Decoded table t s
+  turned = record { symbols = S .symbols; left = S .right; right = S .left }
 
   module _ {skeys tkeys : List ℕ} (P : Prepared (signatureOf table) s skeys)
       (Q : Prepared (signatureOf table) t tkeys) where
     pub whole-sides : BothPrepared table s skeys t tkeys
-    whole-sides = record { small = S .small; binary = S .admissible .acBinary; left = P; right = Q }
+    whole-sides = record { small = table-small; binary = S .symbols .admissible .acBinary; left = P; right = Q }
 
 -- Both sides prepared, with their sums.
-pub whole-scale : {table s skeys ssums t tkeys tsums : List ℕ} → Whole table s t →
+pub whole-scale : {table s skeys ssums t tkeys tsums : List ℕ} → Decoded table s t →
     BothPrepared table s skeys t tkeys → SummedUp (signatureOf table) s ssums → SummedUp (signatureOf table) t tsums →
     Scale table s skeys ssums t tkeys tsums
-whole-scale S P x y = record { admissible = S .admissible; sides = P; left = x; right = y }
+whole-scale S P x y = record { admissible = S .symbols .admissible; sides = P; left = x; right = y }
 
 pub level-turned : {table s t : List ℕ} {a b : Totals} → Level table s a t b → Level table t b s a
 level-turned L = record {
-  whole = turned (L .whole);
+  decoded = turned (L .decoded);
   left = L .right;
   right = L .left;
   level = sym (L .level);

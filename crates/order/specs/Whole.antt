@@ -1,26 +1,19 @@
--- Two whole terms, as the words that spell them.
+-- Two whole terms, as reading decodes them: the words that spell them.
 use mathlib.Core.List.{List}
 use mathlib.Core.Bool.{true}
 use mathlib.Core.Path.{_≡_}
-use Prim.Native.Nat.{ℕ, _≤_}
-use lib.ListN.{length, getD}
-use Rattle.terms.specs.Signature.{Signature, Admissible}
+use Prim.Native.Nat.{ℕ}
+use lib.ListN.{getD}
+use Rattle.terms.specs.Signature.{Signature}
 use Rattle.terms.specs.Words.{termOf}
 use Rattle.terms.specs.Order.{mark}
-use Rattle.format.specs.Statements.{IsTerm}
 use Rattle.operations.specs.declared.Relation.{Relation}
 use Rattle.operations.specs.Comparing.{relation}
 use Rattle.symbols.specs.Table.{signatureOf}
+use Rattle.reader.specs.Promise.{Decoded}
 use Rattle.weights.specs.declared.totals.Totals.{Totals}
 use Rattle.weights.specs.Totals.{Totalled}
 use Rattle.order.specs.Compared.{weightAt, noneOftenerAt}
-
--- Both are well formed, under a table that is admissible.
-pub record Whole (table s t : List ℕ) : Type 0 where
-  pub small : length table ≤ 1025
-  pub admissible : Admissible (signatureOf table)
-  pub left : IsTerm (signatureOf table) s
-  pub right : IsTerm (signatureOf table) t
 
 module _ (table : List ℕ) where
   abbrev σ : Signature
@@ -40,7 +33,7 @@ module _ (table : List ℕ) where
 
   -- With these totals, of equal weight and with the same root.
   pub record Level (s : List ℕ) (a : Totals) (t : List ℕ) (b : Totals) : Type 0 where
-    pub whole : Whole table s t
+    pub decoded : Decoded table s t
     pub left : Totalled σ s a
     pub right : Totalled σ t b
     pub level : a .weight ≡ b .weight

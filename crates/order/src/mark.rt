@@ -18,11 +18,12 @@ ghost use Rattle.operations.specs.Marking.{isDecreasing};
 ghost use Rattle.symbols.specs.Table.{signatureOf};
 ghost use Rattle.equivalence.specs.Keys.{BothPrepared};
 ghost use Rattle.equivalence.specs.Offsets.{alikeAt};
+ghost use Rattle.reader.specs.Promise.{Decoded};
 ghost use Rattle.weights.specs.Nodes.{NodeSums};
 ghost use Rattle.weights.specs.Totals.{Totalled};
 ghost use Rattle.measures.specs.Sums.{Scale};
 ghost use Rattle.order.specs.Compared.{higherMark, rootAt};
-ghost use Rattle.order.specs.Whole.{Whole, SameRoot, markOf};
+ghost use Rattle.order.specs.Whole.{SameRoot, markOf};
 
 // The mark by the arguments of two whole terms with the same root: 3 to 6, or 0.
 pub fn arguments_mark(
@@ -57,7 +58,7 @@ pub fn prepare_both(
     t: &[u16],
     tkeys: &mut [u64; MAX_NODES],
 ) -> bool
-    requires { ⌜ Whole (now table) (now s) (now t) ⌝ }
+    requires { ⌜ Decoded (now table) (now s) (now t) ⌝ }
     requires { ⌜ (length (now skeys) ≡ 128) × (length (now tkeys) ≡ 128) ⌝ }
     ensures { λ r. ⌜ r ≡ alikeAt (now (table .entry)) (now (s .entry)) 0 (now (t .entry)) 0 ⌝ }
     ensures { λ _. ⌜
@@ -73,7 +74,7 @@ pub fn prepare_both(
 // The mark of two terms of equal weight with the same root, where no variable occurs oftener in the right one.
 fn mark_prepared(table: &[u16], adds: &[u64; NODE_SUMS], s: &[u16], t: &[u16]) -> u8
     requires { ⌜
-        Whole (now table) (now s) (now t) × SameRoot (now table) (now s) (now t)
+        Decoded (now table) (now s) (now t) × SameRoot (now table) (now s) (now t)
         × NodeSums (signatureOf (now table)) (now adds)
         ⌝ }
     ensures { λ r. ⌜ r ≡ markOf (now (table .entry)) (now (s .entry)) (now (t .entry)) ⌝ }
@@ -120,7 +121,7 @@ pub fn mark(
     t: &[u16],
     ttotal: Totals,
 ) -> u8
-    requires { ⌜ Whole (now table) (now s) (now t) ⌝ }
+    requires { ⌜ Decoded (now table) (now s) (now t) ⌝ }
     requires { ⌜
         Totalled (signatureOf (now table)) (now s) stotal
         × Totalled (signatureOf (now table)) (now t) ttotal

@@ -12,11 +12,12 @@ use weights::totals::Totals;
 use weights::totals::first_oftener;
 ghost use mathlib.Core.Path.{_≡_};
 ghost use Rattle.symbols.specs.Table.{signatureOf};
+ghost use Rattle.reader.specs.Promise.{Decoded};
 ghost use Rattle.weights.specs.Nodes.{NodeSums};
 ghost use Rattle.weights.specs.Totals.{Totalled};
 ghost use Rattle.measures.specs.Sums.{SummedUp, Scale};
 ghost use Rattle.order.specs.Compared.{greaterAt};
-ghost use Rattle.order.specs.Whole.{Whole, Level, relationOf};
+ghost use Rattle.order.specs.Whole.{Level, relationOf};
 
 // Is the left one greater, of two terms of equal weight with the same root that are prepared?
 fn greater_level(
@@ -82,7 +83,7 @@ pub fn relation(
     ttotal: Totals,
     tsums: &[u64; SUMS],
 ) -> Relation
-    requires { ⌜ Whole (now table) (now s) (now t) ⌝ }
+    requires { ⌜ Decoded (now table) (now s) (now t) ⌝ }
     requires { ⌜
         Totalled (signatureOf (now table)) (now s) stotal
         × Totalled (signatureOf (now table)) (now t) ttotal

@@ -1,6 +1,6 @@
 -- What the code that reads a whole file has to show at each of its ends.
 --     read-parts                                    the whole file by its form and what follows
---     symbols-fault, head-read, head-answer, table-of     what follows a header
+--     symbols-fault, head-read, head-answer     what follows a header
 --     rest-unread, rest-unended, rest-ended         what follows the symbols
 use mathlib.Core.Path.{_≡_, refl, sym, ap, _∙_}
 use mathlib.Core.List.{List, [], _∷_}
@@ -23,13 +23,13 @@ use Rattle.format.proofs.ReadingLaws.{andThen-assoc, andThen-same, holds-got}
 use Rattle.format.proofs.FormLaws.{taken-unused}
 use Rattle.format.proofs.FormatLaws.{symbols-read, table-read}
 use Rattle.format.proofs.SymbolLaws.{admissible-of-symbols}
-use Rattle.symbols.specs.Table.{symbolsAt, signatureOf, weightOf, tableWords, maxTableWords, symbolsWords, frontWords}
+use Rattle.symbols.specs.Table.{symbolsAt, signatureOf, weightOf, tableWords, symbolsWords, frontWords}
 use Rattle.symbols.proofs.TableLaws.{length-symbols}
 use Rattle.symbols.proofs.EntryLaws.{table-le, table-entries, signature-front, front-weight, front-words}
 use Rattle.answers.specs.declared.Answer.{Answer}
 use Rattle.answers.specs.declared.Answer.the-variants.{Got, Fault}
 use Rattle.reader.specs.Source.{sourceOf, Reached, tableOf, Room, Stored, tested}
-use Rattle.reader.specs.File.{restReader, tableReader, countsReader, storedForm, HeadParts, HeadRead}
+use Rattle.reader.specs.File.{restReader, tableReader, countsReader, storedForm, HeadRead}
 use Rattle.reader.specs.Symbol.{SymbolsRead}
 use Rattle.reader.proofs.SourceLaws.{tested-then, field-fits, reached-symbols, room-table, room-same}
 
@@ -174,7 +174,10 @@ module _ (form : ℕ) (packed : Bool) (bytes words : List ℕ) (w0 symbols rules
           short = short;
           fewSymbols = few;
           fewRules = some;
-          admissible = rw e admissible;
+          decoded = record {
+            short = omega (arith, length-take-le (tableWords symbols) T long, table-le symbols few);
+            admissible = rw e admissible;
+          };
           within = within;
           front = rw e front;
         }
@@ -194,16 +197,6 @@ module _ (form : ℕ) (packed : Bool) (bytes words : List ℕ) (w0 symbols rules
         (head-read next read stored stands same room start short few some positive reader taken)
     head-answer (Fault offset code) read stands same room start short few some positive reader taken =
         symbols-fault code offset read
-
--- The table that reading the head of a packed file leaves.
-pub table-of : (reader : ℕ) (bytes words : List ℕ) (reading : Reading RuleFile) (table : List ℕ)
-    (symbols rules offset : ℕ) → maxTableWords ≡ length table →
-    HeadParts reader true bytes words reading table symbols rules offset →
-    (length (take (tableWords symbols) table) ≤ maxTableWords)
-    × Admissible (signatureOf (take (tableWords symbols) table))
-table-of reader bytes words reading table symbols rules offset n head =
-    let few = table-le symbols (head .fewSymbols) in
-    (omega (arith, few, length-take-le (tableWords symbols) table (omega (arith, few))), head .admissible)
 
 -- ---- after the symbols
 

@@ -87,7 +87,7 @@ module _ (form : ℕ) (bytes table before after : List ℕ) (h : Answer) (symbol
                 ap (λ (k : ℕ). take k table) size ∙ parts .front refl
                 ∙ ap (frontWords (storedForm (parts .form)) τ) (sym n);
             signature = ap (λ (k : ℕ). signatureOf (take k table)) size;
-            admissible = parts .admissible;
+            decoded = rw size (parts .decoded);
             narrow = omega (
               arith,
               count,

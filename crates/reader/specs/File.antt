@@ -6,7 +6,7 @@ use Prim.Native.Nat.{ℕ, _*_, _≤_, _<_}
 use lib.ListN.{length, take}
 use lib.Dec.{eqb, leb}
 use lib.Seq.{sets}
-use Rattle.terms.specs.Signature.{Signature, Admissible}
+use Rattle.terms.specs.Signature.{Signature}
 use Rattle.format.specs.Errors.{noSymbols, variableWeightless}
 use Rattle.format.specs.Layout.{firstForm, formNumber, symbolCountWidth, weightWidth, ruleCountWidth, maxBytes}
 use Rattle.format.specs.Reading.{Reading, Reader, _>>=_, _>>_, give}
@@ -19,6 +19,7 @@ use Rattle.symbols.specs.Table.{signatureOf, tableWords, maxTableWords, frontWo
 use Rattle.answers.specs.declared.Answer.{Answer}
 use Rattle.answers.specs.declared.Answer.the-variants.{Got, Fault}
 use Rattle.sides.specs.Side.{rulesWords}
+use Rattle.reader.specs.Promise.{IsTable}
 use Rattle.reader.specs.Source.{sourceOf, Reached, tableOf, tested}
 
 module _ (form : ℕ) (packed : Bool) (bytes words : List ℕ) where
@@ -70,7 +71,7 @@ pub record HeadParts (reader : ℕ) (packed : Bool) (bytes words : List ℕ) (re
   pub short : length bytes ≤ maxBytes
   pub fewSymbols : symbols < 256
   pub fewRules : rules < 1024
-  pub admissible : Admissible (signatureOf (take (tableWords symbols) (tableOf packed words table)))
+  pub decoded : IsTable (take (tableWords symbols) (tableOf packed words table))
   pub within : Reached packed bytes words (tableWords symbols) offset
   pub front : packed ≡ true → take (tableWords symbols) table ≡ frontWords (storedForm form) (signatureOf
       (take (tableWords symbols) (tableOf packed words table))) rules
@@ -90,7 +91,7 @@ pub record PackedParts (bytes table before after : List ℕ) (file : RuleFile) (
   pub few : front ≤ maxTableWords
   pub words : take front table ≡ frontWords (storedForm (file .form)) (file .signature) (length (file .rules))
   pub signature : signatureOf (take front table) ≡ file .signature
-  pub admissible : Admissible (file .signature)
+  pub decoded : IsTable (take front table)
   pub narrow : 5 * nodes ≤ 8 * length bytes
   pub nodeCount : nodes ≡ length (rulesWords (rulesIn (file .form) (file .rules)))
   pub stored : nodes ≤ length before → after ≡ sets before 0 (rulesWords (rulesIn (file .form) (file .rules)))

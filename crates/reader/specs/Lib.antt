@@ -1,4 +1,5 @@
 -- What reading from either source gives back.
+pub mod Promise
 pub mod Source
 pub mod Symbol
 pub mod File

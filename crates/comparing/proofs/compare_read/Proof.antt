@@ -3,7 +3,6 @@ use mathlib.Core.Path.{refl}
 use mir.Syntax.{w64}
 use mir.ValLaws.{toZ-ofZ}
 use Rattle.symbols.specs.Table.{signatureOf}
-use Rattle.order.proofs.WholeLaws.{whole-terms}
 use borrow.Author.Needs.{needs}
 use Rattle.comparing.proofs.compare_read.Statement.{statement}
 use Rattle.comparing.proofs.compare_read.Tie as tie
@@ -12,13 +11,13 @@ sum-up-requires : tie.Need-sum-up-requires
 sum-up-requires c κs =
     let c2 = c .before .before in
     let c7 = c2 .before .before .before .before .before in
-    (c2 .put-node-sums .ensures, c7 .pre .1 .0, refl)
+    (c2 .put-node-sums .ensures, c7 .pre .left, refl)
 
 sum-up-requires-2 : tie.Need-sum-up-requires-2
 sum-up-requires-2 c κs =
     let c5 = c .before .before .before .before .before in
     let c10 = c5 .before .before .before .before .before in
-    (c5 .put-node-sums .ensures, c10 .pre .1 .1, refl)
+    (c5 .put-node-sums .ensures, c10 .pre .right, refl)
 
 relation-requires : tie.Need-relation-requires
 relation-requires c κs =
@@ -26,10 +25,9 @@ relation-requires c κs =
     let c6 = c3 .before .before .before in
     let c9 = c6 .before .before .before in
     let c14 = c9 .before .before .before .before .before in
-    let ((small, admissible), (left, right)) = c14 .pre in
     let (S, A) = c6 .sum-up .ensures in
     let (T, B) = c3 .sum-up2 .ensures in
-    (whole-terms small admissible left right, ((A, B, c9 .put-node-sums .ensures), (S, T)))
+    (c14 .pre, ((A, B, c9 .put-node-sums .ensures), (S, T)))
 
 returns : tie.Need-returns
 returns c =

@@ -22,8 +22,7 @@ slice-aggregate-read-terms c =
 read-terms-requires : tie.Need-read-terms-requires
 read-terms-requires c κs =
     let c6 = c .before .before .before .before .before .before in
-    let b = rw (c .before .before .next .given .1) at (c6 .read-book .ensures) in
-    omega (arith, b .few, length-take-le _ (c6 .read-book .last .1 .0) (b .room))
+    (rw (c .before .before .next .given .1) at (c6 .read-book .ensures)) .decoded
 
 returns : tie.Need-returns
 returns c =

@@ -6,7 +6,6 @@ use lib.Seq.{length-take-le}
 use Rattle.format.specs.Layout.{formNumber}
 use Rattle.reader.specs.Source.{Reached}
 use Rattle.reader.proofs.SourceLaws.{read-packed}
-use Rattle.marking.proofs.MarkLaws.{is-table}
 use Rattle.marking.proofs.FindLaws.{file-unread, file-read}
 use borrow.Author.Needs.{needs}
 use Rattle.marking.proofs.one.find_next.Statement.{statement}
@@ -30,11 +29,9 @@ unfolding Reached
 find-after-requires c κs =
     let c3 = c .before .before .before in
     let c6 = c3 .before .before .before in
-    let c11 = c6 .before .before .before .before .before in
     let head = rw (c3 .value .given .1) at (c6 .read-head .ensures) in (
       (head .short, head .within),
-      rw (c .before .front .ensures .0)
-          (is-table _ (c11 .args .book .now) _ _ _ _ _ (sym (c6 .read-head .kept .1 .1 .1 .1 .0)) head .short),
+      rw (c .before .front .ensures .0) (head .decoded .short),
     )
 
 returns : tie.Need-returns

@@ -6,7 +6,6 @@ use lib.Seq.{length-take-le}
 use Rattle.format.specs.Layout.{formNumber}
 use Rattle.reader.specs.Source.{Reached}
 use Rattle.reader.proofs.SourceLaws.{read-packed}
-use Rattle.marking.proofs.MarkLaws.{is-table}
 use Rattle.marking.proofs.OneLaws.{never-found, mark-found}
 use borrow.Author.Needs.{needs}
 use Rattle.marking.proofs.one.mark_at.Statement.{statement}
@@ -33,8 +32,7 @@ mark-there-requires c κs =
     let c11 = c6 .before .before .before .before .before in
     let head = rw (c3 .value .given .1) at (c6 .read-head .ensures) in (
       (head .short, c11 .pre),
-      rw (c .before .front .ensures .0)
-          (is-table _ (c11 .args .book .now) _ _ _ _ _ (sym (c6 .read-head .kept .1 .1 .1 .1 .0)) head),
+      rw (c .before .front .ensures .0) (head .decoded),
     )
 
 returns : tie.Need-returns

@@ -2,26 +2,23 @@
 use mathlib.Core.Path.{refl, _∙_}
 use mir.Syntax.{w64}
 use mir.ValLaws.{toZ-ofZ}
-use Rattle.order.proofs.WholeLaws.{whole-terms}
-use borrow.Author.Needs.{needs}
 use Rattle.marking.proofs.rule.mark_sides.Statement.{statement}
 use Rattle.marking.proofs.rule.mark_sides.Tie as tie
 
 total-requires : tie.Need-total-requires
 total-requires c κs =
     let c3 = c .before .before .before in
-    let (T, left, right, N) = c3 .pre in (N, left)
+    let (D, N) = c3 .pre in (N, D .left)
 
 total-requires-2 : tie.Need-total-requires-2
 total-requires-2 c κs =
     let c4 = c .before .before .before .before in
-    let (T, left, right, N) = c4 .pre in (N, right)
+    let (D, N) = c4 .pre in (N, D .right)
 
 mark-requires : tie.Need-mark-requires
 mark-requires c κs =
     let c5 = c .before .before .before .before .before in
-    let (T, left, right, N) = c5 .pre in
-    (whole-terms (T .short) (T .admissible) left right, (c .before .total .ensures, c .total2 .ensures, N))
+    let (D, N) = c5 .pre in (D, (c .before .total .ensures, c .total2 .ensures, N))
 
 margin-requires : tie.Need-margin-requires
 margin-requires c κs = (c .before .before .total .ensures .small, c .before .total2 .ensures .small)

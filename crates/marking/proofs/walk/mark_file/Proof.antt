@@ -6,7 +6,6 @@ use lib.Seq.{length-take-le}
 use Rattle.format.specs.Layout.{formNumber}
 use Rattle.reader.specs.Source.{Reached}
 use Rattle.reader.proofs.SourceLaws.{read-packed}
-use Rattle.marking.proofs.MarkLaws.{is-table}
 use borrow.Author.Needs.{needs}
 use Rattle.marking.proofs.walk.mark_file.Statement.{statement}
 use Rattle.marking.proofs.walk.mark_file.Tie as tie
@@ -33,12 +32,7 @@ mark-under-requires c κs =
     let c14 = c8 .before .before .before .before .before .before in
     let head = rw (c5 .value .given .1) at (c8 .read-head .ensures) in (
       (head .short, head .within),
-      (
-        rw (c3 .front .ensures .0)
-            (is-table _ (c14 .args .book .now) _ _ _ _ _ (sym (c8 .read-head .kept .1 .1 .1 .1 .0)) head),
-        head .fewRules,
-        c14 .pre,
-      ),
+      (rw (c3 .front .ensures .0) (head .decoded), head .fewRules, c14 .pre),
     )
 
 returns : tie.Need-returns

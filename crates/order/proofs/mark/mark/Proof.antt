@@ -7,22 +7,22 @@ use Prim.Native.Nat.{ℕ}
 use lib.ListN.{getD}
 use Rattle.symbols.proofs.TableLaws.{few-at}
 use Rattle.order.specs.Compared.{weightAt, noneOftenerAt, higherMark, isHigher, rootAt}
-use Rattle.order.specs.Whole.{Whole}
+use Rattle.reader.specs.Promise.{Decoded}
 use Rattle.terms.proofs.OftenerLaws.{oftener-none}
 use Rattle.equivalence.proofs.AlikeLaws.{roots-differ}
 use Rattle.order.proofs.RootLaws.{root-differing}
 use Rattle.order.proofs.MarkLaws.{whole-seven, whole-one, whole-eight, whole-higher, whole-ten}
-use Rattle.order.proofs.WholeLaws.{left-some, right-some, left-complete, right-complete}
+use Rattle.order.proofs.WholeLaws.{table-small, left-some, right-some, left-complete, right-complete}
 use borrow.Author.Needs.{needs}
 use Rattle.order.proofs.mark.mark.Statement.{statement}
 use Rattle.order.proofs.mark.mark.Tie as tie
 
 -- The mark by two roots that differ.
-differing : {table s t : List ℕ} (S : Whole table s t) → true ≡ noneOftenerAt table s 0 t 0 →
+differing : {table s t : List ℕ} (S : Decoded table s t) → true ≡ noneOftenerAt table s 0 t 0 →
     weightAt table s 0 ≡ weightAt table t 0 → (getD s 0 0 ≡ getD t 0 0 → ⊥) → {r : Bool} →
     r ≡ isHigher table (getD s 0 0) (getD t 0 0) → cond r (higherMark (getD t 0 0)) 0 ≡ rootAt table s 0 t 0
 differing {table} {s} {t} S none l d e =
-    root-differing table s 0 t 0 (left-some S) (right-some S) (S .admissible) (few-at table (S .small))
+    root-differing table s 0 t 0 (left-some S) (right-some S) (S .symbols .admissible) (few-at table (table-small S))
     (left-complete S) (right-complete S) none l d e
 
 first-oftener-requires : tie.Need-first-oftener-requires

@@ -1,17 +1,17 @@
 -- Both terms are whole, so both are prepared, and the test is the one of their parts at 0.
-use Rattle.order.proofs.WholeLaws.{left-complete, right-complete, left-some, right-some, whole-sides}
+use Rattle.order.proofs.WholeLaws.{table-small, left-complete, right-complete, left-some, right-some, whole-sides}
 use Rattle.order.proofs.mark.prepare_both.Statement.{statement}
 use Rattle.order.proofs.mark.prepare_both.Tie as tie
 
 prepare-requires : tie.Need-prepare-requires
 prepare-requires c κs =
     let c4 = c .before .before .before .before in
-    let (S, (p, q)) = c4 .pre in (left-complete S, (S .small, S .left .short, p))
+    let (S, (p, q)) = c4 .pre in (left-complete S, (table-small S, S .left .short, p))
 
 prepare-requires-2 : tie.Need-prepare-requires-2
 prepare-requires-2 c κs =
     let c6 = c .before .before .before .before .before .before in
-    let (S, (p, q)) = c6 .pre in (right-complete S, (S .small, S .right .short, q))
+    let (S, (p, q)) = c6 .pre in (right-complete S, (table-small S, S .right .short, q))
 
 equivalent-requires : tie.Need-equivalent-requires
 equivalent-requires c κs =

@@ -23,7 +23,7 @@ returns c =
 arguments-mark-requires : tie.Need-arguments-mark-requires
 arguments-mark-requires c κs =
     let c5 = c .before .before .before .before .before in
-    let (L, W) = c5 .pre in (W, (left-some (L .whole), right-some (L .whole), L .root))
+    let (L, W) = c5 .pre in (W, (left-some (L .decoded), right-some (L .decoded), L .root))
 
 returns-2 : tie.Need-returns-2
 returns-2 c =

@@ -9,22 +9,22 @@ use Rattle.order.proofs.relation.relation_level.Tie as tie
 prepare-both-requires : tie.Need-prepare-both-requires
 prepare-both-requires c κs =
     let c5 = c .before .before .before .before .before in
-    (c5 .pre .0 .whole, (refl, refl))
+    (c5 .pre .0 .decoded, (refl, refl))
 
 returns : tie.Need-returns
 returns c =
     let c7 = c .before .before .before .before .before .before .before in
-    let S = c7 .pre .0 .whole in
+    let S = c7 .pre .0 .decoded in
     let like = sym (c .before .prepare-both .ensures .0) ∙ c .if1 .taken in
-    let nine = mark-of-equivalent _ (S .admissible) _ _ (S .left .wellFormed) (S .right .wellFormed) like in
-    relation-equivalent _ _ _ nine (S .admissible) (S .left .wellFormed) (S .right .wellFormed) refl
+    let nine = mark-of-equivalent _ (S .symbols .admissible) _ _ (S .left .wellFormed) (S .right .wellFormed) like in
+    relation-equivalent _ _ _ nine (S .symbols .admissible) (S .left .wellFormed) (S .right .wellFormed) refl
 
 greater-level-requires : tie.Need-greater-level-requires
 greater-level-requires c κs =
     let c3 = c .before .before .before in
     let c9 = c3 .before .before .before .before .before .before in
     let (L, (x, y)) = c9 .pre in
-    (L, whole-scale (L .whole) (c3 .prepare-both .ensures .1) x y)
+    (L, whole-scale (L .decoded) (c3 .prepare-both .ensures .1) x y)
 
 returns-2 : tie.Need-returns-2
 returns-2 c =
@@ -35,7 +35,7 @@ greater-level-requires-2 c κs =
     let c7 = c .before .before .before .before .before .before .before in
     let c13 = c7 .before .before .before .before .before .before in
     let (L, (x, y)) = c13 .pre in
-    (level-turned L, scales-turned (whole-scale (L .whole) (c7 .prepare-both .ensures .1) x y))
+    (level-turned L, scales-turned (whole-scale (L .decoded) (c7 .prepare-both .ensures .1) x y))
 
 returns-3 : tie.Need-returns-3
 returns-3 c =

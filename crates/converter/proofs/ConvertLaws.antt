@@ -1,15 +1,20 @@
 -- What the code that converts has to show.
 --     convert-fault, convert-short, convert-written     the reply and the output afterwards
+--     refused-small                                     the offset of a refusal
 --     sheet-short, sheet-begin, sheet-front, sheet-packed, sheet-bits     the sheet of the converted file, and its bits
-use mathlib.Core.Path.{_≡_, sym, ap, _∙_}
+use mathlib.Core.Path.{_≡_, refl, sym, ap, _∙_}
 use mathlib.Core.List.{List, [], _++_, flatMap}
-use Prim.Native.Nat.{ℕ, _+_, _*_, _/_, _≤_, _<_}
+use mathlib.Core.Bool.{false≢true}
+use Prim.Native.Nat.{ℕ, _+_, _*_, _/_, _^_, _≤_, _<_}
 use native.Mathlib.Omega.{arith}
 use borrow.Author.Tests.{lt-leb, le-leb}
 use lib.ListN.{length, take, drop}
 use lib.Seq.{sets-eq, take-append-seam}
+use lib.Dec.{lit<}
+use Rattle.multisets.proofs.Relations.{byOrder}
 use Rattle.format.specs.Errors.{bytesTooShort}
 use Rattle.format.specs.Layout.{firstForm, maxBytes}
+use Rattle.format.specs.Reading.{Reading}
 use Rattle.format.specs.Reading.Reading.{got, fault}
 use Rattle.format.specs.Format.{RuleFile}
 use Rattle.format.specs.Files.{readBytesIn}
@@ -18,6 +23,9 @@ use Rattle.format.specs.Conversion.{convertedFile}
 use Rattle.format.proofs.PackingLaws.{length-bytesOf}
 use Rattle.format.proofs.FileLaws.{bytes-taken, bytes-length}
 use Rattle.format.proofs.ConversionLaws.{converted-length}
+use Rattle.format.proofs.FaultLaws.{fault-small}
+use Rattle.operations.specs.declared.Error.{Error}
+use Rattle.operations.specs.Replies.{Reply}
 use Rattle.operations.specs.Replies.Reply.{accepted, refused}
 use Rattle.operations.specs.Converting.{converted}
 use Rattle.symbols.specs.Table.{tableWords, maxTableWords}
@@ -56,6 +64,26 @@ module _ (bytes output : List ℕ) where
         let new = packed (convertedFile file) in
         let fits = le-leb (length bytes) (length output) h in
         (rw (e, fits), rw (e, fits) (ap (λ (n : ℕ). new ++ drop n output) (sym as-long)))
+
+refused-is : (e f : Error) → _≡_ {A = Reply ℕ} (refused e) (refused f) → e ≡ f
+refused-is e f h = cc
+
+not-refused : (e : Error) (n : ℕ) → _≡_ {A = Reply ℕ} (refused e) (accepted n) → ⊥
+not-refused e n h = false≢true (cc)
+
+-- It is that of a fault in the book, or 0.
+pub refused-small : (bytes output : List ℕ) (error : Error) → refused error ≡ converted bytes output .reply →
+    error .offset < 10 ^ 9
+refused-small bytes output error r = go (readBytesIn firstForm bytes) refl
+  where
+    go : (x : Reading RuleFile) → readBytesIn firstForm bytes ≡ x → error .offset < 10 ^ 9
+    go (fault code offset) e =
+        rw (refused-is _ _ (r ∙ sym (convert-fault bytes output code offset e .0)))
+        (fault-small bytes firstForm code offset e)
+    go (got file end) e =
+        byOrder (length output) (length bytes)
+        (λ h. rw (refused-is _ _ (r ∙ sym (convert-short bytes output file end e h .0))) (lit< tt))
+        λ h. absurd (not-refused _ _ (r ∙ sym (convert-written bytes output file end e h .0)))
 
 -- ---- the sheet of the converted file
 

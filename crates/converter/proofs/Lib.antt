@@ -1,2 +1,2 @@
 -- Laws of converting.
-mod ConvertLaws
+pub mod ConvertLaws

@@ -19,6 +19,7 @@ use Rattle.format.specs.Reading.Reading.{got, fault}
 use Rattle.format.specs.Forms.{isTaken, unusedOf}
 use Rattle.format.specs.Format.{Sides, RuleFile, rulesReader}
 use Rattle.format.specs.Files.{readBytes}
+use Rattle.format.proofs.FormLaws.{taken-unused}
 use Rattle.format.proofs.ReadingLaws.{holds-got}
 use Rattle.format.proofs.SpellingLaws.{spells→coded}
 use Rattle.format.proofs.FormatLaws.{rules-read, rules-length}
@@ -57,17 +58,20 @@ module _ (bytes : List ℕ) where
     unfolding restReader sourceOf
     rest-whole file last e = go rules-here refl
       where
+        same : unusedOf form ≡ unusedOf formNumber
+        same = taken-unused formNumber form taken
+
         go : (x : Reading (List Sides)) → rules-here ≡ x →
             (rules : List Sides) × (rules-here ≡ got rules last) × (file ≡ record { form = form; signature = σ; rules = rules })
         go (got rules next) r =
             byTest (isPadding bytes next)
-            (λ p. let z : got (record { form = form; signature = σ; rules = rules }) next ≡ got file last = rw (r, p) at e in
+            (λ p. let z : got (record { form = form; signature = σ; rules = rules }) next ≡ got file last = rw (same, r, p) at e in
             let q : record { form = form; signature = σ; rules = rules } ≡ file = cc in
             let m : next ≡ last = cc in
             (rules, rw (← m) r, sym q))
-            λ p. let z : fault badPadding next ≡ got file last = rw (r, p) at e in absurd (false≢true (cc))
+            λ p. let z : fault badPadding next ≡ got file last = rw (same, r, p) at e in absurd (false≢true (cc))
         go (fault code offset) r =
-            let z : fault code offset ≡ got file last = rw r at e in absurd (false≢true (cc))
+            let z : fault code offset ≡ got file last = rw (same, r) at e in absurd (false≢true (cc))
 
     -- ---- finding a rule under a table
 

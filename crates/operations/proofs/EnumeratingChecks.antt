@@ -9,7 +9,7 @@ use Rattle.format.specs.Symbols.{symbolReader, symbolsReader, symbolTableReader
 use Rattle.format.specs.Format.{forestReader, ruleReader, rulesReader, bodyReader, fileReader}
 use Rattle.format.specs.Files.{wholeReader, readBytesIn}
 use Rattle.operations.specs.declared.TermCount.the-variants.{Exactly, More}
-use Rattle.operations.specs.Replies.{Reply, Outcome}
+use Rattle.operations.specs.Replies.{Outcome}
 use Rattle.operations.specs.Replies.Reply.{accepted, refused}
 use Rattle.operations.specs.Enumerating.{termCount, countedTerms, counted, listedTerms, listed}
 use Rattle.operations.proofs.ComparingChecks.{book}

@@ -59,7 +59,7 @@ symbol (suc (suc (suc (suc g)))) h = absurd (omega arith)
 heavy : NoZeroWeightUnary example
 heavy g h = symbol g h .2
 
-admissible : Admissible example
+pub admissible : Admissible example
 admissible = record {
   variableWeighs = omega arith;
   acBinary = λ g e. ac-symbol g e .0;

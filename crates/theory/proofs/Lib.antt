@@ -28,8 +28,10 @@ pub mod Pigeonhole
 pub mod RenumberedRules
 pub mod Ceiling
 pub mod Coefficients
+pub mod Cancelling
 pub mod Examples
 mod WeightlessExample
 mod CoefficientExample
 pub mod Theorems
 mod SteinbachChecks
+mod CancellingChecks

@@ -1,5 +1,5 @@
--- The theorems of specs/: of Statements, StepStatements, TerminationStatements, RenamingStatements, SteinbachStatements
--- and CoefficientStatements.
+-- The theorems of specs/: of Statements, StepStatements, TerminationStatements, RenamingStatements, SteinbachStatements,
+-- CoefficientStatements and CancellingStatements.
 use mathlib.Core.Path.{refl, sym, ap₂, _∙_}
 use Prim.Native.Nat.{_<_}
 use native.Mathlib.Omega.{arith}
@@ -7,6 +7,7 @@ use lib.IntN.{subℕ}
 use Rattle.terms.specs.Signature.{Signature}
 use Rattle.terms.specs.Term.{occurrences, WellFormed, Expression}
 use Rattle.terms.specs.Equivalence.{isEquivalentTo, isEquivalent}
+use Rattle.terms.specs.Equivalence.Equivalent.{same}
 use Rattle.terms.specs.Order.{isGreater}
 use Rattle.terms.specs.Rewriting.{System}
 use Rattle.terms.specs.FirstUse.{firstUses, placeIn, ruleWords}
@@ -24,11 +25,13 @@ use Rattle.theory.specs.RenamingStatements.{RulesConverted}
 use Rattle.theory.specs.SteinbachStatements.{SteinbachUnfolds, TestDecidesSteinbach, AgreesWithSteinbach}
 use Rattle.theory.specs.SteinbachStatements.{AcLowestMeans, ArticlesAgree}
 use Rattle.theory.specs.CoefficientStatements.{OnesChangeNothing}
+use Rattle.theory.specs.CancellingStatements.{OperandCancels, PartCancels, ElementCancels, WholeStruck}
+use Rattle.theory.specs.CancellingStatements.{NothingLeft}
 use Rattle.multisets.proofs.Relations.{refuted}
 use Rattle.multisets.proofs.Accessibility.{endless-absurd}
 use Rattle.terms.proofs.EquivalenceLaws.{isEquivalent-app, isEquivalent-app-var}
 use Rattle.terms.proofs.EquivalenceComplete.{Equivalent→isEquivalent}
-use Rattle.terms.proofs.EquivalenceMeasures.{formed-resp-equivalent}
+use Rattle.terms.proofs.EquivalenceMeasures.{formed-resp-equivalent, expression-resp-equivalent}
 use Rattle.terms.proofs.OrderLaws.{isGreater-unfolds}
 use Rattle.terms.proofs.SteinbachLaws.{isSteinbachGreater-unfolds}
 use Rattle.terms.proofs.WeightLaws.{nodes-le-weight}
@@ -50,6 +53,8 @@ use Rattle.theory.proofs.Renamings.{equivalent-renamed, greater-renamed
 use Rattle.theory.proofs.Steps.{step-decreases, along-descends, steps-accessible}
 use Rattle.theory.proofs.Ceiling.{stepCount-ceiling}
 use Rattle.theory.proofs.Coefficients.{ones-unchanged}
+use Rattle.theory.proofs.Cancelling.{cancels, equivalent-joined, equivalent-left, left-of-struck}
+use Rattle.theory.proofs.Cancelling.{greater-joined, greater-element, element-alone}
 use Rattle.theory.proofs.Examples.{admissible}
 use Rattle.theory.proofs.WeightlessExample.{unwrapping-fails}
 
@@ -170,6 +175,32 @@ module _ (σ : Signature) where
 
   pub ones-change-nothing : OnesChangeNothing σ
   ones-change-nothing = ones-unchanged σ
+
+  pub operand-cancels : OperandCancels σ
+  operand-cancels A f c u u' x q s t s' t' d e h k =
+      cancels σ A f c s t s' t' u u' d e x q (equivalent-joined σ A f c h) (equivalent-joined σ A f c k)
+
+  pub part-cancels : PartCancels σ
+  part-cancels A f c u u' x q s t s' t' d e d' e' h k =
+      cancels σ A f c s t s' t' u u' d' e' x q (equivalent-left σ A f c s s' u d d' x h)
+      (equivalent-left σ A f c t t' u' e e' (expression-resp-equivalent σ q x) k)
+
+  pub element-cancels : ElementCancels σ
+  element-cancels A f c u u' x q s t s' t' d e d' e' i j h k =
+      part-cancels A f c u u' x q s t s' t' d e d' e' (left-of-struck σ A f c s s' u i h)
+      (left-of-struck σ A f c t t' u' j k)
+
+  pub whole-struck : WholeStruck σ
+  whole-struck A f c u t x q s s' d d' h =
+      greater-joined σ A f c s t s' u d' x (equivalent-left σ A f c s s' u d d' x h) q
+
+  pub nothing-left : NothingLeft σ
+  nothing-left A f c u u' x q s t d e i j h =
+      let k = element-alone σ A f c t u' e j h in (
+        k,
+        λ n. rw k (sym (order-invariant A s u (d .0) (x .0) s u' same q) ∙ greater-element σ A f c s u d i n),
+        λ n. rw (k, element-alone σ A f c s u d i n) q,
+      )
 
 module _ (R : System) where
   pub steps-decrease : StepsDecrease R

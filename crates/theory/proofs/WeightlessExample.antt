@@ -29,17 +29,17 @@ use Rattle.terms.proofs.MeasureLaws.{replicate-ones, positive-of-ones}
 use Rattle.theory.proofs.Steps.{along-descends}
 
 -- The AC symbol +, the constant a and f, with f > a > +; f and + weigh nothing.
-abbrev signature : Signature
+abbrev pub signature : Signature
 signature = record { w0 = 1; symbols = entry 2 true 0 0 ∷ entry 0 false 1 1 ∷ entry 1 false 0 2 ∷ [] }
 
 infixl 6 _⊕_
-abbrev _⊕_ : Term → Term → Term
+abbrev pub _⊕_ : Term → Term → Term
 s ⊕ t = app 0 (pair s t)
 
-abbrev a : Term
+abbrev pub a : Term
 a = app 1 nil
 
-abbrev f : Term → Term
+abbrev pub f : Term → Term
 f s = app 2 (cons s nil)
 
 abbrev u : Term
@@ -96,7 +96,7 @@ ones (suc zero) = replicate-ones 0
 ones (suc (suc zero)) = replicate-ones 1
 ones (suc (suc (suc g))) = replicate-ones 0
 
-admissible : Admissible signature
+pub admissible : Admissible signature
 admissible = record {
   variableWeighs = omega arith;
   acBinary = binary;

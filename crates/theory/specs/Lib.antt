@@ -1,8 +1,9 @@
--- The theorems of the order, of rewrite steps, derivations and their end, of renamings, of Steinbach's order and of
--- coefficients, as types.
+-- The theorems of the order, of rewrite steps, derivations and their end, of renamings, of Steinbach's order, of
+-- coefficients and of cancelling, as types.
 pub mod Statements
 pub mod StepStatements
 pub mod TerminationStatements
 pub mod RenamingStatements
 pub mod SteinbachStatements
 pub mod CoefficientStatements
+pub mod CancellingStatements

@@ -8,8 +8,10 @@ mod PrintLaws
 mod ScoreLaws
 mod EnumerationLaws
 mod RelationLaws
+mod CancellationLaws
 pub mod RoundTrip
 mod ConvertedBits
 pub mod ConversionLaws
 pub mod Theorems
 mod CourseChecks
+pub mod CancellationTheorems

@@ -1,5 +1,6 @@
 -- Picking the greater of two terms, by the terms at the fronts of the words.
 --     called-picked, called-compared   what is replied of two terms
+--     terms-compared                   and of terms with no words after them
 --     begins-front, read-begins        the words of a term at the front
 --     handed-by, empty-of, no-side     the part, by what is replied
 --     called-part                      the part, by the terms
@@ -79,6 +80,16 @@ called-compared bytes file few s t c =
     rw (inputs-of readTerm bytes (words s) (words t) file at h few s t (l .wellFormed) (r .wellFormed) (size s) (size t)
     (well-formed-reads (file .signature) few s (l .wellFormed) .0 (l .short) .0)
     (well-formed-reads (file .signature) few t (r .wellFormed) .0 (r .short) .0))
+
+pub terms-compared : (bytes : List ℕ) (file : RuleFile) → length (file .signature .symbols) ≤ firstVariable →
+    Holds bytes file → (s t : Term) → WellFormed (file .signature) s → WellFormed (file .signature) t →
+    size s ≤ maxNodes → size t ≤ maxNodes →
+    compared bytes (words s) (words t) ≡ accepted (comparison (file .signature) s t)
+terms-compared bytes file few h s t v w i j = called-compared bytes file few s t (record {
+  holds = h;
+  leftBegins = record { wellFormed = v; short = i; rest = []; spelled = sym (append-nil (words s)) };
+  rightBegins = record { wellFormed = w; short = j; rest = []; spelled = sym (append-nil (words t)) };
+})
 
 -- The front of the words that begin with a term's.
 pub begins-front : (σ : Signature) (input : List ℕ) (t : Term) → Begins σ input t → take (size t) input ≡ words t

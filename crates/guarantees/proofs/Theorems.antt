@@ -1,5 +1,5 @@
 -- The claims of specs/.
-use mathlib.Core.List.{List, [], List·Memᴰ, append-nil}
+use mathlib.Core.List.{List, List·Memᴰ}
 use mathlib.Core.Path.{_≡_, refl, sym, ap, _∙_}
 use mathlib.Core.Bool.{true}
 use Prim.Native.Nat.{ℕ, _≤_}
@@ -47,7 +47,8 @@ use Rattle.guarantees.proofs.MarkedLaws.{length-rules, getD-member}
 use Rattle.guarantees.proofs.LikeLaws.{AlikeInputs, refusals, comparison-like, terms-like, replies-agree}
 use Rattle.guarantees.proofs.LikeLaws.{oftener-like, fingerprints-like}
 use Rattle.guarantees.specs.Picks.{PartIsGreater, PartEmpty, WordsAfterIgnored, PicksAsCompared}
-use Rattle.guarantees.proofs.PickLaws.{called-picked, called-compared, handed-by, empty-of, no-side, called-part}
+use Rattle.guarantees.proofs.PickLaws.{called-picked, called-compared, terms-compared, handed-by, empty-of}
+use Rattle.guarantees.proofs.PickLaws.{no-side, called-part}
 use Rattle.guarantees.specs.Conversions.{OldBooksRefused, OldBooksConvert, RenamedBooksAgree, NewBooksKept}
 use Rattle.guarantees.proofs.ConversionLaws.{as-long, conversion, converted-wrote, books-agree, new-kept}
 use Rattle.guarantees.proofs.ConversionLaws.{old-refused}
@@ -80,14 +81,14 @@ module _ (bytes : List ℕ) (file : RuleFile) (h : Holds bytes file) where
   read : IsRead file
   read = fromBytes bytes (h .0) (h .1)
 
-  admissible : Admissible (file .signature)
+  pub admissible : Admissible (file .signature)
   admissible = readable-well-formed file read .0 .admissible
 
   -- 02: "Form 2 reads as all ones".
   one : Ones (file .signature)
   one = ones-of-plain (file .signature) (readable-well-formed file read .0 .plain)
 
-  few : length (file .signature .symbols) ≤ firstVariable
+  pub few : length (file .signature .symbols) ≤ firstVariable
   few = omega (arith, readable-well-formed file read .0 .within .symbolCount)
 
   rules-formed : WellFormedRules (systemOf file)
@@ -216,11 +217,7 @@ relation-as-steinbach bytes file h L s t v w =
 
 pub compares-as-steinbach : ComparesAsSteinbach
 compares-as-steinbach bytes file h L s t v w i j r =
-    let c = called-compared bytes file (few bytes file h) s t (record {
-      holds = h;
-      leftBegins = record { wellFormed = v; short = i; rest = []; spelled = sym (append-nil (words s)) };
-      rightBegins = record { wellFormed = w; short = j; rest = []; spelled = sym (append-nil (words t)) };
-    }) in
+    let c = terms-compared bytes file (few bytes file h) h s t v w i j in
     let (to, from) = relation-as-steinbach bytes file h L s t v w r in
     (λ p. to (relation-accepted (sym c ∙ p .1)), λ p. (margin (file .signature) s t, c ∙ rw (from p)))
 

@@ -1,8 +1,9 @@
 -- Comparing joined terms and comparing their parts, by the relation of the terms.
+--     relation-by-test           each relation by the test of the order
 --     relation-related           expressions are never unrelated
 --     relation-same              terms of the same relation
 --     joined-part, part-short    what is left of an expression is an expression, and no longer
-use mathlib.Core.Logic.{⊎-elim}
+use mathlib.Core.Logic.{_↔_, ⊎-elim}
 use mathlib.Core.Path.{_≡_}
 use mathlib.Core.Bool.{true}
 use Prim.Native.Nat.{ℕ, _≤_}
@@ -19,15 +20,20 @@ use Rattle.terms.proofs.Theorems.{test-decides}
 use Rattle.terms.proofs.VariableLaws.{expressions}
 use Rattle.theory.specs.CancellingStatements.{SameRelation, Joined, onRight, onLeft}
 use Rattle.theory.proofs.Theorems.{total-on-expressions}
+use Rattle.operations.specs.declared.Relation.{Relation}
 use Rattle.operations.specs.declared.Relation.the-variants as said
 use Rattle.operations.specs.Comparing.{relation}
+use Rattle.guarantees.specs.Steinbach.{Says}
 use Rattle.guarantees.proofs.RelationLaws.{relation-exact}
 
 module _ (σ : Signature) (A : Admissible σ) where
+  pub relation-by-test : (s t : Term) → WellFormed σ s → WellFormed σ t → (r : Relation) →
+      relation σ s t ≡ r ↔ Says σ (λ (a b : Term). isGreater σ a b ≡ true) r s t
+  relation-by-test = relation-exact σ A (λ a b. isGreater σ a b ≡ true) λ a b v w. (λ g. g, λ g. g)
+
   pub relation-related : (s t : Term) → Expression σ s → Expression σ t → relation σ s t ≡ said.Unrelated → ⊥
   relation-related s t (v, d) (w, e) h =
-      let (g, l, q) = relation-exact σ A (λ a b. isGreater σ a b ≡ true) (λ a b x y. (λ z. z, λ z. z)) s t v w
-      said.Unrelated .0 h in
+      let (g, l, q) = relation-by-test s t v w said.Unrelated .0 h in
       ⊎-elim (λ x. g (x .0)) (⊎-elim (λ x. q (x .1)) λ x. l (x .2)) (total-on-expressions σ A s t v w d e)
 
   pub relation-same : (s t s' t' : Term) → WellFormed σ s → WellFormed σ t → WellFormed σ s' → WellFormed σ t' →

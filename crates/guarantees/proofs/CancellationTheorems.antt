@@ -1,15 +1,14 @@
 -- The claims of specs/Cancellations.antt.
 use mathlib.Core.List.{List}
-use mathlib.Core.Path.{_≡_, sym, _∙_}
-use mathlib.Core.Bool.{true}
+use mathlib.Core.Path.{sym, _∙_}
 use Prim.Native.Nat.{ℕ}
 use native.Mathlib.Omega.{arith}
-use Rattle.terms.specs.Signature.{Signature, Admissible}
+use Rattle.terms.specs.Signature.{Signature}
 use Rattle.terms.specs.Term.{Term, Expression}
 use Rattle.terms.specs.Term.Term.{app}
 use Rattle.terms.specs.Words.{words}
 use Rattle.terms.specs.Equivalence.{pair, Equivalent}
-use Rattle.terms.specs.Order.{isGreater, margin}
+use Rattle.terms.specs.Order.{margin}
 use Rattle.terms.proofs.EquivalenceMeasures.{expression-resp-equivalent}
 use Rattle.theory.proofs.Cancelling.{cancels, equivalent-joined, equivalent-left, left-of-struck}
 use Rattle.theory.proofs.Theorems.{whole-struck}
@@ -19,10 +18,11 @@ use Rattle.operations.specs.Comparing.{relation}
 use Rattle.guarantees.specs.Guarantees.{Holds}
 use Rattle.guarantees.specs.Steinbach.{Replies}
 use Rattle.guarantees.specs.Cancellations.{RepliesAlike, AreRead, NeverUnrelated, CommonPart, OperandStruck}
-use Rattle.guarantees.specs.Cancellations.{PartStruck, ElementStruck, WholeSideStruck}
+use Rattle.guarantees.specs.Cancellations.{PartStruck, ElementStruck, WholeSideStruck, BothSidesStruck}
 use Rattle.guarantees.proofs.PickLaws.{terms-compared}
-use Rattle.guarantees.proofs.RelationLaws.{relation-exact, relation-accepted}
-use Rattle.guarantees.proofs.CancellationLaws.{relation-related, relation-same, joined-part, part-short}
+use Rattle.guarantees.proofs.RelationLaws.{relation-accepted}
+use Rattle.guarantees.proofs.CancellationLaws.{relation-by-test, relation-related, relation-same, joined-part}
+use Rattle.guarantees.proofs.CancellationLaws.{part-short}
 use Rattle.guarantees.proofs.Theorems.{admissible, few}
 
 replies : (bytes : List ℕ) (file : RuleFile) → Holds bytes file → (s t : Term) → AreRead file s t →
@@ -86,7 +86,13 @@ module _ (bytes : List ℕ) (file : RuleFile) (f : ℕ) (u u' : Term) where
         leftShort = r .rightShort;
         rightShort = r .leftShort;
       } in
-      let exact = relation-exact σ A (λ a b. isGreater σ a b ≡ true) (λ a b x y. (λ z. z, λ z. z)) in (
+      let exact = relation-by-test σ A in (
         rw (exact s u' (r .left .0) (r .right .0) said.Greater .1 g) at (replies bytes file (c .holds) s u' r),
         rw (exact u' s (r .right .0) (r .left .0) said.Less .1 g) at (replies bytes file (c .holds) u' s turned),
       )
+
+  pub both-sides-struck : BothSidesStruck bytes file f u u'
+  both-sides-struck c r =
+      let A = admissible bytes file (c .holds) in
+      rw (relation-by-test σ A u u' (r .left .0) (r .right .0) said.Equivalent .1 (c .equivalent))
+      at (replies bytes file (c .holds) u u' r)

@@ -15,3 +15,4 @@ pub mod ConversionLaws
 pub mod Theorems
 mod CourseChecks
 pub mod CancellationTheorems
+mod CancellationChecks

@@ -1,9 +1,8 @@
 -- What a reviewer may rely on of comparing what is left once a common part is struck. Proofs:
 -- proofs/CancellationTheorems.antt.
 -- Renders: 02, order 11: "for variable-free terms this never changes the comparison's relation, wrapper books included,
--- and that such terms are never unrelated", "of the operation where neither joined term meets 10".
+-- and that such terms are never unrelated"; "so of the operation where neither joined term meets 10 [..]".
 use mathlib.Core.List.{List}
-use mathlib.Core.Path.{_≡_}
 use Prim.Native.Nat.{ℕ, _≤_}
 use Rattle.terms.specs.Term.{Term, size, Expression}
 use Rattle.terms.specs.Words.{words}
@@ -64,3 +63,8 @@ module _ (bytes : List ℕ) (file : RuleFile) (f : ℕ) (u u' : Term) where
   WholeSideStruck = CommonPart bytes file f u u' → (s s' : Term) → AreRead file s u' →
       Expression (file .signature) s' → LeftOf (file .signature) f s u s' →
       Replies bytes (words s) (words u') said.Greater × Replies bytes (words u') (words s) said.Less
+
+  -- Where it is the whole of both sides.
+  abbrev pub BothSidesStruck : Type 0
+  BothSidesStruck = CommonPart bytes file f u u' → AreRead file u u' →
+      Replies bytes (words u) (words u') said.Equivalent

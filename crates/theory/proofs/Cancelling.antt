@@ -4,11 +4,13 @@
 --     cancels                                   of terms AC-equivalent to such
 --     equivalent-joined, equivalent-left        which terms are: joined ones, and by their flattenings
 --     left-of-struck                            what is left less an element
+--     rest-bag                                  and that it is the flattening of an expression
 --     greater-joined, greater-element           where nothing is left on the right
 --     element-alone                             and on the left
-use mathlib.Core.List.{List, [], _∷_, _++_, append-nil, List·Memᴰ, List·Memᴰ·head, List·Memᴰ·not-nil}
-use mathlib.Core.List.{List·Memᴰ·eq-of-singleton, Memᴰ·append-right}
-use mathlib.Core.Logic.{_⊎_, inl, inr, ⊎-elim}
+use mathlib.Core.List.{List, [], _∷_, _++_, append-nil, List·Memᴰ, List·Memᴰ·head, List·Memᴰ·tail}
+use mathlib.Core.List.{List·Memᴰ·not-nil, List·Memᴰ·eq-of-singleton, List·Memᴰ·append-cases, Memᴰ·append-left}
+use mathlib.Core.List.{Memᴰ·append-right}
+use mathlib.Core.Logic.{inl, inr, ⊎-elim}
 use mathlib.Core.Path.{_≡_, refl, sym, ap, _∙_}
 use mathlib.Core.Bool.{true}
 use Prim.Native.Nat.{ℕ, _<_}
@@ -28,16 +30,17 @@ use Rattle.terms.specs.Rewriting.{Context, ExpressionContext}
 use Rattle.terms.specs.Rewriting.Context.{hole, inside}
 use Rattle.theory.specs.Statements.{ExactlyOne}
 use Rattle.theory.specs.CancellingStatements.{SameRelation, IsAc, Joined, onRight, onLeft, LeftOf, Element}
-use Rattle.theory.specs.CancellingStatements.{others, Struck}
-use Rattle.multisets.proofs.Relations.{byTest, sameTest, IsEquivalence}
-use Rattle.multisets.proofs.MultisetLaws.{count, count-append, multisetEqual-counts, multisetEqual-length}
+use Rattle.theory.specs.CancellingStatements.{rest, Struck}
+use Rattle.multisets.proofs.Relations.{byTest, sameTest, eqb-self, IsEquivalence}
+use Rattle.multisets.proofs.MultisetLaws.{count-append, multisetEqual-counts, multisetEqual-length}
+use Rattle.multisets.proofs.MultisetLaws.{multisetEqual-equivalence}
 use Rattle.terms.proofs.FlatteningLaws.{NotRoot, flattening-roots, flattening-long, flattenings-long}
 use Rattle.terms.proofs.EquivalenceLaws.{isEquivalent-equivalence, isEquivalent-of-arguments}
 use Rattle.terms.proofs.EquivalenceComplete.{Equivalent→isEquivalent}
 use Rattle.terms.proofs.EquivalenceSound.{isEquivalent→Equivalent}
 use Rattle.terms.proofs.EquivalenceMeasures.{expression-resp-equivalent}
 use Rattle.terms.proofs.RewritingLaws.{fill-expression, fill-resp-equivalent}
-use Rattle.terms.proofs.TermLaws.{flattening-each}
+use Rattle.terms.proofs.TermLaws.{flattening-each, Each}
 use Rattle.terms.proofs.VariableLaws.{not-ground, noneOftener-ground, expressions}
 use Rattle.terms.proofs.WeightLaws.{flattening-lighter}
 use Rattle.theory.proofs.DecreasesView.{isGreater-view}
@@ -183,11 +186,43 @@ module _ (σ : Signature) (A : Admissible σ) where
         (multisetEqual-counts (isEquivalent σ) E (i .before ++ (u ∷ i .after)) (flattening f s' ++ (u ∷ [])) .1
         λ a. omega (
           arith,
-          multisetEqual-counts (isEquivalent σ) E (flattening f s') (others σ f i) .0 h a,
+          multisetEqual-counts (isEquivalent σ) E (flattening f s') (rest σ f i) .0 h a,
           count-append (isEquivalent σ) a (i .before) (i .after),
           count-append (isEquivalent σ) a (i .before) (u ∷ i .after),
           count-append (isEquivalent σ) a (flattening f s') (u ∷ []),
         ))
+
+    -- ---- what is left, as one term
+
+    abbrev nest : Term → List Term → Term
+    nest t [] = t
+    nest t (u ∷ l) = join t (nest u l)
+
+    nest-bag : (t : Term) (l : List Term) → Each (λ (a : Term). Expression σ a × NotRoot f a) (t ∷ l) →
+        Expression σ (nest t l) × (flattening f (nest t l) ≡ t ∷ l)
+    nest-bag t [] h = let (e, r) = h t (List·Memᴰ·head refl) in (e, flattening-own t r)
+    nest-bag t (u ∷ l) h =
+        let (e, r) = h t (List·Memᴰ·head refl) in
+        let (d, q) = nest-bag u l (λ a m. h a (List·Memᴰ·tail m)) in
+        (join-expression t (nest u l) e d, rw (eqb-self, flattening-own t r, q, append-nil))
+
+    rest-member : (s u : Term) (i : Element σ f s u) (a : Term) → List·Memᴰ a (rest σ f i) →
+        List·Memᴰ a (flattening f s)
+    rest-member s u i a m =
+        rw (i .place) (⊎-elim (λ k. Memᴰ·append-left (u ∷ i .after) k)
+        (λ k. Memᴰ·append-right (i .before) (List·Memᴰ·tail k)) (List·Memᴰ·append-cases (i .before) m))
+
+    pub rest-bag : (s u : Term) → Expression σ s → (i : Element σ f s u) → 0 < length (rest σ f i) →
+        (s' : Term) × Expression σ s' × Struck σ f i s'
+    rest-bag s u d i = go (rest σ f i) λ a m.
+        let n = rest-member s u i a m in (flattening-each (expressions σ) a s f d n, flattening-roots f s a n)
+      where
+        go : (l : List Term) → Each (λ (a : Term). Expression σ a × NotRoot f a) l → 0 < length l →
+            (s' : Term) × Expression σ s' × (multisetEqual (isEquivalent σ) (flattening f s') l ≡ true)
+        go [] h n = absurd (omega arith)
+        go (t ∷ l) h n =
+            let (e, q) = nest-bag t l h in
+            (nest t l, e, rw q (multisetEqual-equivalence (isEquivalent σ) E .reflexive (t ∷ l)))
 
     -- ---- nothing left
 
@@ -216,12 +251,12 @@ module _ (σ : Signature) (A : Admissible σ) where
         )))
         λ q. let k : (app g ts ∷ []) ≡ (u ∷ []) = rw q at h in cc
 
-    pub element-alone : (t u : Term) → Expression σ t → (j : Element σ f t u) → others σ f j ≡ [] → t ≡ u
+    pub element-alone : (t u : Term) → Expression σ t → (j : Element σ f t u) → rest σ f j ≡ [] → t ≡ u
     element-alone t u e j h =
         let (b, a) = none-of-append (j .before) (j .after) h in
         single t u e (j .place ∙ rw (b, a))
 
-    pub greater-element : (s u : Term) → Expression σ s → (i : Element σ f s u) → 0 < length (others σ f i) →
+    pub greater-element : (s u : Term) → Expression σ s → (i : Element σ f s u) → 0 < length (rest σ f i) →
         isGreater σ s u ≡ true
     greater-element s u d i h =
         let m = element-member s u i in

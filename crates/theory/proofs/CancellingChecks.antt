@@ -3,7 +3,7 @@
 --     wrapped-values, weighed-values   the relations, before and after
 use mathlib.Core.List.{[], _∷_}
 use mathlib.Core.Path.{_≡_, refl}
-use mathlib.Core.Bool.{true, false}
+use mathlib.Core.Bool.{true}
 use native.Mathlib.Omega.{arith}
 use Rattle.multisets.specs.Multiset.{multisetEqual, rowEqual, multisetGreater, rowGreater}
 use Rattle.terms.specs.Signature.{Signature}

@@ -30,7 +30,7 @@ pub mod Ceiling
 pub mod Coefficients
 pub mod Cancelling
 pub mod Examples
-mod WeightlessExample
+pub mod WeightlessExample
 mod CoefficientExample
 pub mod Theorems
 mod SteinbachChecks

@@ -26,7 +26,7 @@ use Rattle.theory.specs.SteinbachStatements.{SteinbachUnfolds, TestDecid
 use Rattle.theory.specs.SteinbachStatements.{AcLowestMeans, ArticlesAgree}
 use Rattle.theory.specs.CoefficientStatements.{OnesChangeNothing}
 use Rattle.theory.specs.CancellingStatements.{OperandCancels, PartCancels, ElementCancels, WholeStruck}
-use Rattle.theory.specs.CancellingStatements.{NothingLeft}
+use Rattle.theory.specs.CancellingStatements.{RestIsBag, NothingLeft}
 use Rattle.multisets.proofs.Relations.{refuted}
 use Rattle.multisets.proofs.Accessibility.{endless-absurd}
 use Rattle.terms.proofs.EquivalenceLaws.{isEquivalent-app, isEquivalent-app-var}
@@ -54,7 +54,7 @@ use Rattle.theory.proofs.Steps.{step-decreases, along-descends, steps-a
 use Rattle.theory.proofs.Ceiling.{stepCount-ceiling}
 use Rattle.theory.proofs.Coefficients.{ones-unchanged}
 use Rattle.theory.proofs.Cancelling.{cancels, equivalent-joined, equivalent-left, left-of-struck}
-use Rattle.theory.proofs.Cancelling.{greater-joined, greater-element, element-alone}
+use Rattle.theory.proofs.Cancelling.{rest-bag, greater-joined, greater-element, element-alone}
 use Rattle.theory.proofs.Examples.{admissible}
 use Rattle.theory.proofs.WeightlessExample.{unwrapping-fails}
 
@@ -189,6 +189,9 @@ module _ (σ : Signature) where
   element-cancels A f c u u' x q s t s' t' d e d' e' i j h k =
       part-cancels A f c u u' x q s t s' t' d e d' e' (left-of-struck σ A f c s s' u i h)
       (left-of-struck σ A f c t t' u' j k)
+
+  pub rest-is-bag : RestIsBag σ
+  rest-is-bag = rest-bag σ
 
   pub whole-struck : WholeStruck σ
   whole-struck A f c u t x q s s' d d' h =

@@ -43,12 +43,12 @@ module _ (σ : Signature) where
       pub place : flattening f s ≡ before ++ (u ∷ after)
 
     -- The bag of s for f less that element.
-    abbrev pub others : {s u : Term} → Element s u → List Term
-    others e = e .before ++ e .after
+    abbrev pub rest : {s u : Term} → Element s u → List Term
+    rest e = e .before ++ e .after
 
     -- s' is what is left of s once that element is struck.
     abbrev pub Struck : {s u : Term} → Element s u → Term → Type 0
-    Struck e s' = multisetEqual (isEquivalent σ) (flattening f s') (others e) ≡ true
+    Struck e s' = multisetEqual (isEquivalent σ) (flattening f s') (rest e) ≡ true
 
   -- For an AC symbol of an admissible signature, a part u of the left and an AC-equal part u' of the right.
   abbrev pub ForCommonPart : (ℕ → Term → Term → Type 0) → Type 0
@@ -73,6 +73,12 @@ module _ (σ : Signature) where
       Expression σ t' → (i : Element f s u) (j : Element f t u') → Struck f i s' → Struck f j t' →
       SameRelation s t s' t'
 
+  -- What is left, if anything is, is the bag of an expression.
+  abbrev pub RestIsBag : Type 0
+  RestIsBag =
+      Admissible σ → (f : ℕ) → IsAc f → (s u : Term) → Expression σ s → (i : Element f s u) → 0 < length (rest f i) →
+      (s' : Term) × Expression σ s' × Struck f i s'
+
   -- Where the part is the whole right side and something of s is left, s is greater.
   abbrev pub WholeStruck : Type 0
   WholeStruck =
@@ -84,5 +90,5 @@ module _ (σ : Signature) where
   abbrev pub NothingLeft : Type 0
   NothingLeft =
       ForCommonPart λ f u u'. (s t : Term) → Expression σ s → Expression σ t → (i : Element f s u)
-      (j : Element f t u') → others f j ≡ [] →
-      (t ≡ u') × (0 < length (others f i) → isGreater σ s t ≡ true) × (others f i ≡ [] → Equivalent σ s t)
+      (j : Element f t u') → rest f j ≡ [] →
+      (t ≡ u') × (0 < length (rest f i) → isGreater σ s t ≡ true) × (rest f i ≡ [] → Equivalent σ s t)

@@ -12,3 +12,5 @@ pub mod Accessibility
 pub mod MultisetImages
 pub mod Agreement
 pub mod Restriction
+pub mod FlatMapLaws
+pub mod SortingLaws

@@ -38,6 +38,11 @@ module _ {A : Type 0} (p : A → Bool) where
       go e ih (List·Memᴰ·head q) = (List·Memᴰ·head q, rw q e)
       go e ih (List·Memᴰ·tail k) = let (i, h) = ih k in (List·Memᴰ·tail i, h)
 
+  pub member-choose : {a : A} {l : List A} → List·Memᴰ a l → p a ≡ true → List·Memᴰ a (choose p l)
+  member-choose (List·Memᴰ·head e) h = rw (← e, h) (List·Memᴰ·head refl)
+  member-choose (List·Memᴰ·tail {x = b} m) h =
+      byTest (p b) (λ e. rw e (List·Memᴰ·tail (member-choose m h))) λ e. rw e (member-choose m h)
+
   pub choose-none : (l : List A) → ((a : A) → List·Memᴰ a l → p a ≡ false) → choose p l ≡ []
   choose-none [] h = refl
   choose-none (a ∷ l) h = rw (h a (List·Memᴰ·head refl)) (choose-none l λ b m. h b (List·Memᴰ·tail m))

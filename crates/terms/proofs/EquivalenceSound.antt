@@ -1,5 +1,5 @@
 -- Well-formed terms that the test holds alike are AC-equivalent.
---     Bunch, join, bunchOf     terms joined under an AC symbol: a commutative monoid up to AC-equivalence
+--     SameBunch, same-*, join-*, bunch-*   joined terms are a commutative monoid up to AC-equivalence
 --     multiset-sound           lists that are equal as multisets, joined, are equivalent
 --     flattening-joined        a term is equivalent to its flattening, joined
 --     isEquivalent→Equivalent  so the test is sound
@@ -16,29 +16,17 @@ use Rattle.terms.specs.Term.{Term, Terms, size, sizes, row, flattening, 
 use Rattle.terms.specs.Term.Term.{var, app}
 use Rattle.terms.specs.Term.Terms.{nil, cons}
 use Rattle.multisets.specs.Multiset.{multisetEqual, rowEqual}
-use Rattle.terms.specs.Equivalence.{pair, Equivalent, Equivalents, argumentsAlike, isEquivalentTo, isEquivalent}
+use Rattle.terms.specs.Equivalence.{Equivalent, Equivalents, argumentsAlike, isEquivalentTo, isEquivalent}
 use Rattle.terms.specs.Equivalence.Equivalent.{same, back, then, under, exchange, regroup}
 use Rattle.terms.specs.Equivalence.Equivalents.{none, each}
+use Rattle.terms.specs.Bunch.{Bunch, join, bunchOf}
+use Rattle.terms.specs.Bunch.Bunch.{empty, full}
 use Rattle.multisets.proofs.Relations.{byTest, eqb-self}
 use Rattle.multisets.proofs.MultisetLaws.{Takes, here, later, takes-member, takes-within, multisetEqual-split}
 use Rattle.terms.proofs.TermLaws.{size-pos, flattenings-smaller, flattenings-formed}
 
-pub data Bunch : Type 0 where
-  empty : Bunch
-  full : Term → Bunch
-
 module _ (f : ℕ) where
-  abbrev pub join : Bunch → Bunch → Bunch
-  join empty b = b
-  join (full s) empty = full s
-  join (full s) (full t) = full (app f (pair s t))
-
-  -- The terms of a list, joined from the right.
-  abbrev pub bunchOf : List Term → Bunch
-  bunchOf [] = empty
-  bunchOf (t ∷ l) = join (full t) (bunchOf l)
-
-  bunch-two : (ts : Terms) → length (row ts) ≡ 2 → bunchOf (row ts) ≡ full (app f ts)
+  pub bunch-two : (ts : Terms) → length (row ts) ≡ 2 → bunchOf f (row ts) ≡ full (app f ts)
   bunch-two nil e = absurd (omega arith)
   bunch-two (cons s nil) e = absurd (omega arith)
   bunch-two (cons s (cons t nil)) e = refl
@@ -49,52 +37,53 @@ module _ (σ : Signature) where
     bothEmpty : SameBunch empty empty
     bothFull : {s t : Term} → Equivalent σ s t → SameBunch (full s) (full t)
 
-  from-full : {s t : Term} → SameBunch (full s) (full t) → Equivalent σ s t
+  pub from-full : {s t : Term} → SameBunch (full s) (full t) → Equivalent σ s t
   from-full (bothFull h) = h
 
-  same-refl : (a : Bunch) → SameBunch a a
+  pub same-refl : (a : Bunch) → SameBunch a a
   same-refl empty = bothEmpty
   same-refl (full s) = bothFull same
 
-  same-sym : {a b : Bunch} → SameBunch a b → SameBunch b a
+  pub same-sym : {a b : Bunch} → SameBunch a b → SameBunch b a
   same-sym bothEmpty = bothEmpty
   same-sym (bothFull h) = bothFull (back h)
 
-  same-trans : {a b c : Bunch} → SameBunch a b → SameBunch b c → SameBunch a c
+  pub same-trans : {a b c : Bunch} → SameBunch a b → SameBunch b c → SameBunch a c
   same-trans bothEmpty k = k
   same-trans (bothFull h) (bothFull k) = bothFull (then h k)
 
   module _ (f : ℕ) where
-    join-resp : {a b c d : Bunch} → SameBunch a b → SameBunch c d → SameBunch (join f a c) (join f b d)
+    pub join-resp : {a b c d : Bunch} → SameBunch a b → SameBunch c d → SameBunch (join f a c) (join f b d)
     join-resp bothEmpty k = k
     join-resp (bothFull h) bothEmpty = bothFull h
     join-resp (bothFull h) (bothFull k) = bothFull (under (each h (each k none)))
 
     module _ (ac : symbolOf σ f .ac ≡ true) where
-      join-swap : (a b : Bunch) → SameBunch (join f a b) (join f b a)
+      pub join-swap : (a b : Bunch) → SameBunch (join f a b) (join f b a)
       join-swap empty empty = bothEmpty
       join-swap empty (full t) = bothFull same
       join-swap (full s) empty = bothFull same
       join-swap (full s) (full t) = bothFull (exchange ac)
 
-      join-regroup : (a b c : Bunch) → SameBunch (join f (join f a b) c) (join f a (join f b c))
+      pub join-regroup : (a b c : Bunch) → SameBunch (join f (join f a b) c) (join f a (join f b c))
       join-regroup empty b c = same-refl (join f b c)
       join-regroup (full s) empty c = same-refl (join f (full s) c)
       join-regroup (full s) (full t) empty = bothFull same
       join-regroup (full s) (full t) (full u) = bothFull (regroup ac)
 
-      join-exchange : (a b c : Bunch) → SameBunch (join f a (join f b c)) (join f b (join f a c))
+      pub join-exchange : (a b c : Bunch) → SameBunch (join f a (join f b c)) (join f b (join f a c))
       join-exchange a b c =
           same-trans (same-sym (join-regroup a b c))
           (same-trans (join-resp (join-swap a b) (same-refl c)) (join-regroup b a c))
 
-      bunch-append : (a b : List Term) → SameBunch (bunchOf f (a ++ b)) (join f (bunchOf f a) (bunchOf f b))
+      pub bunch-append : (a b : List Term) → SameBunch (bunchOf f (a ++ b)) (join f (bunchOf f a) (bunchOf f b))
       bunch-append [] b = same-refl (bunchOf f b)
       bunch-append (s ∷ a) b =
           same-trans (join-resp (same-refl (full s)) (bunch-append a b))
           (same-sym (join-regroup (full s) (bunchOf f a) (bunchOf f b)))
 
-      bunch-takes : {t : Term} {l m : List Term} → Takes t l m → SameBunch (bunchOf f l) (join f (full t) (bunchOf f m))
+      pub bunch-takes : {t : Term} {l m : List Term} → Takes t l m →
+          SameBunch (bunchOf f l) (join f (full t) (bunchOf f m))
       bunch-takes {t} {l} here = same-refl (bunchOf f l)
       bunch-takes {t} (later {b = s} {m} x) =
           same-trans (join-resp (same-refl (full s)) (bunch-takes x)) (join-exchange (full s) (full t) (bunchOf f m))
@@ -139,7 +128,7 @@ module _ (σ : Signature) where
 
   -- One level of the test, sound where the level below is.
   module _ (binary : AcBinary σ) (like : Term → Term → Bool) where
-    row-sound : (ss ts : Terms) →
+    pub row-sound : (ss ts : Terms) →
         ((s t : Term) → size s ≤ sizes ss → WellFormed σ s → WellFormed σ t → like s t ≡ true → Equivalent σ s t) →
         WellFormeds σ ss → WellFormeds σ ts → rowEqual like (row ss) (row ts) ≡ true → Equivalents σ ss ts
     unfolding rowEqual

@@ -1,6 +1,6 @@
 -- The variables of a term: where none occurs, and which terms are expressions.
 --     occurrences-past                   no variable past the last occurs in a well-formed term
---     coefficient-none                   a variable that does not occur has the coefficient 0
+--     coefficient-none, occurs-le        a variable that does not occur has the coefficient 0, one that does no less
 --     coefficient-argument               no variable has a higher coefficient in an argument
 --     not-ground, isVar-ground           a variable is no expression
 --     noneOftener-ground, -everywhere    no variable occurs oftener in an expression; past the last, in any term
@@ -12,7 +12,7 @@ use Prim.Native.Nat.{ℕ, _≤_}
 use native.Mathlib.Omega.{arith}
 use lib.Dec.{eqb}
 use borrow.Author.Tests.{ne-eqb}
-use Rattle.terms.specs.Signature.{Signature, scale, others, coefficientsOf, Admissible}
+use Rattle.terms.specs.Signature.{Signature, scale, others, AllPositive, coefficientsOf, Admissible}
 use Rattle.terms.specs.Term.{Term, Terms, row, measures, occurrences, Ground, isVar, variableCount}
 use Rattle.terms.specs.Term.{variableCoefficient, WellFormed, WellFormeds, Expression}
 use Rattle.terms.specs.Term.Term.{var, app}
@@ -20,7 +20,7 @@ use Rattle.terms.specs.Term.Terms.{nil, cons}
 use Rattle.terms.specs.Marks.{NoneOftener}
 use Rattle.multisets.proofs.Relations.{byOrder, eqb-self}
 use Rattle.terms.proofs.TermLaws.{Hereditary}
-use Rattle.terms.proofs.MeasureLaws.{scale-zero, measure-argument}
+use Rattle.terms.proofs.MeasureLaws.{scale-zero, scale-le, others-each, measure-argument}
 use Rattle.terms.proofs.RewritingLaws.{occurrencesIn}
 
 -- The variable x in a row of terms with those coefficients.
@@ -51,6 +51,22 @@ module _ (σ : Signature) (x : ℕ) where
     coefficients-none (cons t ts) ks h =
         let e : variableCoefficient σ x t ≡ 0 = coefficient-none t (omega arith) in
         omega (arith, ap (scale ks) e, scale-zero ks, coefficients-none ts (others ks) (omega arith))
+
+  module _ (A : Admissible σ) where
+    mutual
+      pub occurs-le : (t : Term) → occurrences x t ≤ variableCoefficient σ x t
+      occurs-le (var y) = omega arith
+      occurs-le (app f ts) = omega (arith, occursIn-le ts (coefficientsOf σ f) (A .coefficientsPositive f))
+
+      occursIn-le : (ts : Terms) (ks : List ℕ) → AllPositive ks → occurrencesIn x ts ≤ variableCoefficients σ x ts ks
+      occursIn-le nil ks p = omega arith
+      occursIn-le (cons t ts) ks p =
+          omega (
+            arith,
+            occurs-le t,
+            scale-le ks p (variableCoefficient σ x t),
+            occursIn-le ts (others ks) (others-each ks p),
+          )
 
   pub coefficient-argument : Admissible σ → (f : ℕ) (ts : Terms) (u : Term) → List·Memᴰ u (row ts) →
       variableCoefficient σ x u ≤ variableCoefficient σ x (app f ts)

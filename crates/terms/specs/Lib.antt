@@ -4,6 +4,7 @@ pub mod Signature
 pub mod Term
 pub mod Words
 pub mod Equivalence
+pub mod Bunch
 pub mod Fingerprint
 pub mod Iterated
 pub mod Order

@@ -57,7 +57,7 @@ sample-ones (suc (suc (suc (suc zero)))) = replicate-ones 1
 sample-ones (suc (suc (suc (suc (suc zero))))) = replicate-ones 2
 sample-ones (suc (suc (suc (suc (suc (suc f)))))) = replicate-ones 0
 
-heavy : NoZeroWeightUnary sample
+pub heavy : NoZeroWeightUnary sample
 heavy f h = sample-symbol f h .2
 
 pub admissible : Admissible sample

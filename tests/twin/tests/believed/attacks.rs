@@ -1,7 +1,7 @@
 //! Attacks on what must be believed: edits after which a proof shows less than its reader thinks, each with the fault
 //! that is found.
 
-use crate::contracts::{believed, FOR_C};
+use crate::contracts::{believed, FOR_C, TURN};
 use crate::source::Tree;
 use crate::{contracts, definitions, statements};
 
@@ -61,8 +61,8 @@ const UNBOUND: [(&[Edit], &str); 5] = [
     ),
     (&[(PICKING, "pub fn greater_side", "#[no_mangle]\npub fn zero() -> u8 {\n    0\n}\n\n~")], "exported elsewhere"),
     (&[(PICKING, "-> PickReply\n", "~    requires { ⌜ 1 ≡ 2 ⌝ }\n")], "greater_side asks something of its callers"),
-    (&[(FOR_C, "(r ≡ codeOf (turned ", "(0 ≡ codeOf (turned ")], "ackbo_turn does not say what its result is"),
-    (&[(FOR_C, "× (now (jobs .exit) ≡", "× (now (jobs .entry) ≡")], "ackbo_turn does not say what jobs is afterwards"),
+    (&[(TURN, "(r ≡ codeOf (turned ", "(0 ≡ codeOf (turned ")], "ackbo_turn does not say what its result is"),
+    (&[(TURN, "× (now (jobs .exit) ≡", "× (now (jobs .entry) ≡")], "ackbo_turn does not say what jobs is afterwards"),
 ];
 
 /// Statements without a proof, and proofs of something else.
@@ -71,7 +71,7 @@ const UNPROVED: [(&[Edit], &str); 6] = [
     (&[(THEOREMS, ": FullScore", ": ⊥ → FullScore")], "FullScore is neither proved"),
     (&[(THEOREMS, THEOREM, "module _ (e : ⊥) where\n  pub full-scores : FullScore\n")], "FullScore is neither proved"),
     (&[(THEOREMS, ", FullScore}", ", ScoreNearest as FullScore}")], "FullScore is neither proved"),
-    (&[("README.md", "`FullScore`", "~, `ScoreRoundedTwice`")], "ScoreRoundedTwice is not proved"),
+    (&[("docs/GUIDE.md", "`FullScore`", "~, `ScoreRoundedTwice`")], "ScoreRoundedTwice is not proved"),
     (&[("crates/picking/proofs/PickLaws.antt", "use ", "-- Renders: 02, order 1.\n~")], "says what it renders"),
 ];
 

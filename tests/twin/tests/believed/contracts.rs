@@ -21,10 +21,14 @@ pub const OPERATIONS: [(&str, &str); 14] = [
     ("crates/paging/src/lib.rt", "board"),
 ];
 pub const FOR_C: &str = "crates/ackbo/src/lib.rt";
+pub const TURN: &str = "crates/ackbo/src/turn.rt";
+const EXPORTS: [&str; 2] = [FOR_C, TURN];
 
 /// The functions whose contracts are believed, each with its file.
 pub fn believed(tree: &Tree) -> Vec<(String, Function)> {
-    let exported = functions(&tree.text(FOR_C)).into_iter().filter(|f| f.exported).map(|f| (FOR_C.to_string(), f));
+    let exported = EXPORTS.iter().flat_map(|file| {
+        functions(&tree.text(file)).into_iter().filter(|f| f.exported).map(|f| (file.to_string(), f))
+    });
     let named = OPERATIONS.iter().flat_map(|(file, name)| {
         let own = move |f: &Function| f.name == *name;
         functions(&tree.text(file)).into_iter().filter(own).map(|f| (file.to_string(), f))
@@ -41,13 +45,16 @@ pub fn faults(tree: &Tree) -> Vec<String> {
             found.push(format!("{file}: not one function {name}"));
         }
     }
-    for file in tree.files("crates", ".rt").iter().filter(|file| *file != FOR_C) {
+    for file in tree.files("crates", ".rt").iter().filter(|file| !EXPORTS.contains(&file.as_str())) {
         if ["extern \"C\" fn", "no_mangle"].iter().any(|word| tree.text(file).contains(word)) {
-            found.push(format!("{file}: a function is exported elsewhere than in {FOR_C}"));
+            found.push(format!("{file}: a function is exported elsewhere than in {FOR_C} and {TURN}"));
         }
     }
-    if tree.text(FOR_C).matches("no_mangle").count() != believed.iter().filter(|(_, f)| f.exported).count() {
-        found.push(format!("{FOR_C}: a function is exported that is not for C"));
+    for file in EXPORTS {
+        let own = believed.iter().filter(|(other, f)| other == file && f.exported).count();
+        if tree.text(file).matches("no_mangle").count() != own {
+            found.push(format!("{file}: a function is exported that is not for C"));
+        }
     }
     found
 }

@@ -9,10 +9,10 @@ use std::path::Path;
 pub struct Tree(pub BTreeMap<String, String>);
 
 impl Tree {
-    /// The crates' code, definitions and proofs, the list and the README.
+    /// The crates' code, definitions and proofs, the list and the guide.
     pub fn of_the_repository() -> Tree {
         let mut tree = Tree(BTreeMap::new());
-        for file in ["believed.txt", "README.md"] {
+        for file in ["believed.txt", "docs/GUIDE.md"] {
             tree.0.insert(file.to_string(), fs::read_to_string(root().join(file)).unwrap());
         }
         tree.add_folder("crates");

@@ -71,25 +71,31 @@ fn proves(theorem: &Declaration, statement: &Declaration) -> bool {
     rest.trim_start_matches("→ ").trim() == applied && types(&parameters) == types(&statement.parameters)
 }
 
-/// The names of the statements that are proved, each in its crate's Theorems, where the name is the statement's.
+/// The names of the statements that are proved, each in a file of its crate's theorems, where the name is the
+/// statement's.
 pub fn proved(tree: &Tree) -> BTreeSet<String> {
     let mut found = BTreeSet::new();
     for file in files(tree) {
-        let theorems = tree.text(&format!("crates/{}/proofs/Theorems.antt", crate_of(&file)));
-        let meant = |name: &str| {
-            let items: Vec<_> = uses(&theorems).into_iter().filter(|item| item.name == name).collect();
-            items.len() == 1 && items[0].original == name && tree.file_of(&items[0].module).as_ref() == Some(&file)
-        };
-        let all = declarations(&theorems);
-        let names: BTreeSet<&String> = all.iter().map(|theorem| &theorem.name).collect();
-        for statement in declarations(&tree.text(&file)) {
-            let taken = names.contains(&statement.name);
-            if !taken && meant(&statement.name) && all.iter().any(|theorem| proves(theorem, &statement)) {
-                found.insert(statement.name);
-            }
+        let proofs = format!("crates/{}/proofs", crate_of(&file));
+        for theorems in tree.files(&proofs, "Theorems.antt") {
+            found.extend(proved_in(tree, &file, &tree.text(&theorems)));
         }
     }
     found
+}
+
+/// Those of a file of statements that a file of theorems proves.
+fn proved_in(tree: &Tree, file: &str, theorems: &str) -> Vec<String> {
+    let meant = |name: &str| {
+        let items: Vec<_> = uses(theorems).into_iter().filter(|item| item.name == name).collect();
+        items.len() == 1 && items[0].original == name && tree.file_of(&items[0].module).as_deref() == Some(file)
+    };
+    let all = declarations(theorems);
+    let names: BTreeSet<&String> = all.iter().map(|theorem| &theorem.name).collect();
+    let own = |of: &Declaration| {
+        !names.contains(&of.name) && meant(&of.name) && all.iter().any(|theorem| proves(theorem, of))
+    };
+    declarations(&tree.text(file)).into_iter().filter(|of| own(of)).map(|of| of.name).collect()
 }
 
 /// What is not proved. A statement is a name of type `Type 0`, under the parameters of its section.
@@ -113,14 +119,14 @@ pub fn faults(tree: &Tree) -> Vec<String> {
     lacking.map(|(file, of)| format!("{file}: {} is neither proved nor part of what is", of.name)).collect()
 }
 
-/// Each statement that the README's table names is proved itself.
+/// Each statement that the guide's table names is proved itself.
 pub fn claims(tree: &Tree) -> Vec<String> {
-    let readme = &tree.0["README.md"];
+    let guide = &tree.0["docs/GUIDE.md"];
     let table =
-        readme.split("The theorems (").nth(1).and_then(|rest| rest.split("By computation").next()).unwrap_or("");
+        guide.split("The theorems (").nth(1).and_then(|rest| rest.split("By computation").next()).unwrap_or("");
     let rows = table.lines().filter(|line| line.starts_with('|')).filter_map(|line| line.split(" | ").nth(1));
     let names =
         rows.flat_map(|row| row.split('`').skip(1).step_by(2)).filter(|name| name.starts_with(char::is_uppercase));
     let proved = proved(tree);
-    names.filter(|name| !proved.contains(*name)).map(|name| format!("README.md: {name} is not proved")).collect()
+    names.filter(|name| !proved.contains(*name)).map(|name| format!("docs/GUIDE.md: {name} is not proved")).collect()
 }

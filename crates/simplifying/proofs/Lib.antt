@@ -1,4 +1,5 @@
 -- The laws of the simplifier.
+pub mod MaskLaws
 pub mod CanonicalLaws
 pub mod LeastLaws
 pub mod PrefixLaws

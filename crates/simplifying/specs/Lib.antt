@@ -1,4 +1,5 @@
 -- The simplifier: the canonical form of a term, matching modulo AC, the results of one step, and simplifying.
+pub mod Masks
 pub mod Canonical
 pub mod Matching
 pub mod Agenda

@@ -1,5 +1,6 @@
 -- The laws of the simplifier.
 pub mod MaskLaws
+pub mod HoleLaws
 pub mod CanonicalLaws
 pub mod LeastLaws
 pub mod PrefixLaws

@@ -9,6 +9,7 @@ pub mod Simplifying
 pub mod Outcomes
 pub mod Filling
 pub mod FillingSize
+pub mod Holes
 pub mod Pooling
 pub mod MatchingStatements
 pub mod Statements

@@ -19,7 +19,7 @@ use Rattle.simplifying.specs.Agenda.{Agenda, agenda, advance, follows}
 use Rattle.simplifying.proofs.GroupingLaws.{groupings-sound}
 
 module _ (σ : Signature) where
-  follows-append : (vs ws : List ℕ) (a : Agenda) → follows σ (vs ++ ws) a ≡ flatMap (follows σ ws) (follows σ vs a)
+  pub follows-append : (vs ws : List ℕ) (a : Agenda) → follows σ (vs ++ ws) a ≡ flatMap (follows σ ws) (follows σ vs a)
   unfolding follows flatMap
   follows-append [] ws a = sym (append-nil (follows σ ws a))
   follows-append (v ∷ vs) ws a =

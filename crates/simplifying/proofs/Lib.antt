@@ -13,6 +13,8 @@ pub mod GroupingLaws
 pub mod MatchingLaws
 pub mod PieceLaws
 pub mod AgendaLaws
+pub mod SumLaws
+pub mod CoverLaws
 pub mod ResultLaws
 pub mod ReductSound
 pub mod ElementReducts

@@ -10,6 +10,7 @@ pub mod Outcomes
 pub mod Filling
 pub mod FillingSize
 pub mod Holes
+pub mod Pieces
 pub mod Pooling
 pub mod MatchingStatements
 pub mod Statements

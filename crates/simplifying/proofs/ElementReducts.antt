@@ -1,33 +1,28 @@
 -- Where reducts are found, and a reduct of an element of a flattening, put back.
 --     of-results, of-beside, of-arguments    at the root, beside a rest, in an argument
 --     of-first, of-later                     in the first argument, in a later one
---     element-reducts, elements-reducts      in an element of a flattening
+--     elements-reducts                       in an element of a flattening
 use mathlib.Core.List.{List, [], _∷_, _++_, map, List·Memᴰ}
 use mathlib.Core.List.{List·Memᴰ·append-cases, List·Memᴰ·not-nil, Memᴰ·append-left, Memᴰ·append-right, Memᴰ·map}
 use mathlib.Core.List.{Memᴰ·of-map}
 use mathlib.Core.Logic.{⊎-elim}
-use mathlib.Core.Path.{_≡_, refl, ap, _∙_}
+use mathlib.Core.Path.{_≡_, sym, ap, _∙_, subst}
 use mathlib.Core.Bool.{true}
 use Prim.Native.Nat.{ℕ, suc}
 use lib.ListN.{length}
-use lib.Dec.{eqb}
-use borrow.Author.Tests.{eqb-true}
 use Rattle.terms.specs.Signature.{Signature, symbolOf, Admissible}
-use Rattle.terms.specs.Term.{Term, Terms, row, flattening, flattenings, WellFormed, WellFormeds}
-use Rattle.terms.specs.Term.Term.{var, app}
+use Rattle.terms.specs.Term.{Term, Terms, row, arguments, flattenings, WellFormeds}
+use Rattle.terms.specs.Term.Term.{app}
 use Rattle.terms.specs.Term.Terms.{nil, cons}
-use Rattle.terms.specs.Equivalence.Equivalent.{same}
-use Rattle.terms.specs.Bunch.{Bunch, join, bunchOf}
+use Rattle.terms.specs.Bunch.{join, bunchOf}
 use Rattle.terms.specs.Bunch.Bunch.{full}
-use Rattle.terms.specs.Rewriting.{System}
-use Rattle.multisets.proofs.Relations.{byTest}
-use Rattle.multisets.proofs.MultisetLaws.{Takes, takes-member}
-use Rattle.multisets.proofs.MultisetLaws.Takes.{here}
-use Rattle.multisets.proofs.SortingLaws.{takes-append}
-use Rattle.terms.proofs.EquivalenceSound.{SameBunch, bothFull, same-refl, same-sym, same-trans, bunch-two}
-use Rattle.terms.proofs.EquivalenceSound.{join-resp, join-regroup, join-exchange, bunch-append}
-use Rattle.terms.proofs.EquivalenceSound.{flattening-joined, flattenings-joined}
+use Rattle.terms.specs.Rewriting.{System, Context, fill}
+use Rattle.terms.specs.Rewriting.Context.{hole, inside}
+use Rattle.multisets.proofs.MultisetLaws.{Takes}
+use Rattle.terms.proofs.EquivalenceSound.{SameBunch}
+use Rattle.terms.proofs.TermLaws.{row-arguments, arguments-row}
 use Rattle.simplifying.specs.Reducts.{results, resultsBeside, reducts, reductsIn}
+use Rattle.simplifying.proofs.ElementPlaces.{element-place-in}
 
 module _ (R : System) where
   abbrev σ : Signature
@@ -74,58 +69,29 @@ module _ (R : System) where
       (λ i. let (vs, j, q) = Memᴰ·of-map (cons t) (reductsIn R ts) i in rw (← q) (ap suc (reductsIn-length ts vs j)))
       (List·Memᴰ·append-cases (map (λ (u : Term). cons u ts) (reducts R t)) m)
 
-  takes-one : {a b : Term} {m : List Term} → Takes a (b ∷ []) m → (a ≡ b) × (m ≡ [])
-  takes-one here = (refl, refl)
+  among-reducts : (ss ts : List Term) (s t : Term) → List·Memᴰ t (reducts R s) →
+      List·Memᴰ (arguments (ss ++ (t ∷ ts))) (reductsIn R (arguments (ss ++ (s ∷ ts))))
+  among-reducts [] ts s t m = of-first s (arguments ts) t m
+  among-reducts (u ∷ ss) ts s t m =
+      of-later u (arguments (ss ++ (s ∷ ts))) (arguments (ss ++ (t ∷ ts))) (among-reducts ss ts s t m)
 
-  module _ (A : Admissible σ) (f : ℕ) (ac : symbolOf σ f .ac ≡ true) (a b : Term) (i : List·Memᴰ b (reducts R a)) where
-    alone : (t : Term) (m : List Term) → Takes a (t ∷ []) m →
-        (u : Term) × List·Memᴰ u (reducts R t) × SameBunch σ (full u) (join f (full b) (bunchOf f m))
-    alone t m x = let (p, q) = takes-one x in (b, rw p at i, rw q (bothFull same))
+  fill-reducts : (c : Context) (s t : Term) → List·Memᴰ t (reducts R s) → List·Memᴰ (fill c t) (reducts R (fill c s))
+  fill-reducts hole s t m = m
+  fill-reducts (inside f ss c ts) s t m =
+      of-arguments f (arguments (ss ++ (fill c s ∷ ts))) (arguments (ss ++ (fill c t ∷ ts)))
+      (among-reducts ss ts (fill c s) (fill c t) (fill-reducts c s t m))
 
-    -- What is put back stands beside the elements before it and after it.
-    put-left : {c d : Bunch} (m n : List Term) → SameBunch σ c (join f (full b) (bunchOf f m)) →
-        SameBunch σ d (bunchOf f n) → SameBunch σ (join f c d) (join f (full b) (bunchOf f (m ++ n)))
-    put-left m n h k =
-        same-trans σ (join-resp σ f h k) (same-trans σ (join-regroup σ f ac (full b) (bunchOf f m) (bunchOf f n))
-        (join-resp σ f (same-refl σ (full b)) (same-sym σ (bunch-append σ f ac m n))))
-
-    put-right : {c d : Bunch} (m n : List Term) → SameBunch σ c (bunchOf f m) →
-        SameBunch σ d (join f (full b) (bunchOf f n)) → SameBunch σ (join f c d) (join f (full b) (bunchOf f (m ++ n)))
-    put-right m n h k =
-        same-trans σ (join-resp σ f h k) (same-trans σ (join-exchange σ f ac (bunchOf f m) (full b) (bunchOf f n))
-        (join-resp σ f (same-refl σ (full b)) (same-sym σ (bunch-append σ f ac m n))))
-
-    mutual
-      pub element-reducts : (t : Term) (m : List Term) → WellFormed σ t → Takes a (flattening f t) m →
-          (u : Term) × List·Memᴰ u (reducts R t) × SameBunch σ (full u) (join f (full b) (bunchOf f m))
-      element-reducts (var x) m w k = alone (var x) m k
-      element-reducts (app g ts) m w k =
-          byTest (eqb f g)
-          (λ e. let p = eqb-true f g e in
-          let (us, j, h) = elements-reducts ts m (w .2) (rw e at k) in
-          rw (← p) (
-            app f us,
-            of-arguments f ts us j,
-            rw (bunch-two f us (reductsIn-length ts us j ∙ rw (← p) at (w .1) ∙ A .acBinary f ac)) at h,
-          ))
-          λ e. alone (app g ts) m (rw e at k)
-
-      pub elements-reducts : (ts : Terms) (m : List Term) → WellFormeds σ ts → Takes a (flattenings f ts) m →
-          (us : Terms) × List·Memᴰ us (reductsIn R ts) ×
-          SameBunch σ (bunchOf f (row us)) (join f (full b) (bunchOf f m))
-      elements-reducts nil m w k = absurd (List·Memᴰ·not-nil (takes-member k))
-      elements-reducts (cons t ts) m w k =
-          ⊎-elim
-          (λ (n, x, q). let (u, j, h) = element-reducts t n (w .0) x in (
-            cons u ts,
-            of-first t ts u j,
-            rw q (put-left n (flattenings f ts) h
-                (same-sym σ (flattenings-joined σ f ac (A .acBinary) ts (w .1)))),
-          ))
-          (λ (n, x, q). let (us, j, h) = elements-reducts ts n (w .1) x in (
-            cons t us,
-            of-later t ts us j,
-            rw q (put-right (flattening f t) n
-                (same-sym σ (flattening-joined σ f ac (A .acBinary) t (w .0))) h),
-          ))
-          (takes-append (flattening f t) (flattenings f ts) k)
+  pub elements-reducts : Admissible σ → (f : ℕ) → symbolOf σ f .ac ≡ true → (a b : Term) → List·Memᴰ b (reducts R a) →
+      (ts : Terms) (m : List Term) → WellFormeds σ ts → Takes a (flattenings f ts) m →
+      (us : Terms) × List·Memᴰ us (reductsIn R ts) × SameBunch σ (bunchOf f (row us)) (join f (full b) (bunchOf f m))
+  elements-reducts A f ac a b i ts m w k =
+      let p = element-place-in σ A f ac ts a m w k in
+      let us = p .before ++ (fill (p .context) b ∷ p .after) in
+      let e : ts ≡ arguments (p .before ++ (fill (p .context) a ∷ p .after)) =
+      sym (arguments-row ts) ∙ ap arguments (p .whole) in (
+        arguments us,
+        subst (λ (vs : Terms). List·Memᴰ (arguments us) (reductsIn R vs)) (sym e)
+            (among-reducts (p .before) (p .after) (fill (p .context) a) (fill (p .context) b)
+            (fill-reducts (p .context) a b i)),
+        rw row-arguments (p .others b),
+      )

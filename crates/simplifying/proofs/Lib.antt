@@ -17,6 +17,7 @@ pub mod SumLaws
 pub mod CoverLaws
 pub mod ResultLaws
 pub mod ReductSound
+pub mod ElementPlaces
 pub mod ElementReducts
 pub mod ReductComplete
 pub mod PlaceLaws

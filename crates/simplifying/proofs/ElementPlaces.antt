@@ -75,10 +75,10 @@ module _ (σ : Signature) (A : Admissible σ) (f : ℕ) (ac : symbolOf σ f .ac 
     others = λ b.
         let us = p .before ++ (fill (p .context) b ∷ p .after) in
         let k : length (row (arguments us)) ≡ 2 = ap length (row-arguments us)
-            ∙ length-among (p .before) (p .after) (fill (p .context) b) (fill (p .context) a)
-            ∙ ap length (sym (p .whole)) ∙ n in
+        ∙ length-among (p .before) (p .after) (fill (p .context) b) (fill (p .context) a)
+        ∙ ap length (sym (p .whole)) ∙ n in
         let e : bunchOf f us ≡ full (app f (arguments us)) =
-            ap (bunchOf f) (sym (row-arguments us)) ∙ bunch-two f (arguments us) k in
+        ap (bunchOf f) (sym (row-arguments us)) ∙ bunch-two f (arguments us) k in
         rw (← e) (p .others b);
   }
 

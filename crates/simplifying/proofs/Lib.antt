@@ -22,6 +22,7 @@ pub mod ElementReducts
 pub mod ReductComplete
 pub mod PlaceLaws
 pub mod SearchLaws
+pub mod SearchedLaws
 pub mod DroppingLaws
 pub mod SimplifyingLaws
 pub mod Theorems

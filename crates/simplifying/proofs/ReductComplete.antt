@@ -74,7 +74,7 @@ module _ (R : System) where
   beside-one f ac (v ∷ (u ∷ ps)) qs n = absurd (omega arith)
 
   module _ (A : Admissible σ) where
-    rest-joined : (f : ℕ) → symbolOf σ f .ac ≡ true → {a : Term} (v : Term) (ts : Terms) (us : List Term) →
+    pub rest-joined : (f : ℕ) → symbolOf σ f .ac ≡ true → {a : Term} (v : Term) (ts : Terms) (us : List Term) →
         Takes a (flattenings f ts) us → WellFormed σ v → WellFormeds σ ts →
         multisetEqual (isEquivalent σ) (flattening f v) us ≡ true → SameBunch σ (bunchOf f us) (full v)
     rest-joined f ac v ts us x w z k =

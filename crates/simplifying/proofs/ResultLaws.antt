@@ -103,50 +103,66 @@ module _ (R : System) (A : Admissible (R .signature)) where
   image-expression t free e i = e
   image-expression t (bound u) e i = i
 
-  pub results-sound : (t u : Term) → Expression σ t → List·Memᴰ u (results R t) → RuleStep R t u
-  unfolding results
-  results-sound t u e m =
-      let (r, i, j) = flatMap-member (λ (r : Rule). resultsBy R r t) (R .rules) m in
-      let (b, k, q) = Memᴰ·of-map (λ (b : Bindings). substitute (substitutionOr t b) (r .right))
-      (matches σ (r .left) t unbound) j in
-      let h = matches-sound σ (A .acBinary) (r .left) t unbound b e (λ x. tt) k in
-      record {
-        rule = r;
-        isRule = i;
-        substitution = substitutionOr t b;
-        images = λ x. image-expression t (b x) e (h .images x);
-        before = h .agrees (substitutionOr t b) (λ x. agrees-own σ t (b x)) .1;
-        after = rw q same;
-      }
-
   -- What is bound agrees; what is free does not occur.
   agrees-at : (t : Term) (τ : Substitution) (x : ℕ) (c : Binding) → (c ≡ free → ⊥) → AgreesAt σ c (τ x) →
       Equivalent σ (imageOr t c) (τ x)
   agrees-at t τ x free h a = absurd (h refl)
   agrees-at t τ x (bound u) h a = a
 
+  -- ---- matches of one rule
+
+  pub match-sound : (p t : Term) (b : Bindings) → Expression σ t → List·Memᴰ b (matches σ p t unbound) →
+      ExpressionSubstitution σ (substitutionOr t b) × Equivalent σ t (substitute (substitutionOr t b) p)
+  match-sound p t b e m =
+      let h = matches-sound σ (A .acBinary) p t unbound b e (λ x. tt) m in (
+        λ x. image-expression t (b x) e (h .images x),
+        h .agrees (substitutionOr t b) (λ x. agrees-own σ t (b x)) .1,
+      )
+
+  pub match-complete : (r : Rule) → ((x : ℕ) → occurrences x (r .left) ≡ 0 → occurrences x (r .right) ≡ 0) → (t : Term) →
+      Expression σ t → (τ : Substitution) → Equivalent σ t (substitute τ (r .left)) →
+      (b : Bindings) × List·Memᴰ b (matches σ (r .left) t unbound) ×
+      Equivalent σ (substitute (substitutionOr t b) (r .right)) (substitute τ (r .right))
+  match-complete r v t e τ d =
+      let (b, k, a) = matches-complete σ (A .acBinary) (r .left) t unbound τ (e .0) d (λ x. tt) in
+      let h = matches-sound σ (A .acBinary) (r .left) t unbound b e (λ x. tt) k in (
+        b,
+        k,
+        substitute-agree σ (substitutionOr t b) τ (r .right) λ x n.
+            agrees-at t τ x (b x) (λ f. omega (arith, v x (h .binds x f .1))) (a x),
+      )
+
+  -- ---- results
+
+  pub results-sound : (t u : Term) → Expression σ t → List·Memᴰ u (results R t) → RuleStep R t u
+  unfolding results
+  results-sound t u e m =
+      let (r, i, j) = flatMap-member (λ (r : Rule). resultsBy R r t) (R .rules) m in
+      let (b, k, q) = Memᴰ·of-map (λ (b : Bindings). substitute (substitutionOr t b) (r .right))
+      (matches σ (r .left) t unbound) j in
+      let h = match-sound (r .left) t b e k in
+      record {
+        rule = r;
+        isRule = i;
+        substitution = substitutionOr t b;
+        images = h .0;
+        before = h .1;
+        after = rw q same;
+      }
+
   module _ (W : WellFormedRules R) (D : AllDecreasing R) where
-    -- On the variables of a rule's right side, where those of its left side are bound.
-    right-agrees : (t : Term) (b : Bindings) (τ : Substitution) → Agrees σ b τ → (r : Rule) → List·Memᴰ r (R .rules) →
-        ((x : ℕ) → b x ≡ free → occurrences x (r .left) ≡ 0) → (x : ℕ) → 0 < occurrences x (r .right) →
-        Equivalent σ (substitutionOr t b x) (τ x)
-    right-agrees t b τ a r m h x n =
-        agrees-at t τ x (b x) (λ f. omega (
-          arith,
-          decreasing-variables σ A (r .left) (r .right) (W r m .1) (D r m) x (h x f),
-        )) (a x)
+    pub rule-variables : (r : Rule) → List·Memᴰ r (R .rules) → (x : ℕ) → occurrences x (r .left) ≡ 0 →
+        occurrences x (r .right) ≡ 0
+    rule-variables r m = decreasing-variables σ A (r .left) (r .right) (W r m .1) (D r m)
 
     pub results-complete : (t u : Term) → Expression σ t → RuleStep R t u →
         Among σ (results R t) u
     unfolding results
     results-complete t u e p =
         let r = p .rule in
-        let τ = p .substitution in
-        let (b, k, a) = matches-complete σ (A .acBinary) (r .left) t unbound τ (e .0) (p .before) (λ x. tt) in
-        let h = matches-sound σ (A .acBinary) (r .left) t unbound b e (λ x. tt) k in (
+        let (b, k, d) = match-complete r (rule-variables r (p .isRule)) t e (p .substitution) (p .before) in (
           substitute (substitutionOr t b) (r .right),
           member-flatMap (λ (r : Rule). resultsBy R r t) (p .isRule)
               (Memᴰ·map (λ (b : Bindings). substitute (substitutionOr t b) (r .right)) k),
-          then (substitute-agree σ (substitutionOr t b) τ (r .right) (right-agrees t b τ a r (p .isRule)
-              λ x f. h .binds x f .1)) (back (p .after)),
+          then d (back (p .after)),
         )

@@ -11,6 +11,7 @@ pub mod Filling
 pub mod FillingSize
 pub mod Holes
 pub mod Pieces
+pub mod Search
 pub mod Pooling
 pub mod MatchingStatements
 pub mod Statements

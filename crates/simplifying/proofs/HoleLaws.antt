@@ -26,7 +26,7 @@ use Rattle.simplifying.specs.Holes.{wordsBefore, wordsAfter, imageWords}
 
 -- ---- a filled context
 
-wordsOf-append : (ss ts : List Term) →
+pub wordsOf-append : (ss ts : List Term) →
     wordsOf (arguments (ss ++ ts)) ≡ wordsOf (arguments ss) ++ wordsOf (arguments ts)
 wordsOf-append [] ts = refl
 wordsOf-append (s ∷ ss) ts =

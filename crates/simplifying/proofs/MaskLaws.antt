@@ -1,6 +1,7 @@
 -- Masks: the numbers within a mask, and the parts of a list that they take.
 --     within-bits, of-bits, within-le       by the lowest bit and the others
 --     within-and, within-next               the numbers within a mask, from the greatest down
+--     masked-off, masked-on                 the first element, by the lowest bit
 --     masked-parted, parted-masked          a mask within another splits what that one takes in two
 --     masked-none, masked-all, masked-some  no bit, all bits, some bit
 use mathlib.Core.List.{List, [], _∷_}
@@ -60,11 +61,11 @@ within-next =
 -- ---- what a mask takes
 
 module _ {A : Type 0} where
-  masked-off : (m : ℕ) (a : A) (l : List A) → m % 2 ≡ 0 → masked m (a ∷ l) ≡ masked (m / 2) l
+  pub masked-off : (m : ℕ) (a : A) (l : List A) → m % 2 ≡ 0 → masked m (a ∷ l) ≡ masked (m / 2) l
   unfolding masked
   masked-off m a l e = rw (ne-eqb (m % 2) 1 λ d. omega arith)
 
-  masked-on : (m : ℕ) (a : A) (l : List A) → m % 2 ≡ 1 → masked m (a ∷ l) ≡ a ∷ masked (m / 2) l
+  pub masked-on : (m : ℕ) (a : A) (l : List A) → m % 2 ≡ 1 → masked m (a ∷ l) ≡ a ∷ masked (m / 2) l
   unfolding masked
   masked-on m a l e = rw (eq-eqb (m % 2) 1 e)
 

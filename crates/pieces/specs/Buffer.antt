@@ -1,0 +1,16 @@
+-- Words stored in a buffer.
+use mathlib.Core.List.{List}
+use mathlib.Core.Path.{_≡_}
+use Prim.Native.Nat.{ℕ, _+_}
+use lib.ListN.{length}
+use lib.Seq.{sets}
+
+-- The buffer l with the words ws from an offset on.
+pub record Stored (l : List ℕ) (at : ℕ) (ws out : List ℕ) : Type 0 where
+  pub stored : out ≡ sets l at ws
+  pub room : length out ≡ 48
+
+-- The same, and the offset after them.
+pub record Put (l : List ℕ) (at : ℕ) (ws : List ℕ) (end : ℕ) (out : List ℕ) : Type 0 where
+  pub after : end ≡ at + length ws
+  pub there : Stored l at ws out

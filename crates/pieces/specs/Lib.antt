@@ -1,0 +1,3 @@
+-- What the contracts of pieces say.
+pub mod Buffer
+pub mod Sums

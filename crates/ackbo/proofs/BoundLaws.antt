@@ -51,7 +51,8 @@ use Rattle.operations.specs.Enumerating.{isSize, maxTerms, termCount, countedTe
 use Rattle.operations.proofs.PickingLaws.{SideWithin, picked-accepted, picked-within}
 use Rattle.operations.specs.declared.GreaterSide.{GreaterSide}
 use Rattle.operations.specs.declared.GreaterSide.the-variants.{Left, Right, Equivalent, Unrelated}
-use Rattle.operations.specs.Marking.{summaryOf, marksOf, isDecreasing, decreasingCount, marked}
+use Rattle.terms.specs.Marks.{isDecreasing}
+use Rattle.operations.specs.Marking.{summaryOf, marksOf, decreasingCount, marked}
 use Rattle.operations.specs.Page.{page}
 use Rattle.operations.specs.Paging.{entriesOf, lineBytes, paged}
 use Rattle.operations.proofs.ScoreLaws.{score-le}

@@ -17,7 +17,7 @@ use Rattle.multisets.proofs.MultisetMaps.{choose-length}
 use Rattle.multisets.proofs.Relations.{byTest}
 use Rattle.terms.specs.Order.{mark}
 use Rattle.terms.specs.Rewriting.{Rule}
-use Rattle.theory.specs.Statements.{IsDecreasing}
+use Rattle.terms.specs.Marks.{isDecreasing}
 use Rattle.format.specs.Reading.Reading.{got}
 use Rattle.format.specs.Format.{RuleFile, systemOf}
 use Rattle.format.specs.Files.{readBytes}
@@ -25,7 +25,7 @@ use Rattle.format.specs.Errors.{marksTooShort}
 use Rattle.operations.specs.Replies.{Reply, Written, _>>_, demand, outcome}
 use Rattle.operations.specs.Replies.Reply.{accepted, refused}
 use Rattle.operations.specs.declared.Summary.{Summary}
-use Rattle.operations.specs.Marking.{marksOf, isDecreasing, decreasingCount, summaryOf, marked}
+use Rattle.operations.specs.Marking.{marksOf, decreasingCount, summaryOf, marked}
 
 -- ---- lists
 
@@ -56,16 +56,6 @@ chosen-all f p [] h = refl
 chosen-all f p (a ∷ l) h = rw (h a (List·Memᴰ·head refl)) (ap suc (chosen-all f p l λ b m. h b (List·Memᴰ·tail m)))
 
 -- ---- marking
-
-pub test-of-marks : (m : ℕ) → IsDecreasing m → isDecreasing m ≡ true
-test-of-marks m (inl (a, b)) = rw (le-leb 1 m a, le-leb m 6 b)
-test-of-marks m (inr e) = rw e
-
-pub marks-of-test : (m : ℕ) → isDecreasing m ≡ true → IsDecreasing m
-marks-of-test m e =
-    byTest (leb 1 m && leb m 6)
-    (λ t. let (a, b) = and-eq-true-iff (leb 1 m) (leb m 6) .0 t in inl (leb-true 1 m a, leb-true m 6 b))
-    λ t. inr (eqb-true m 11 (rw t at e))
 
 pub length-rules : (file : RuleFile) → length (systemOf file .rules) ≡ length (file .rules)
 length-rules file = length-map (file .rules) _

@@ -28,7 +28,8 @@ use Rattle.format.specs.Statements.{IsRead}
 use Rattle.format.specs.Statements.IsRead.{fromBytes}
 use Rattle.format.proofs.SymbolLaws.{ones-of-plain}
 use Rattle.format.proofs.Theorems.{readable-well-formed}
-use Rattle.operations.specs.Marking.{marksOf, isDecreasing, summaryOf}
+use Rattle.operations.specs.Marking.{marksOf, summaryOf}
+use Rattle.terms.specs.Marks.{isDecreasing}
 use Rattle.operations.specs.Inputs.{readTerms, readInputs}
 use Rattle.operations.specs.Comparing.{comparison, compared}
 use Rattle.operations.specs.Picking.{picked}
@@ -41,7 +42,7 @@ use Rattle.guarantees.specs.Guarantees.{CountedAll, CountTells}
 use Rattle.guarantees.specs.Guarantees.{Like, LikeComparisonsAgree, LikeFingerprintsAgree, MarksExact}
 use Rattle.guarantees.specs.Guarantees.{FallingCounted}
 use Rattle.guarantees.specs.Guarantees.{LikeVariableTestsAgree}
-use Rattle.guarantees.proofs.MarkedLaws.{test-of-marks, marks-of-test, all-decreasing, marks-accepted}
+use Rattle.guarantees.proofs.MarkedLaws.{all-decreasing, marks-accepted}
 use Rattle.guarantees.proofs.MarkedLaws.{counted-all, mark-written, falling-counted}
 use Rattle.guarantees.proofs.MarkedLaws.{length-rules, getD-member}
 use Rattle.guarantees.proofs.LikeLaws.{AlikeInputs, refusals, comparison-like, terms-like, replies-agree}
@@ -98,13 +99,13 @@ module _ (bytes : List ℕ) (file : RuleFile) (h : Holds bytes file) where
   rules-decrease a r m =
       let (v, w) = rules-formed r m in
       let e = all-decreasing bytes (a .marks) file (h .0) (h .1) (a .summary) (a .reply) (a .all) r m in
-      decreasing-marks (file .signature) admissible (r .left) (r .right) v w .1 (marks-of-test _ e)
+      decreasing-marks (file .signature) admissible (r .left) (r .right) v w .1 e
 
   rules-marked : AllDecreasing (systemOf file) → (r : Rule) → List·Memᴰ r (systemOf file .rules) →
       isDecreasing (mark (file .signature) (r .left) (r .right)) ≡ true
   rules-marked a r m =
       let (v, w) = rules-formed r m in
-      test-of-marks _ (decreasing-marks (file .signature) admissible (r .left) (r .right) v w .0 (a r m))
+      decreasing-marks (file .signature) admissible (r .left) (r .right) v w .0 (a r m)
 
 pub readable-order : ReadableOrder
 readable-order bytes file h = let A = admissible bytes file h in record {

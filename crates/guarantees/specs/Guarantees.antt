@@ -14,11 +14,10 @@ use Rattle.terms.specs.Term.Term.{var}
 use Rattle.terms.specs.Words.{words}
 use Rattle.terms.specs.Equivalence.{Equivalent}
 use Rattle.terms.specs.Order.{isGreater}
-use Rattle.terms.specs.Marks.{Marked}
+use Rattle.terms.specs.Marks.{isDecreasing, Marked}
 use Rattle.terms.specs.Article.{Greater}
 use Rattle.terms.specs.Rewriting.{Rule, Context, fill, ExpressionContext, Step, Derivation, stepCount, along}
 use Rattle.terms.specs.Rewriting.{StronglySorted, AllDecreasing}
-use Rattle.theory.specs.Statements.{IsDecreasing}
 use Rattle.format.specs.Reading.Reading.{got}
 use Rattle.format.specs.Format.{RuleFile, systemOf}
 use Rattle.format.specs.Files.{readBytes}
@@ -122,7 +121,7 @@ LikeVariableTestsAgree = (bytes left left' right right' : List ℕ) →
 -- side is greater by the article.
 pub record ExactMark (σ : Signature) (r : Rule) (m : ℕ) : Type 0 where
   pub holds : (k : ℕ) → Marked σ k (r .left) (r .right) ↔ (m ≡ k)
-  pub decreasing : IsDecreasing m ↔ Greater σ (r .left) (r .right)
+  pub decreasing : (isDecreasing m ≡ true) ↔ Greater σ (r .left) (r .right)
 
 abbrev pub MarksExact : Type 0
 MarksExact = (bytes marks : List ℕ) (file : RuleFile) (summary : Summary) → Holds bytes file →

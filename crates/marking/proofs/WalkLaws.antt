@@ -18,7 +18,8 @@ use Rattle.format.specs.Reading.{Source}
 use Rattle.format.specs.Reading.Reading.{fault}
 use Rattle.format.specs.Format.{Sides, RuleFile, ruleReader, rulesReader, systemOf}
 use Rattle.reader.proofs.RuleLaws.{Done, done-none, done-fault, done-more, done-all}
-use Rattle.operations.specs.Marking.{marksOf, marginsOf, isDecreasing, decreasingCount}
+use Rattle.terms.specs.Marks.{isDecreasing}
+use Rattle.operations.specs.Marking.{marksOf, marginsOf, decreasingCount}
 use Rattle.marking.specs.declared.rule.MarkedRule.{MarkedRule}
 use Rattle.answers.specs.declared.Answer.the-variants.{Got, Fault}
 use Rattle.marking.specs.declared.rule.RuleReading.the-variants as rule

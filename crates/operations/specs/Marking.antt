@@ -2,12 +2,12 @@
 -- Renders: 01, "Replies and refusals": "Marking (book, marks). The book, then 12", its reply, and "One mark byte a rule
 -- is written, the rest unchanged."; 02, order 8, of mark 11: "It counts as falling".
 use mathlib.Core.List.{List, map}
-use mathlib.Core.Bool.{Bool, _&&_, _||_}
 use Prim.Native.Nat.{ℕ}
 use lib.IntN.{ℤ}
 use lib.ListN.{length}
-use lib.Dec.{eqb, leb}
+use lib.Dec.{leb}
 use Rattle.multisets.specs.Multiset.{choose}
+use Rattle.terms.specs.Marks.{isDecreasing}
 use Rattle.terms.specs.Order.{mark, margin}
 use Rattle.terms.specs.Rewriting.{System, Rule}
 use Rattle.format.specs.Errors.{marksTooShort}
@@ -23,10 +23,6 @@ marksOf R = map (λ (r : Rule). mark (R .signature) (r .left) (r .right)) (R .ru
 
 abbrev pub marginsOf : System → List ℤ
 marginsOf R = map (λ (r : Rule). margin (R .signature) (r .left) (r .right)) (R .rules)
-
--- A mark of the order: 1 to 6, and 11.
-abbrev pub isDecreasing : ℕ → Bool
-isDecreasing m = (leb 1 m && leb m 6) || eqb m 11
 
 -- The count of the falling rules. 01: of marks 1 to 6.
 abbrev pub decreasingCount : List ℕ → ℕ

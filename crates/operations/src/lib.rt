@@ -7,6 +7,29 @@ pub struct Error {
     pub offset: usize,
 }
 
+// The marks, in the words of a page.
+pub const FALLS_BY_WEIGHT: u8 = 1;
+
+pub const FALLS_BY_RANK: u8 = 2;
+
+pub const FALLS_BY_ARGUMENTS: u8 = 3;
+
+pub const FALLS_BY_HIGH_TERMS: u8 = 4;
+
+pub const FALLS_BY_COUNT: u8 = 5;
+
+pub const FALLS_BY_LOW_TERMS: u8 = 6;
+
+pub const VARIABLE_ADDED: u8 = 7;
+
+pub const LEFT_LIGHTER: u8 = 8;
+
+pub const SIDES_EQUAL: u8 = 9;
+
+pub const NO_CASE: u8 = 10;
+
+pub const FALLS_BY_WRAPPING: u8 = 11;
+
 // A number, such as how many words or bytes were written, or why there is none.
 pub enum NumberReply {
     Accepted(usize),

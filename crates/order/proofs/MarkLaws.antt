@@ -28,7 +28,7 @@ use Rattle.terms.proofs.OrderLaws.{isGreater-unfolds}
 use Rattle.terms.proofs.OftenerLaws.{oftener-some}
 use Rattle.operations.specs.declared.Relation.the-variants.{Greater, Less, Equivalent, Unrelated}
 use Rattle.operations.specs.Comparing.{relation}
-use Rattle.operations.specs.Marking.{isDecreasing}
+use Rattle.terms.specs.Marks.{isDecreasing}
 use Rattle.symbols.specs.Table.{signatureOf}
 use Rattle.subterms.proofs.PartLaws.{symbol}
 use Rattle.order.specs.Compared.{higherMark, rootAt}

@@ -192,7 +192,7 @@ pub fn flattened(
         m,
     );
     if high == 2 {
-        return 4;
+        return operations::FALLS_BY_HIGH_TERMS;
     }
     if high == 0 {
         return 0;
@@ -200,7 +200,7 @@ pub fn flattened(
     let a = left.all;
     let b = right.all;
     if b < a {
-        return 5;
+        return operations::FALLS_BY_COUNT;
     }
     if a < b {
         return 0;

@@ -14,7 +14,7 @@ use weights::totals::first_oftener;
 ghost use mathlib.Core.Path.{_≡_};
 ghost use Prim.Native.Nat.{_<_};
 ghost use lib.ListN.{length, getD};
-ghost use Rattle.operations.specs.Marking.{isDecreasing};
+ghost use Rattle.terms.specs.Marks.{isDecreasing};
 ghost use Rattle.symbols.specs.Table.{signatureOf};
 ghost use Rattle.equivalence.specs.Keys.{BothPrepared};
 ghost use Rattle.equivalence.specs.Offsets.{alikeAt};
@@ -45,7 +45,7 @@ pub fn arguments_mark(
         return flattened(&table, &s, skeys, ssums, 1, &t, tkeys, tsums, 1, f, n);
     }
     if rows_greater(&table, &s, skeys, ssums, 1, &t, tkeys, tsums, 1, n) {
-        return 3;
+        return operations::FALLS_BY_ARGUMENTS;
     }
     0
 }
@@ -82,21 +82,24 @@ fn mark_prepared(table: &[u16], adds: &[u64; NODE_SUMS], s: &[u16], t: &[u16]) -
     let mut skeys = [0u64; MAX_NODES];
     let mut tkeys = [0u64; MAX_NODES];
     if prepare_both(table, s, &mut skeys, t, &mut tkeys) {
-        return 9;
+        return operations::SIDES_EQUAL;
     }
     let mut ssums = [0u64; SUMS];
     let mut tsums = [0u64; SUMS];
     sum_up(table, adds, s, &mut ssums);
     sum_up(table, adds, t, &mut tsums);
     let m = arguments_mark(table, s, &skeys, &ssums, t, &tkeys, &tsums);
-    if m > 0 { m } else { 10 }
+    if m > 0 { m } else { operations::NO_CASE }
 }
 
 // The mark where the left of two terms of equal weight has the higher root, by the right one's word.
 fn higher_mark(g: u16) -> u8
     ensures { λ r. ⌜ r ≡ higherMark g ⌝ }
 {
-    if g >= format::FIRST_VARIABLE { 11 } else { 2 }
+    if g >= format::FIRST_VARIABLE {
+        return operations::FALLS_BY_WRAPPING;
+    }
+    operations::FALLS_BY_RANK
 }
 
 // Is it a mark of the order?
@@ -106,10 +109,10 @@ pub fn is_decreasing(mark: u8) -> bool
     if mark == 0 {
         return false;
     }
-    if mark <= 6 {
+    if mark <= operations::FALLS_BY_LOW_TERMS {
         return true;
     }
-    mark == 11
+    mark == operations::FALLS_BY_WRAPPING
 }
 
 // The mark of two terms with these totals, 1 to 11.
@@ -132,13 +135,13 @@ pub fn mark(
     let x = stotal.weight;
     let y = ttotal.weight;
     if first_oftener(stotal, ttotal) < VARIABLES {
-        return 7;
+        return operations::VARIABLE_ADDED;
     }
     if y < x {
-        return 1;
+        return operations::FALLS_BY_WEIGHT;
     }
     if x < y {
-        return 8;
+        return operations::LEFT_LIGHTER;
     }
     let f = s[0];
     let g = t[0];
@@ -148,5 +151,5 @@ pub fn mark(
     if higher(table, f, g) {
         return higher_mark(g);
     }
-    10
+    operations::NO_CASE
 }

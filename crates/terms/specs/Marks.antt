@@ -1,10 +1,11 @@
--- What each of the marks 1 to 11 asks of a left and a right side.
+-- Which of the marks 1 to 11 count as falling, and what each asks of a left and a right side.
 -- Renders: 01, "The order", marks 1 to 6 and "Otherwise: 7 a variable occurs oftener on the right; else 8 the left
 -- weighs less; else 9 the sides are AC-equal; else 10."; 02, order 8: "Mark 11, weights equal, means that the right
 -- side is a variable and the left that variable under one or more copies of the wrapper".
 use mathlib.Core.Path.{_≡_}
-use mathlib.Core.Bool.{true, false}
+use mathlib.Core.Bool.{Bool, true, false, _&&_, _||_}
 use Prim.Native.Nat.{ℕ, _≤_, _<_}
+use lib.Dec.{eqb, leb}
 use lib.ListN.{length}
 use Rattle.terms.specs.Signature.{Signature, symbolOf, ZeroWeightUnary}
 use Rattle.terms.specs.Term.{Term, Terms, row, weight, variableCoefficient, variableCount, flattenings}
@@ -13,6 +14,11 @@ use Rattle.multisets.specs.Multiset.{rowGreater}
 use Rattle.terms.specs.Equivalence.{Equivalent, isEquivalent}
 use Rattle.terms.specs.Iterated.{Iterated}
 use Rattle.terms.specs.Order.{highGreater, highEqual, lowGreater, isGreater}
+
+-- The marks that count as falling. 01: "s is greater than t if one of them holds", of 1 to 6; 02, order 8, of mark 11:
+-- "It counts as falling".
+abbrev pub isDecreasing : ℕ → Bool
+isDecreasing m = (leb 1 m && leb m 6) || eqb m 11
 
 module _ (σ : Signature) where
   -- No variable occurs oftener in t, counted with the coefficients.

@@ -4,14 +4,14 @@
 --     mark-equivalent             mark 9 is that of AC-equivalent sides
 --     mark-resp-like              AC-equivalent sides have the same mark
 --     oftener-found, found-oftener     mark 7 is that of the variable test
-use mathlib.Core.Logic.{_↔_, inl, inr}
+use mathlib.Core.Logic.{_↔_}
 use mathlib.Core.Path.{_≡_, refl, sym, _∙_}
-use mathlib.Core.Bool.{Bool, true, false, cond, not, true≢false}
+use mathlib.Core.Bool.{Bool, true, false, cond, _&&_, not, true≢false, and-eq-true-iff as both}
 use Prim.Native.Nat.{ℕ, suc, _≤_, _<_}
 use native.Mathlib.Omega.{arith}
 use lib.ListN.{length}
-use lib.Dec.{ltb}
-use borrow.Author.Tests.{eq-eqb, le-ltb, lt-ltb, ltb-false}
+use lib.Dec.{leb, ltb}
+use borrow.Author.Tests.{eq-eqb, eqb-true, leb-true, le-ltb, lt-ltb, ltb-false}
 use Rattle.terms.specs.Signature.{Signature, symbolOf, Admissible}
 use Rattle.terms.specs.Term.{Term, Terms, flattenings, variableCount, weight, WellFormed}
 use Rattle.terms.specs.Term.Term.{var, app}
@@ -19,10 +19,9 @@ use Rattle.terms.specs.Equivalence.{Equivalent, isEquivalent}
 use Rattle.terms.specs.Order.{noneOftener, highEqual, highGreater, flattenedMark, rootMark, decreasingMark, isGreater}
 use Rattle.terms.specs.Order.{mark}
 use Rattle.terms.specs.Oftener.{firstOftener}
-use Rattle.terms.specs.Marks.{NoneOftener, Balanced, Marked}
+use Rattle.terms.specs.Marks.{isDecreasing, NoneOftener, Balanced, Marked}
 use Rattle.terms.specs.Marks.Marked.{mark1, mark2, mark3, mark4, mark5, mark6, mark7, mark8, mark9, mark10}
 use Rattle.terms.specs.Marks.Marked.{mark11}
-use Rattle.theory.specs.Statements.{IsDecreasing}
 use Rattle.multisets.proofs.Relations.{byTest, byOrder, refuted, like-resp}
 use Rattle.multisets.proofs.MultisetOrder.{multisetGreater-order}
 use Rattle.terms.proofs.TermLaws.{flattenings-formed}
@@ -41,9 +40,10 @@ use Rattle.theory.proofs.FormedLaws.{alike-of-test}
 use Rattle.theory.proofs.StrictOrder.{decreasingMark-resp-like, isGreater-order, greaterFormed}
 use Rattle.theory.proofs.StrictOrder.{greaterFormed-order}
 
-not-decreasing : {k : ℕ} → IsDecreasing k → 6 < k → k < 11 → ⊥
-not-decreasing (inl l) h i = omega arith
-not-decreasing (inr e) h i = omega arith
+not-decreasing : (k : ℕ) → isDecreasing k ≡ true → 6 < k → k < 11 → ⊥
+not-decreasing k e h i =
+    byTest (leb 1 k && leb k 6) (λ t. omega (arith, leb-true k 6 (both (leb 1 k) _ .0 t .1)))
+    λ t. omega (arith, eqb-true k 11 (rw t at e))
 
 module _ (σ : Signature) where
   -- The marks 7 to 10.
@@ -159,23 +159,23 @@ module _ (σ : Signature) where
         power-exact b (root-of-iterated σ (isEquivalent σ) (isGreater σ) i (Iterated→isPower f x i))
 
     pub marked-of-decreases : {s t : Term} → WellFormed σ s → Decreases σ (isEquivalent σ) (isGreater σ) s t →
-        (k : ℕ) × IsDecreasing k × Marked σ k s t
-    marked-of-decreases v (byWeight o h) = (1, inl (omega arith), mark1 o h)
+        (k : ℕ) × (isDecreasing k ≡ true) × Marked σ k s t
+    marked-of-decreases v (byWeight o h) = (1, refl, mark1 o h)
     marked-of-decreases {s} {t} v (byRoot b r) = byRoots v b r
       where
         byRoots : {s t : Term} → WellFormed σ s → Balanced σ s t →
-            RootDecreases σ (isEquivalent σ) (isGreater σ) s t → (k : ℕ) × IsDecreasing k × Marked σ k s t
-        byRoots v b (byPrecedence h) = (2, inl (omega arith), mark2 b h)
-        byRoots v b (byRow c h) = (3, inl (omega arith), mark3 b c h)
-        byRoots v b (byFlattening c (byHigh h)) = (4, inl (omega arith), mark4 b c h)
-        byRoots v b (byFlattening c (byLength e h)) = (5, inl (omega arith), mark5 b c e h)
-        byRoots v b (byFlattening c (byLow e h g)) = (6, inl (omega arith), mark6 b c e h g)
+            RootDecreases σ (isEquivalent σ) (isGreater σ) s t → (k : ℕ) × (isDecreasing k ≡ true) × Marked σ k s t
+        byRoots v b (byPrecedence h) = (2, refl, mark2 b h)
+        byRoots v b (byRow c h) = (3, refl, mark3 b c h)
+        byRoots v b (byFlattening c (byHigh h)) = (4, refl, mark4 b c h)
+        byRoots v b (byFlattening c (byLength e h)) = (5, refl, mark5 b c e h)
+        byRoots v b (byFlattening c (byLow e h g)) = (6, refl, mark6 b c e h g)
         byRoots v b (byPower {f} {x} {ss} e) =
             let i = isPower→Iterated f x f ss e in
             let w : symbolOf σ f .weight ≡ 0 = omega (arith, iterated-weight σ A i, b .weights) in
-            (11, inr refl, mark11 b (record { unary = iterated-unary σ i v; weightless = w }) i)
+            (11, refl, mark11 b (record { unary = iterated-unary σ i v; weightless = w }) i)
 
-    pub decreases-of-marked : {k : ℕ} {s t : Term} → IsDecreasing k → Marked σ k s t →
+    pub decreases-of-marked : {k : ℕ} {s t : Term} → isDecreasing k ≡ true → Marked σ k s t →
         Decreases σ (isEquivalent σ) (isGreater σ) s t
     decreases-of-marked l (mark1 o h) = byWeight o h
     decreases-of-marked l (mark2 b h) = byRoot b (byPrecedence h)
@@ -183,10 +183,10 @@ module _ (σ : Signature) where
     decreases-of-marked l (mark4 b c h) = byRoot b (byFlattening c (byHigh h))
     decreases-of-marked l (mark5 b c e h) = byRoot b (byFlattening c (byLength e h))
     decreases-of-marked l (mark6 b c e h g) = byRoot b (byFlattening c (byLow e h g))
-    decreases-of-marked l (mark7 x h o) = absurd (not-decreasing l (omega arith) (omega arith))
-    decreases-of-marked l (mark8 o h) = absurd (not-decreasing l (omega arith) (omega arith))
-    decreases-of-marked l (mark9 d) = absurd (not-decreasing l (omega arith) (omega arith))
-    decreases-of-marked l (mark10 b h d) = absurd (not-decreasing l (omega arith) (omega arith))
+    decreases-of-marked l (mark7 x h o) = absurd (not-decreasing 7 l (omega arith) (omega arith))
+    decreases-of-marked l (mark8 o h) = absurd (not-decreasing 8 l (omega arith) (omega arith))
+    decreases-of-marked l (mark9 d) = absurd (not-decreasing 9 l (omega arith) (omega arith))
+    decreases-of-marked l (mark10 b h d) = absurd (not-decreasing 10 l (omega arith) (omega arith))
     decreases-of-marked l (mark11 {f} {x} b z i) =
         byRoot b (root-of-iterated σ (isEquivalent σ) (isGreater σ) i (Iterated→isPower f x i))
 
@@ -210,7 +210,7 @@ module _ (σ : Signature) where
     mark-holds s t v w = let (k, m) = some-mark s t v w in rw (mark-exact v w m) m
 
     pub mark-greater : (s t : Term) → WellFormed σ s → WellFormed σ t →
-        isGreater σ s t ≡ true ↔ IsDecreasing (mark σ s t)
+        isGreater σ s t ≡ true ↔ (isDecreasing (mark σ s t) ≡ true)
     mark-greater s t v w = (
       λ e. let (k, l, m) = marked-of-decreases v (isGreater-view σ s t .0 e) in rw (mark-exact v w m) l,
       λ l. isGreater-view σ s t .1 (decreases-of-marked l (mark-holds s t v w)),
@@ -219,7 +219,7 @@ module _ (σ : Signature) where
     pub mark-equivalent : (s t : Term) → WellFormed σ s → WellFormed σ t → mark σ s t ≡ 9 ↔ Equivalent σ s t
     mark-equivalent s t v w = (
       λ e. let no = refuted (isGreater σ s t)
-          λ (g : isGreater σ s t ≡ true). not-decreasing (mark-greater s t v w .0 g) (omega arith) (omega arith) in
+          λ (g : isGreater σ s t ≡ true). not-decreasing (mark σ s t) (mark-greater s t v w .0 g) (omega arith) (omega arith) in
           test-decides σ (A .acBinary) s t v w .0 (nine (noneOftener σ variableCount s t)
           (ltb (weight σ s) (weight σ t)) (isEquivalent σ s t) (sym (mark-otherwise s t no) ∙ e)),
       λ d. mark-exact v w (mark9 d),

@@ -14,7 +14,7 @@ use Rattle.terms.specs.Term.Term.{var, app}
 use Rattle.terms.specs.Equivalence.{Equivalent, argumentsAlike, isEquivalent}
 use Rattle.terms.specs.Order.{decreasingMark, isGreater, mark}
 use Rattle.terms.specs.Oftener.{firstOftener}
-use Rattle.terms.specs.Marks.{Marked}
+use Rattle.terms.specs.Marks.{isDecreasing, Marked}
 use Rattle.terms.specs.Article.{Greater}
 use Rattle.terms.specs.Rewriting.{Context, fill, Substitution, substitute, ExpressionContext, ExpressionSubstitution}
 use Rattle.terms.specs.Rewriting.Context.{inside}
@@ -22,10 +22,6 @@ use Rattle.terms.specs.Rewriting.Context.{inside}
 -- Exactly one of the three.
 abbrev pub ExactlyOne : Type 0 → Type 0 → Type 0 → Type 0
 ExactlyOne A B C = (A × (B → ⊥) × (C → ⊥)) ⊎ (((A → ⊥) × B × (C → ⊥)) ⊎ ((A → ⊥) × (B → ⊥) × C))
-
--- 01 and 02: the marks that count as falling.
-abbrev pub IsDecreasing : ℕ → Type 0
-IsDecreasing k = ((1 ≤ k) × (k ≤ 6)) ⊎ (k ≡ 11)
 
 module _ (σ : Signature) where
   -- For an admissible signature, of any two well-formed terms.
@@ -56,7 +52,7 @@ module _ (σ : Signature) where
 
   -- 01: "s is greater than t if one of them holds", of the marks 1 to 6; 02: and of mark 11.
   abbrev pub DecreasingMarks : Type 0
-  DecreasingMarks = ForWellFormed λ s t. isGreater σ s t ≡ true ↔ IsDecreasing (mark σ s t)
+  DecreasingMarks = ForWellFormed λ s t. isGreater σ s t ≡ true ↔ (isDecreasing (mark σ s t) ≡ true)
 
   -- 02, order 3: a rule has mark 7 exactly if the variable test answers a variable.
   abbrev pub MarkSeven : Type 0

@@ -1,3 +1,4 @@
 -- The laws that the functions' proofs cite, in reading order.
 pub mod CopyLaws
 pub mod PutLaws
+pub mod PieceLaws

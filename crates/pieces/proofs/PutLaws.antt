@@ -56,7 +56,8 @@ module _ (σ : Signature) where
       let e : drop i ws ≡ words t ++ wordsOf (arguments (forestOf σ (drop (i + size t) ws))) =
       sym (forest-words (drop i ws))
       ∙ ap (λ (ts : List Term). wordsOf (arguments ts)) (next σ ws i c 1 (stand-one σ ws i h) (omega arith)) in
-      ap (take (size t)) e ∙ (take-at (words t) (wordsOf (arguments (forestOf σ (drop (i + size t) ws)))) (size t) (length-words t))
+      ap (take (size t)) e ∙ (take-at (words t) (wordsOf (arguments (forestOf σ (drop (i + size t) ws)))) (size t)
+      (length-words t))
 
 -- ---- the walk
 
@@ -125,7 +126,8 @@ module _ {σ : Signature} {f : ℕ} {ws keys : List ℕ} {i n mask : ℕ} (M : M
     unfolding joinedWords
     sum-one h =
         let z : mask / 2 ≡ 0 = omega arith in
-        on (omega arith) ∙ rw (z, own-words) (ap (λ (l : List Term). joinedWords f (words (partAt σ ws i) ∷ map words l))
+        on (omega arith) ∙ rw (z, own-words) (ap (λ (l : List Term). joinedWords f (words (partAt σ ws i) ∷ map words
+        l))
         (masked-none (elementsAt σ f ws (i + w) (n - 1))))
 
     pub sum-on : mask % 2 ≡ 1 → (mask ≡ 1 → ⊥) →
@@ -166,7 +168,8 @@ module _ {σ : Signature} {f : ℕ} {ws keys : List ℕ} {i n mask : ℕ} (M : M
 
     pub put-on : (l : List ℕ) (at : ℕ) (mid out : List ℕ) (r : ℕ) → mask % 2 ≡ 1 → (mask ≡ 1 → ⊥) →
         Stored (set l at f) (at + 1) (take w (drop i ws)) mid →
-        Put mid (at + 1 + w) (sumWords σ f ws (i + w) (n - 1) (mask / 2)) r out → Put l at (sumWords σ f ws i n mask) r out
+        Put mid (at + 1 + w) (sumWords σ f ws (i + w) (n - 1) (mask / 2)) r out → Put l at (sumWords σ f ws i n mask)
+        r out
     put-on l at mid out r h k s p =
         let e = sum-on h k in
         let vs = take w (drop i ws) in

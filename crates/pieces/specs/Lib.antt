@@ -1,3 +1,4 @@
 -- What the contracts of pieces say.
 pub mod Buffer
 pub mod Sums
+pub mod Pieces

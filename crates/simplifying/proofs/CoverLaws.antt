@@ -1,5 +1,5 @@
 -- What a search along a pattern's words covers, and what it reaches.
---     advance-free, -bound, -clash, -arguments, -regroupings     one word: the terms that are yet to be matched after it
+--     advance-free, -bound, -clash, -arguments, -regroupings     one word: what is yet to be matched after it
 --     covers-end, covers-word, covers-none, covers-one           what holds of all that is bound at the end
 --     covers-masks, reached-mask                                 an AC symbol, by the masks within the mask of its sum
 --     reached-word, reached-one                                  one word more is reached

@@ -88,7 +88,8 @@ module _ (σ : Signature) (A : Admissible σ) (f : ℕ) (ac : symbolOf σ f .ac 
     element-place (app g ts) a m w k =
         byTest (eqb f g)
         (λ e. let p = eqb-true f g e in
-        rw (← p) (placed-own ts a m (rw (← p) at (w .1) ∙ A .acBinary f ac) (element-place-in ts a m (w .2) (rw e at k))))
+        rw (← p) (placed-own ts a m (rw (← p) at (w .1) ∙ A .acBinary f ac) (element-place-in ts a m (w .2) (rw e at
+        k))))
         λ e. alone (app g ts) a m (rw e at k)
 
     pub element-place-in : (ts : Terms) (a : Term) (m : List Term) → WellFormeds σ ts → Takes a (flattenings f ts) m →

@@ -30,7 +30,8 @@ pub wordsOf-append : (ss ts : List Term) →
     wordsOf (arguments (ss ++ ts)) ≡ wordsOf (arguments ss) ++ wordsOf (arguments ts)
 wordsOf-append [] ts = refl
 wordsOf-append (s ∷ ss) ts =
-    ap (_++_ (words s)) (wordsOf-append ss ts) ∙ sym (append-assoc (words s) (wordsOf (arguments ss)) (wordsOf (arguments ts)))
+    ap (_++_ (words s)) (wordsOf-append ss ts) ∙ sym (append-assoc (words s) (wordsOf (arguments ss)) (wordsOf
+    (arguments ts)))
 
 pub words-fill : (c : Context) (t : Term) → words (fill c t) ≡ wordsBefore c ++ (words t ++ wordsAfter c)
 words-fill hole t = sym (append-nil (words t))
@@ -46,7 +47,8 @@ pub filled-at : (c : Context) (s t : Term) →
 filled-at c s t =
     let n = holeOffset c in
     let w = words-fill c s in
-    let e : take n (words (fill c s)) ≡ wordsBefore c = rw w (take-at (wordsBefore c) (words s ++ wordsAfter c) n refl) in
+    let e : take n (words (fill c s)) ≡ wordsBefore c = rw w (take-at (wordsBefore c) (words s ++ wordsAfter c) n
+    refl) in
     let k : length (wordsBefore c ++ words s) ≡ n + size s =
     length-append (wordsBefore c) (words s) ∙ ap (_+_ n) (length-words s) in
     let d : drop (n + size s) (words (fill c s)) ≡ wordsAfter c =

@@ -79,7 +79,8 @@ module _ {A : Type 0} where
       let ih : Parted (masked (m / 2) l) (masked (a / 2) l) (masked ((m - a) / 2) l) =
       rw d (masked-parted l (a / 2) (m / 2) v) in
       byOrder (m % 2) 1
-      (λ h. rw (masked-off m b l (omega arith), masked-off a b l (omega arith), masked-off (m - a) b l (omega arith)) ih)
+      (λ h. rw (masked-off m b l (omega arith), masked-off a b l (omega arith), masked-off (m - a) b l (omega arith))
+      ih)
       λ h. byOrder (a % 2) 1
       (λ i. rw (masked-on m b l (omega arith), masked-off a b l (omega arith), masked-on (m - a) b l (omega arith))
       (onRight ih))
@@ -162,5 +163,9 @@ module _ {A : Type 0} where
   masked-some [] m h k = absurd (omega arith)
   masked-some (a ∷ l) m h k =
       byOrder (m % 2) 1
-      (λ i. rw (masked-off m a l (omega arith)) (masked-some l (m / 2) (omega arith) (omega (arith, pow-suc 2 (length l)))))
+      (λ i. rw (masked-off m a l (omega arith)) (masked-some l (m / 2) (omega arith) (omega (
+        arith,
+        pow-suc 2 (length
+            l),
+      ))))
       λ i. rw (masked-on m a l (omega arith)) (omega arith)

@@ -119,7 +119,8 @@ module _ (R : System) (A : Admissible (R .signature)) where
         h .agrees (substitutionOr t b) (λ x. agrees-own σ t (b x)) .1,
       )
 
-  pub match-complete : (r : Rule) → ((x : ℕ) → occurrences x (r .left) ≡ 0 → occurrences x (r .right) ≡ 0) → (t : Term) →
+  pub match-complete : (r : Rule) → ((x : ℕ) → occurrences x (r .left) ≡ 0 → occurrences x (r .right) ≡ 0) → (t :
+      Term) →
       Expression σ t → (τ : Substitution) → Equivalent σ t (substitute τ (r .left)) →
       (b : Bindings) × List·Memᴰ b (matches σ (r .left) t unbound) ×
       Equivalent σ (substitute (substitutionOr t b) (r .right)) (substitute τ (r .right))

@@ -13,7 +13,8 @@ use Rattle.multisets.specs.Multiset.{multisetEqual}
 use Rattle.multisets.proofs.Relations.{byTest, eqb-self}
 use Rattle.multisets.proofs.MultisetLaws.{Takes, takes-member, multisetEqual-split}
 use Rattle.terms.specs.Signature.{Signature, symbolOf, Admissible}
-use Rattle.terms.specs.Term.{Term, Terms, arguments, occurrences, variableCount, flattening, flattenings, WellFormed, Expression}
+use Rattle.terms.specs.Term.{Term, Terms, arguments, occurrences, variableCount, flattening, flattenings, WellFormed}
+use Rattle.terms.specs.Term.{Expression}
 use Rattle.terms.specs.Term.Term.{var, app}
 use Rattle.terms.specs.Term.Terms.{nil, cons}
 use Rattle.terms.specs.Equivalence.{pair, Equivalent, isEquivalent}
@@ -27,7 +28,8 @@ use Rattle.terms.specs.Rewriting.Context.{hole, inside}
 use Rattle.terms.proofs.EquivalenceComplete.{Equivalent→isEquivalent}
 use Rattle.terms.proofs.EquivalenceLaws.{symbol-of-isEquivalent, arguments-of-isEquivalent}
 use Rattle.terms.proofs.EquivalenceMeasures.{formed-resp-equivalent, expression-resp-equivalent}
-use Rattle.terms.proofs.EquivalenceSound.{isEquivalent→Equivalent, bothFull, from-full, same-trans, join-resp, same-refl}
+use Rattle.terms.proofs.EquivalenceSound.{isEquivalent→Equivalent, bothFull, from-full, same-trans, join-resp}
+use Rattle.terms.proofs.EquivalenceSound.{same-refl}
 use Rattle.terms.proofs.RewritingLaws.{fill-resp-equivalent}
 use Rattle.terms.proofs.TermLaws.{row-each, among-member, flattenings-each}
 use Rattle.terms.proofs.VariableLaws.{expressions, not-ground, occurrences-past}
@@ -166,7 +168,8 @@ module _ (R : System) (A : Admissible (R .signature)) where
         before = d;
         after = same;
       })
-      how (besideRest {r} {f} i q ac) (x, d) = besideAt (extended-beside R f variableCount ac r i (substitutionOr t b) x t
+      how (besideRest {r} {f} i q ac) (x, d) = besideAt (extended-beside R f variableCount ac r i (substitutionOr t b)
+          x t
           (substitute (substitutionOr t b) (extended f variableCount r .right)) d same)
 
   -- ---- complete
@@ -179,7 +182,8 @@ module _ (R : System) (A : Admissible (R .signature)) where
 
     by-match : (c : Context) (t : Term) → s ≡ fill c t → (r : Rule) → Tried R r →
         ((x : ℕ) → occurrences x (r .left) ≡ 0 → occurrences x (r .right) ≡ 0) → (τ : Substitution) →
-        Equivalent σ t (substitute τ (r .left)) → (v : Term) → Equivalent σ (fill c (substitute τ (r .right))) v → Found v
+        Equivalent σ t (substitute τ (r .left)) → (v : Term) → Equivalent σ (fill c (substitute τ (r .right))) v →
+        Found v
     by-match c t q r h x τ d v k =
         let (b, m, y) = match-complete R A r x t (fill-part c t (rw q at e)) τ d in
         (fill c (substitute (substitutionOr t b) (r .right)), all c t q r h b m, then (fill-resp-equivalent σ c y) k)
@@ -193,14 +197,16 @@ module _ (R : System) (A : Admissible (R .signature)) where
         occurrences x (extended f variableCount r .left) ≡ 0 → occurrences x (extended f variableCount r .right) ≡ 0
     extended-variables f r m x h = omega (arith, rule-variables R A W D r m x (omega arith))
 
-    root-of : (f : ℕ) (us : Terms) (t : Term) → Expression σ t → Equivalent σ t (app f us) → (ts : Terms) × (t ≡ app f ts)
+    root-of : (f : ℕ) (us : Terms) (t : Term) → Expression σ t → Equivalent σ t (app f us) → (ts : Terms) × (t ≡ app f
+        ts)
     root-of f us (var x) h d = absurd (not-ground x (h .1))
     root-of f us (app g ts) h d =
         (ts, ap (λ (n : ℕ). app n ts) (symbol-of-isEquivalent σ g f ts us (Equivalent→isEquivalent σ d)))
 
     by-beside : (c : Context) (t u : Term) → s ≡ fill c t → Beside R t u → Found (fill c u)
     by-beside c t u q p =
-        let (v, w) = W (p .rule) (p .isRule) in go (left-symbol (p .rule .left) (p .rule .right) w (D (p .rule) (p .isRule)))
+        let (v, w) = W (p .rule) (p .isRule) in go (left-symbol (p .rule .left) (p .rule .right) w (D (p .rule)
+        (p .isRule)))
       where
         f : ℕ
         f = p .symbol

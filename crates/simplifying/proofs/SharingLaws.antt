@@ -140,7 +140,8 @@ module _ (σ : Signature) (f : ℕ) (ac : symbolOf σ f .ac ≡ true) (shared : 
           (same-trans σ (same-trans σ (parted-bunch σ f ac q) (join-resp σ f (rw x at (a .sum)) (rw z at (b .sum))))
           (same-sym σ (bunch-append σ f ac (map either (sharedIn shared p)) (map either (sharedIns shared ps)))))
 
-      sharing-each : Sharing (sharedIns shared (cons p ps)) l λ υ. Equivalents σ (cons t ts) (substituteIn υ (cons p ps))
+      sharing-each : Sharing (sharedIns shared (cons p ps)) l λ υ. Equivalents σ (cons t ts) (substituteIn υ (cons p
+          ps))
       sharing-each =
           record {
             substitution = either;
@@ -184,7 +185,8 @@ module _ (σ : Signature) (f : ℕ) (ac : symbolOf σ f .ac ≡ true) (shared : 
     abbrev put : ℕ → Term → Substitution → Substitution
     put x t κ y = cond (eqb x y) t (κ y)
 
-    put-image : (x : ℕ) (t : Term) (κ : Substitution) → Image t → ((y : ℕ) → Image (κ y)) → (y : ℕ) → Image (put x t κ y)
+    put-image : (x : ℕ) (t : Term) (κ : Substitution) → Image t → ((y : ℕ) → Image (κ y)) → (y : ℕ) → Image (put x t κ
+        y)
     put-image x t κ h k y = byTest (eqb x y) (λ e. rw e h) λ e. rw e (k y)
 
     put-other : (x : ℕ) (t : Term) (κ : Substitution) (y : ℕ) → (x ≡ y → ⊥) → put x t κ y ≡ κ y

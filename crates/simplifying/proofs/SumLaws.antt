@@ -44,7 +44,8 @@ module _ (f : ℕ) where
   words-joined : (t : Term) (l : List Term) → words (joined f t l) ≡ joinedWords f (words t ∷ map words l)
   unfolding joinedWords
   words-joined t [] = refl
-  words-joined t (u ∷ l) = ap (λ (ws : List ℕ). f ∷ (words t ++ ws)) (append-nil (words (joined f u l)) ∙ words-joined u l)
+  words-joined t (u ∷ l) = ap (λ (ws : List ℕ). f ∷ (words t ++ ws)) (append-nil (words (joined f u l)) ∙ words-joined
+      u l)
 
   pub words-sum : (l : List Term) → 0 < length l → words (sumOf f l) ≡ joinedWords f (map words l)
   words-sum [] h = absurd (omega arith)
@@ -96,7 +97,8 @@ module _ (f : ℕ) where
     unfolding regroupings
     divided-regroupings us d =
         let r : Rest Term = record { left = masked (d .mask) l; right = masked (m - d .mask) l } in
-        let x : List·Memᴰ r (splits (flattenings f ts)) = rw e (parted-splits (masked-parted l (d .mask) m (d .within))) in
+        let x : List·Memᴰ r (splits (flattenings f ts)) = rw e (parted-splits (masked-parted l (d .mask) m
+        (d .within))) in
         let k : List·Memᴰ us (split r) =
         rw (sum-some (masked (d .mask) l) (d .some), sum-some (masked (m - d .mask) l) (d .rest), d .isPair)
         (List·Memᴰ·head refl) in

@@ -1,3 +1,4 @@
+-- The bits that a - 1 has in common with the mask are less than a.
 use mathlib.Core.Path.{refl}
 use Prim.Native.Nat.{_-_}
 use native.Mathlib.Omega.{arith}
@@ -5,14 +6,10 @@ use lib.Bits.{and-le-l}
 use borrow.Author.Needs.{needs}
 use Rattle.pieces.proofs.masks.next_within.Statement.{statement}
 use Rattle.pieces.proofs.masks.next_within.Tie as tie
-use Rattle.pieces.proofs.masks.next_within.Reads as reads
-use Rattle.pieces.proofs.masks.next_within.Lts as lts
 
--- src/masks.rt:11:6
 sub-result : tie.Need-sub-result
 sub-result c = search needs
 
--- src/masks.rt:7:1
 returns : tie.Need-returns
 returns c = (refl, omega (arith, and-le-l (c .args .a - 1) (c .args .mask)))
 

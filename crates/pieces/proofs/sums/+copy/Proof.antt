@@ -1,3 +1,4 @@
+-- One word is stored, and then the others; the count falls.
 use borrow.Author.Needs.{needs}
 use native.Mathlib.Omega.{arith}
 use mathlib.Core.Path.{_∙_}
@@ -22,54 +23,47 @@ copy-at t = and 3 copy-kinds.ps (is 3 copy-kinds.ps μ-copy t) copy.Pre
 abbrev copy-below : ℕ → In 3 copy-kinds.ps
 copy-below t = and 3 copy-kinds.ps (falls 3 copy-kinds.ps _<_ μ-copy t) copy.Pre
 
--- src/sums.rt:22:19
-copy-mul-out : (t : ℕ) → copy-lts.Need-mul-out (copy-below t, copy.Post) (copy-at t) copy.Post
+abbrev copy-claims : ℕ → copy-lts.Claims
+copy-claims t = (copy-below t, copy.Post)
+
+copy-mul-out : (t : ℕ) → copy-lts.Need-mul-out (copy-claims t) (copy-at t) copy.Post
 copy-mul-out t c = search needs
 
--- src/sums.rt:22:19
 copy-index-1-out :
-    (t : ℕ) → copy-lts.Need-index-1-out (copy-below t, copy.Post) (copy-at t) copy.Post
+    (t : ℕ) → copy-lts.Need-index-1-out (copy-claims t) (copy-at t) copy.Post
 copy-index-1-out t c = search needs
 
--- src/sums.rt:22:9
-copy-mul-out-2 : (t : ℕ) → copy-lts.Need-mul-out-2 (copy-below t, copy.Post) (copy-at t) copy.Post
+copy-mul-out-2 : (t : ℕ) → copy-lts.Need-mul-out-2 (copy-claims t) (copy-at t) copy.Post
 copy-mul-out-2 t c = search needs
 
--- src/sums.rt:22:9
 copy-element-write-out :
-    (t : ℕ) → copy-lts.Need-element-write-out (copy-below t, copy.Post) (copy-at t) copy.Post
+    (t : ℕ) → copy-lts.Need-element-write-out (copy-claims t) (copy-at t) copy.Post
 copy-element-write-out t c = search needs
 
--- src/sums.rt:23:21
-copy-add-copy : (t : ℕ) → copy-lts.Need-add-copy (copy-below t, copy.Post) (copy-at t) copy.Post
+copy-add-copy : (t : ℕ) → copy-lts.Need-add-copy (copy-claims t) (copy-at t) copy.Post
 copy-add-copy t c = search needs
 
--- src/sums.rt:23:31
-copy-sub-copy : (t : ℕ) → copy-lts.Need-sub-copy (copy-below t, copy.Post) (copy-at t) copy.Post
+copy-sub-copy : (t : ℕ) → copy-lts.Need-sub-copy (copy-claims t) (copy-at t) copy.Post
 copy-sub-copy t c = search needs
 
--- src/sums.rt:23:47
 copy-add-copy-2 :
-    (t : ℕ) → copy-lts.Need-add-copy-2 (copy-below t, copy.Post) (copy-at t) copy.Post
+    (t : ℕ) → copy-lts.Need-add-copy-2 (copy-claims t) (copy-at t) copy.Post
 copy-add-copy-2 t c = search needs
 
--- src/sums.rt:23:9
 copy-copy-requires :
-    (t : ℕ) → copy-lts.Need-copy-requires (copy-below t, copy.Post) (copy-at t) copy.Post
+    (t : ℕ) → copy-lts.Need-copy-requires (copy-claims t) (copy-at t) copy.Post
 copy-copy-requires t c κs = (
   omega arith,
   ((omega arith, omega arith), (omega arith, simp length-set (c .before .before .before .pre .1 .1 .1))),
 )
 
--- src/sums.rt:16:1
-copy-returns : (t : ℕ) → copy-lts.Need-returns (copy-below t, copy.Post) (copy-at t) copy.Post
+copy-returns : (t : ℕ) → copy-lts.Need-returns (copy-claims t) (copy-at t) copy.Post
 copy-returns t c =
     let a = c .before .before .before .before .args in
     copy-more (a .out .now) (a .words .now .now) _ (a .from) (a .count) (a .at) (omega arith) (omega arith)
     (c .copy .ensures)
 
--- src/sums.rt:16:1
-copy-returns-2 : (t : ℕ) → copy-lts.Need-returns-2 (copy-below t, copy.Post) (copy-at t) copy.Post
+copy-returns-2 : (t : ℕ) → copy-lts.Need-returns-2 (copy-claims t) (copy-at t) copy.Post
 copy-returns-2 t c =
     let a = c .before .args in
     copy-none (a .out .now) (a .words .now .now) (a .from) (a .count) (a .at) (omega arith) (c .before .pre .1 .1 .1)
@@ -79,7 +73,7 @@ pub +copy-spec : {M : Type 1} → statement M
     close
     μ-copy
     λ t. copy-lts.spec
-    (copy-below t, copy.Post)
+    (copy-claims t)
     (copy-at t)
     copy.Post
     (copy-mul-out t)

@@ -2,3 +2,4 @@
 pub mod CopyLaws
 pub mod PutLaws
 pub mod PieceLaws
+pub mod SameLaws

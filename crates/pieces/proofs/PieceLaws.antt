@@ -1,12 +1,14 @@
 -- The words of a piece, and of an instance of a pattern.
 --     whole-words, whole-fits, whole-room, put-whole     a whole part
 --     sum-masked, sum-words                              a sum
+--     one-element, more-elements                         a sum of one element is a whole part
 --     instance-none, -symbol, -next, -variable, -after   a pattern, word by word
 use mathlib.Core.List.{List, [], _∷_, _++_, map, flatMap}
 use mathlib.Core.Path.{_≡_, refl, sym, ap, _∙_, subst}
 use Prim.Native.Nat.{ℕ, suc, _+_, _-_, _^_, _≤_, _<_}
 use native.Mathlib.Omega.{arith}
 use native.Mathlib.Numerals.{add-one}
+use lib.Bits.{bitAnd}
 use lib.ListN.{length, getD, take, drop, set, length-append, drop-of-length-le}
 use lib.Seq.{drop-cons}
 use borrow.Author.Tests.{eq-eqb, ne-eqb, lt-ltb, le-ltb}
@@ -17,15 +19,16 @@ use Rattle.terms.specs.Rewriting.{Substitution}
 use Rattle.terms.proofs.WordsLaws.{length-words}
 use Rattle.simplifying.specs.Masks.{masked}
 use Rattle.simplifying.specs.Holes.{imageWords}
-use Rattle.simplifying.proofs.MaskLaws.{masked-some}
+use Rattle.simplifying.proofs.MaskLaws.{masked-some, masked-one, masked-two}
+use Rattle.simplifying.proofs.PoolingLaws.{empty-list}
 use Rattle.simplifying.proofs.SumLaws.{words-sum}
 use Rattle.subterms.specs.Parts.{partAt}
 use Rattle.subterms.proofs.PartLaws.{stand-one, stands}
 use Rattle.equivalence.specs.Keys.{Prepared, sizeIn}
 use Rattle.equivalence.proofs.StepLaws.{prepared-size, part-small}
 use Rattle.pieces.specs.Buffer.{Stored, Put}
-use Rattle.pieces.specs.Sums.{sumWords, Masked}
-use Rattle.pieces.specs.Pieces.{elementsOf, pieceAt, IsPiece, imageAt, instanceFrom, Instance}
+use Rattle.pieces.specs.Sums.{sumWords, Masked, IsFirst}
+use Rattle.pieces.specs.Pieces.{elementsOf, pieceAt, IsPiece, instanceFrom, Instance, IsNormal}
 use Rattle.pieces.proofs.CopyLaws.{store-none, store-more, store-then}
 use Rattle.pieces.proofs.PutLaws.{part-words, put-same}
 
@@ -73,6 +76,27 @@ module _ {σ : Signature} {ws keys : List ℕ} (P : Prepared σ ws keys) {i mask
     sum-words =
         rw (ne-eqb mask 0 some) (words-sum (getD ws i 0) (masked mask (elementsOf σ ws i))
         (masked-some (elementsOf σ ws i) mask positive (I .sum positive .1)))
+
+    alone : (r : ℕ) (ts : List Term) → masked mask (elementsOf σ ws i) ≡ partAt σ ws r ∷ ts → ts ≡ [] →
+        pieceAt σ ws r 0 ≡ pieceAt σ ws i mask
+    unfolding pieceAt
+    alone r ts e n = rw (ne-eqb mask 0 some, e, n)
+
+    pub one-element : bitAnd (mask - 1) mask ≡ 0 → (r : ℕ) → IsFirst σ (getD ws i 0) ws i 1 mask r →
+        IsNormal σ ws i mask r 0
+    one-element h r q = record {
+      same = alone r (q .others) (q .first) (empty-list (q .others)
+          (omega (arith, masked-one (elementsOf σ ws i) mask positive h, ap length (q .first))));
+      isPiece = record { inside = q .inside; sum = λ p. absurd (omega arith) };
+      apart = λ p. absurd (omega arith);
+    }
+
+    pub more-elements : 0 < bitAnd (mask - 1) mask → IsNormal σ ws i mask i mask
+    more-elements h = record {
+      same = refl;
+      isPiece = I;
+      apart = λ p. masked-two (elementsOf σ ws i) mask (I .sum p .1) h;
+    }
 
 -- ---- an instance, word by word
 

@@ -28,7 +28,7 @@ use Rattle.equivalence.specs.Keys.{sizeIn}
 use Rattle.equivalence.proofs.StepLaws.{elements-own, elements-other, prepared-size, part-small, step-some}
 use Rattle.equivalence.proofs.StepLaws.{step-own, step-next}
 use Rattle.pieces.specs.Buffer.{Stored, Put}
-use Rattle.pieces.specs.Sums.{sumWords, Masked}
+use Rattle.pieces.specs.Sums.{sumWords, Masked, IsFirst}
 use Rattle.pieces.proofs.CopyLaws.{store-none, store-more, store-then}
 
 -- ---- the words of a part
@@ -81,6 +81,9 @@ module _ {σ : Signature} {f : ℕ} {ws keys : List ℕ} {i n mask : ℕ} (M : M
       stands = step-own (M .prepared) (M .stands) owed-some f e (M .symbol) d;
       bound = rw (← own) (M .bound);
     }
+
+    pub first-own : (r : ℕ) → IsFirst σ f ws (i + 1) (a + (n - 1)) mask r → IsFirst σ f ws i n mask r
+    first-own r q = record { inside = q .inside; others = q .others; first = ap (masked mask) own ∙ q .first }
 
     pub sum-own : sumWords σ f ws i n mask ≡ sumWords σ f ws (i + 1) (a + (n - 1)) mask
     sum-own = ap (λ (l : List Term). joinedWords f (map words (masked mask l))) own
@@ -136,6 +139,23 @@ module _ {σ : Signature} {f : ℕ} {ws keys : List ℕ} {i n mask : ℕ} (M : M
         let l = masked (mask / 2) (elementsAt σ f ws (i + w) (n - 1)) in
         let p = masked-some (elementsAt σ f ws (i + w) (n - 1)) (mask / 2) (omega arith) half-bound in
         on h ∙ rw own-words (joined-more f (words (partAt σ ws i)) (map words l) (omega (arith, length-map l words)))
+
+    -- ---- the first element
+
+    pub first-here : mask % 2 ≡ 1 → IsFirst σ f ws i n mask i
+    first-here h = record {
+      inside = omega (arith, owed-some, M .stands .fits);
+      others = masked (mask / 2) (elementsAt σ f ws (i + w) (n - 1));
+      first = ap (masked mask) others ∙ masked-on mask (partAt σ ws i) (elementsAt σ f ws (i + w) (n - 1)) h;
+    }
+
+    pub first-later : (r : ℕ) → mask % 2 ≡ 0 → IsFirst σ f ws (i + w) (n - 1) (mask / 2) r → IsFirst σ f ws i n mask r
+    first-later r h q = record {
+      inside = q .inside;
+      others = q .others;
+      first = ap (masked mask) others ∙ masked-off mask (partAt σ ws i) (elementsAt σ f ws (i + w) (n - 1)) h
+          ∙ q .first;
+    }
 
     -- ---- room
 

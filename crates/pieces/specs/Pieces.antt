@@ -10,6 +10,7 @@ use Rattle.terms.specs.Term.{Term}
 use Rattle.terms.specs.Words.{firstVariable}
 use Rattle.terms.specs.Rewriting.{Substitution}
 use Rattle.simplifying.specs.Holes.{imageWords}
+use Rattle.simplifying.specs.Masks.{masked}
 use Rattle.simplifying.specs.Pieces.{maskedSum}
 use Rattle.subterms.specs.Parts.{partAt, elementsAt}
 use Rattle.equivalence.specs.Keys.{Prepared}
@@ -55,3 +56,9 @@ module _ (σ : Signature) (ws : List ℕ) (offsets masks ps : List ℕ) where
     pub pattern : IsPattern ps
     pub inside : from ≤ length ps
     pub room : at + length (instanceFrom from) ≤ 48
+
+-- The same piece: a whole part, or a sum of two elements or more.
+pub record IsNormal (σ : Signature) (ws : List ℕ) (i mask offset rest : ℕ) : Type 0 where
+  pub same : pieceAt σ ws offset rest ≡ pieceAt σ ws i mask
+  pub isPiece : IsPiece σ ws offset rest
+  pub apart : 0 < rest → 2 ≤ length (masked rest (elementsOf σ ws offset))

@@ -4,6 +4,7 @@
 --     masked-off, masked-on                 the first element, by the lowest bit
 --     masked-parted, parted-masked          a mask within another splits what that one takes in two
 --     masked-none, masked-all, masked-some  no bit, all bits, some bit
+--     masked-one, masked-two                one bit, more bits
 use mathlib.Core.List.{List, [], _∷_}
 use mathlib.Core.Path.{_≡_, refl, sym, ap, _∙_, subst}
 use Prim.Native.Nat.{ℕ, suc, zero, _+_, _-_, _*_, _/_, _%_, _^_, _≤_, _<_, min}
@@ -12,7 +13,7 @@ use native.Mathlib.Omega.{arith}
 use lib.Arith.{bin-ind}
 use lib.Pow.{pow-pos}
 use lib.ListN.{length}
-use lib.Bits.{bitAnd, and-step, and-le-r}
+use lib.Bits.{bitAnd, and-step, and-le-l, and-le-r, and-self}
 use borrow.Author.Tests.{eq-eqb, ne-eqb}
 use Rattle.multisets.specs.Sorting.{Parted}
 use Rattle.multisets.specs.Sorting.Parted.{parted, onLeft, onRight}
@@ -169,3 +170,43 @@ module _ {A : Type 0} where
             l),
       ))))
       λ i. rw (masked-on m a l (omega arith)) (omega arith)
+
+-- ---- one bit
+
+-- What is left of a mask without its lowest bit, by the lowest bit and the others.
+without-odd : (m : ℕ) → m % 2 ≡ 1 → bitAnd (m - 1) m ≡ 2 * (m / 2)
+without-odd m h =
+    let e : (m - 1) / 2 ≡ m / 2 = omega arith in
+    let d : (m - 1) % 2 ≡ 0 = omega arith in
+    omega (arith, rw (e, d, and-self (m / 2)) at (and-step (m - 1) m))
+
+without-even : (m : ℕ) → m % 2 ≡ 0 → 0 < m → bitAnd (m - 1) m ≡ 2 * bitAnd (m / 2 - 1) (m / 2)
+without-even m h p =
+    let e : (m - 1) / 2 ≡ m / 2 - 1 = omega arith in
+    let d : min ((m - 1) % 2) (m % 2) ≡ 0 = omega arith in
+    omega (arith, rw (e, d) at (and-step (m - 1) m))
+
+module _ {A : Type 0} where
+  pub masked-one : (l : List A) (m : ℕ) → 0 < m → bitAnd (m - 1) m ≡ 0 → length (masked m l) ≤ 1
+  unfolding masked
+  masked-one [] m p h = omega arith
+  masked-one (a ∷ l) m p h =
+      byOrder (m % 2) 1
+      (λ k. rw (masked-off m a l (omega arith))
+      (masked-one l (m / 2) (omega arith) (omega (arith, without-even m (omega arith) p))))
+      λ k.
+      let z : m / 2 ≡ 0 = omega (arith, without-odd m (omega arith)) in
+      rw (masked-on m a l (omega arith), z, masked-none l) (omega arith)
+
+  pub masked-two : (l : List A) (m : ℕ) → m < 2 ^ length l → 0 < bitAnd (m - 1) m → 2 ≤ length (masked m l)
+  unfolding masked
+  masked-two [] m h p = absurd (omega (arith, and-le-l (m - 1) m))
+  masked-two (a ∷ l) m h p =
+      byOrder (m % 2) 1
+      (λ k. rw (masked-off m a l (omega arith)) (masked-two l (m / 2) (omega (arith, pow-suc 2 (length l)))
+      (omega (arith, and-le-r (m - 1) m, without-even m (omega arith) (omega (arith, and-le-r (m - 1) m))))))
+      λ k. rw (masked-on m a l (omega arith)) (omega (
+        arith,
+        masked-some l (m / 2)
+            (omega (arith, without-odd m (omega arith))) (omega (arith, pow-suc 2 (length l))),
+      ))

@@ -15,6 +15,7 @@ pub mod PieceLaws
 pub mod AgendaLaws
 pub mod SumLaws
 pub mod CoverLaws
+pub mod ArrangedPieces
 pub mod ResultLaws
 pub mod ReductSound
 pub mod ElementPlaces

@@ -5,15 +5,16 @@
 --     masked-parted, parted-masked          a mask within another splits what that one takes in two
 --     masked-none, masked-all, masked-some  no bit, all bits, some bit
 --     masked-one, masked-two                one bit, more bits
+--     masked-part                           what a mask takes is a part of the list
 use mathlib.Core.List.{List, [], _∷_}
 use mathlib.Core.Path.{_≡_, refl, sym, ap, _∙_, subst}
 use Prim.Native.Nat.{ℕ, suc, zero, _+_, _-_, _*_, _/_, _%_, _^_, _≤_, _<_, min}
-use native.Mathlib.Nat.{pow-suc}
+use native.Mathlib.Nat.{pow-suc, mod-eq-of-lt}
 use native.Mathlib.Omega.{arith}
 use lib.Arith.{bin-ind}
 use lib.Pow.{pow-pos}
 use lib.ListN.{length}
-use lib.Bits.{bitAnd, and-step, and-le-l, and-le-r, and-self}
+use lib.Bits.{bitAnd, and-step, and-le-l, and-le-r, and-self, and-mask}
 use borrow.Author.Tests.{eq-eqb, ne-eqb}
 use Rattle.multisets.specs.Sorting.{Parted}
 use Rattle.multisets.specs.Sorting.Parted.{parted, onLeft, onRight}
@@ -210,3 +211,10 @@ module _ {A : Type 0} where
         masked-some l (m / 2)
             (omega (arith, without-odd m (omega arith))) (omega (arith, pow-suc 2 (length l))),
       ))
+
+  -- What a mask takes is a part of the list.
+  pub masked-part : (l : List A) (m : ℕ) → m < 2 ^ length l → Parted l (masked m l) (masked (2 ^ length l - 1 - m) l)
+  masked-part l m h =
+      let w : Within m (2 ^ length l - 1) = and-mask m (length l) ∙ mod-eq-of-lt h in
+      subst (λ (k : List A). Parted k (masked m l) (masked (2 ^ length l - 1 - m) l)) (masked-all l)
+      (masked-parted l m (2 ^ length l - 1) w)

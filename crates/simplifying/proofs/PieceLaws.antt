@@ -34,7 +34,7 @@ use Rattle.simplifying.proofs.CanonicalLaws.{bunch-joined, single-of-ro
 use Rattle.simplifying.proofs.CanonicalLaws.{Single}
 
 module _ {A : Type 0} (greater : A → A → Bool) where
-  parted-ascending : {l m n : List A} → Parted l m n → Ascending greater l → Ascending greater m × Ascending greater n
+  pub parted-ascending : {l m n : List A} → Parted l m n → Ascending greater l → Ascending greater m × Ascending greater n
   parted-ascending parted s = (tt, tt)
   parted-ascending (onLeft p) (s, r) =
       let (h, k) = parted-ascending p r in ((λ b i. s b (parted-left p b i), h), k)
@@ -44,7 +44,7 @@ module _ {A : Type 0} (greater : A → A → Bool) where
 module _ (σ : Signature) where
   -- ---- groupings
 
-  abbrev ArrangedBunch : Bunch → Type 0
+  abbrev pub ArrangedBunch : Bunch → Type 0
   ArrangedBunch empty = Unit {0}
   ArrangedBunch (full t) = Arranged σ t
 
@@ -54,7 +54,7 @@ module _ (σ : Signature) where
   pairs-arranged (full s) empty us h k m = absurd (List·Memᴰ·not-nil m)
   pairs-arranged (full s) (full t) us h k m = rw (List·Memᴰ·eq-of-singleton m) (h, (k, tt))
 
-  bunch-arranged : (f : ℕ) (l : List Term) → ((u : Term) → List·Memᴰ u l → Arranged σ u × Single f u) →
+  pub bunch-arranged : (f : ℕ) (l : List Term) → ((u : Term) → List·Memᴰ u l → Arranged σ u × Single f u) →
       Ascending (isGreater σ) l → ArrangedBunch (bunchOf f l)
   bunch-arranged f [] h s = tt
   bunch-arranged f (t ∷ l) h s = rw (bunch-joined f t l) (joined-arranged σ f t l h s)

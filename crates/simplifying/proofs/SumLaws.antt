@@ -1,8 +1,9 @@
 -- Sums of the elements that masks take, and the regroupings of a sum by masks.
---     sum-some, words-sum, joined-more     sums of lists, and their words
+--     sum-some, words-sum, joined-more             sums of lists, and their words
+--     sum-node                                     a sum of two terms or more
 --     regroupings-divided, divided-regroupings     the regroupings of a sum are the masks within its mask
 use mathlib.Core.List.{List, [], _∷_, _++_, map, List·Memᴰ, List·Memᴰ·eq-of-singleton, List·Memᴰ·not-nil}
-use mathlib.Core.List.{List·Memᴰ·head, append-nil}
+use mathlib.Core.List.{List·Memᴰ·head, List·Memᴰ·tail, append-nil}
 use mathlib.Core.Path.{_≡_, refl, sym, ap, _∙_, subst}
 use Prim.Native.Nat.{ℕ, suc, zero, _-_, _^_, _≤_, _<_}
 use native.Mathlib.Omega.{arith}
@@ -24,7 +25,7 @@ use Rattle.simplifying.specs.Matching.{pairs, regroupings}
 use Rattle.simplifying.specs.Pieces.{sumOf, maskedSum, joinedWords}
 use Rattle.simplifying.proofs.MaskLaws.{Splitting, masked-parted, parted-masked, masked-none, masked-some}
 use Rattle.simplifying.proofs.MaskLaws.{within-le}
-use Rattle.simplifying.proofs.CanonicalLaws.{joined, bunch-joined}
+use Rattle.simplifying.proofs.CanonicalLaws.{joined, bunch-joined, Single, flattening-of-joined}
 
 module _ (f : ℕ) where
   pub sum-some : (l : List Term) → 0 < length l → bunchOf f l ≡ full (sumOf f l)
@@ -50,6 +51,23 @@ module _ (f : ℕ) where
   pub words-sum : (l : List Term) → 0 < length l → words (sumOf f l) ≡ joinedWords f (map words l)
   words-sum [] h = absurd (omega arith)
   words-sum (t ∷ l) h = rw (bunch-joined f t l) (words-joined t l)
+
+  -- A sum of two terms or more, none of which has the root f.
+  pub record IsNode (l : List Term) (t : Term) : Type 0 where
+    pub arguments : Terms
+    pub node : t ≡ app f arguments
+    pub elements : flattenings f arguments ≡ l
+
+  pub sum-node : (l : List Term) → ((u : Term) → List·Memᴰ u l → Single f u) → 2 ≤ length l → IsNode l (sumOf f l)
+  sum-node [] h k = absurd (omega arith)
+  sum-node (t ∷ []) h k = absurd (omega arith)
+  sum-node (t ∷ (u ∷ l)) h k = record {
+    arguments = pair t (joined f u l);
+    node = rw (bunch-joined f u l);
+    elements = rw (h t (List·Memᴰ·head refl), append-nil) (ap (_∷_ t)
+        (flattening-of-joined f u l (h u (List·Memᴰ·tail (List·Memᴰ·head refl))) λ v m.
+        h v (List·Memᴰ·tail (List·Memᴰ·tail m))));
+  }
 
   -- ---- regroupings by masks
 

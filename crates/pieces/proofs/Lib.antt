@@ -3,3 +3,4 @@ pub mod CopyLaws
 pub mod PutLaws
 pub mod PieceLaws
 pub mod SameLaws
+pub mod NodeLaws

@@ -2,3 +2,4 @@
 pub mod Buffer
 pub mod Sums
 pub mod Pieces
+pub mod Subject

@@ -1,5 +1,6 @@
 -- Contexts by the words before their open place, and the words of a substituted term.
 --     words-fill                  a filled context: the words before, those of the term, those after
+--     fill-each                   what goes down to the parts
 --     part-at, filled-at          the part at that offset, and the words with another term there
 --     context-at                  each offset is that of a context
 --     words-substitute            a substituted term: word by word
@@ -19,7 +20,7 @@ use Rattle.terms.specs.Term.Terms.{nil, cons}
 use Rattle.terms.specs.Words.{firstVariable, words, wordsOf, forestOf, termOf}
 use Rattle.terms.specs.Rewriting.{Context, fill, Substitution, substitute, substituteIn}
 use Rattle.terms.specs.Rewriting.Context.{hole, inside}
-use Rattle.terms.proofs.TermLaws.{size-pos, arguments-row}
+use Rattle.terms.proofs.TermLaws.{Hereditary, row-each, size-pos, arguments-row, among-member}
 use Rattle.terms.proofs.WordsLaws.{length-words, forestOf-words}
 use Rattle.simplifying.specs.Filling.{Shaped, Shapeds}
 use Rattle.simplifying.specs.Holes.{wordsBefore, wordsAfter, imageWords}
@@ -36,6 +37,13 @@ wordsOf-append (s ∷ ss) ts =
 pub words-fill : (c : Context) (t : Term) → words (fill c t) ≡ wordsBefore c ++ (words t ++ wordsAfter c)
 words-fill hole t = sym (append-nil (words t))
 words-fill (inside f ss c ts) t = ap (_∷_ f) (simp (wordsOf-append, words-fill c t, append-assoc))
+
+-- A property that goes down to the parts holds of what is in the open place.
+pub fill-each : {P : Term → Type 0} {Q : Terms → Type 0} → Hereditary P Q → (c : Context) (t : Term) → P (fill c t) → P t
+fill-each h hole t p = p
+fill-each h (inside f ss c ts) t p =
+    let us = arguments (ss ++ (fill c t ∷ ts)) in
+    fill-each h c t (row-each h (fill c t) us (h .inner f us p) (among-member ss ts (fill c t)))
 
 -- The offset of the open place.
 abbrev pub holeOffset : Context → ℕ

@@ -31,7 +31,7 @@ use Rattle.terms.proofs.EquivalenceMeasures.{formed-resp-equivalent, expression
 use Rattle.terms.proofs.EquivalenceSound.{isEquivalent→Equivalent, bothFull, from-full, same-trans, join-resp}
 use Rattle.terms.proofs.EquivalenceSound.{same-refl}
 use Rattle.terms.proofs.RewritingLaws.{fill-resp-equivalent}
-use Rattle.terms.proofs.TermLaws.{row-each, among-member, flattenings-each}
+use Rattle.terms.proofs.TermLaws.{flattenings-each}
 use Rattle.terms.proofs.VariableLaws.{expressions, not-ground, occurrences-past}
 use Rattle.terms.proofs.WeightLaws.{variable-lightest}
 use Rattle.theory.proofs.DecreasesView.{Decreases, isGreater-view}
@@ -42,6 +42,7 @@ use Rattle.simplifying.specs.Places.{RuleStep, Beside, At, PlaceStep, ex
 use Rattle.simplifying.specs.Places.At.{byRule, besideRest as besideAt}
 use Rattle.simplifying.specs.Search.{Tried, Searched}
 use Rattle.simplifying.specs.Search.Tried.{asItIs, besideRest}
+use Rattle.simplifying.proofs.HoleLaws.{fill-each}
 use Rattle.simplifying.proofs.ElementPlaces.{element-place}
 use Rattle.simplifying.proofs.ReductComplete.{rest-joined}
 use Rattle.simplifying.proofs.ResultLaws.{match-sound, match-complete, rule-variables}
@@ -141,10 +142,7 @@ module _ (R : System) (A : Admissible (R .signature)) where
   -- ---- sound
 
   fill-part : (c : Context) (t : Term) → Expression σ (fill c t) → Expression σ t
-  fill-part hole t e = e
-  fill-part (inside f ss c ts) t e =
-      fill-part c t (row-each (expressions σ) (fill c t) (arguments (ss ++ (fill c t ∷ ts)))
-      (expressions σ .inner f (arguments (ss ++ (fill c t ∷ ts))) e) (among-member ss ts (fill c t)))
+  fill-part = fill-each (expressions σ)
 
   pub searched-sound : (c : Context) (t : Term) (r : Rule) → Expression σ (fill c t) → Tried R r →
       Searched R (PlaceStep R (fill c t)) c t r

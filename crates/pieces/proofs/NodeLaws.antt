@@ -61,7 +61,8 @@ module _ {σ : Signature} {ws : List ℕ} (S : Subject σ ws) where
       elements-part : elementsOf σ ws i ≡ flattening (getD ws i 0) (partAt σ ws i)
       elements-part =
           let f = getD ws i 0 in
-          ap (λ (ts : List Term). flattenings f (arguments (take 1 ts))) (next σ ws i c 1 (stand-one σ ws i h) (omega arith))
+          ap (λ (ts : List Term). flattenings f (arguments (take 1 ts))) (next σ ws i c 1 (stand-one σ ws i h) (omega
+          arith))
           ∙ append-nil (flattening f (partAt σ ws i))
 
       module _ (v : getD ws i 0 < firstVariable) where
@@ -142,7 +143,8 @@ module _ {σ : Signature} {ws : List ℕ} (S : Subject σ ws) where
       let (z, w) = piece-arranged c j other K b in
       let p = pieceAt σ ws i mask in
       let q = pieceAt σ ws j other in
-      sameTest r (isEquivalent σ p q) (λ e. Equivalent→isEquivalent σ (words-same σ (S .admissible) (S .few) p q x z (s .yes e)))
+      sameTest r (isEquivalent σ p q) (λ e. Equivalent→isEquivalent σ (words-same σ (S .admissible) (S .few) p q x z
+      (s .yes e)))
       λ e. byTest r (λ k. k) λ k.
       absurd (s .no k (same-words σ (S .admissible) (S .few) p q x z y w
       (isEquivalent→Equivalent σ (S .admissible .acBinary) p q (x .0) (z .0) e)))

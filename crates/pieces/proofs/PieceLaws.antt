@@ -28,7 +28,7 @@ use Rattle.equivalence.specs.Keys.{Prepared, sizeIn}
 use Rattle.equivalence.proofs.StepLaws.{prepared-size, part-small}
 use Rattle.pieces.specs.Buffer.{Stored, Put}
 use Rattle.pieces.specs.Sums.{sumWords, Masked, IsFirst}
-use Rattle.pieces.specs.Pieces.{elementsOf, pieceAt, IsPiece, instanceFrom, Instance, IsNormal}
+use Rattle.pieces.specs.Pieces.{elementsOf, pieceAt, IsPiece, instanceFrom, Filled, Instance, IsNormal}
 use Rattle.pieces.proofs.CopyLaws.{store-none, store-more, store-then}
 use Rattle.pieces.proofs.PutLaws.{part-words, put-same}
 
@@ -46,7 +46,7 @@ module _ {σ : Signature} {ws keys : List ℕ} (P : Prepared σ ws keys) {i mask
     pub whole-fits : i + w ≤ length ws
     whole-fits = omega (arith, sized, part-small σ ws (P .complete) i (I .inside))
 
-    whole-length : length (words (pieceAt σ ws i mask)) ≡ w
+    pub whole-length : length (words (pieceAt σ ws i mask)) ≡ w
     unfolding pieceAt
     whole-length = rw (eq-eqb mask 0 z) (length-words (partAt σ ws i) ∙ sym sized)
 
@@ -116,74 +116,112 @@ put-then l at vs us n mid r out p q =
       there = store-then l at vs us mid out (p .there) s;
     }
 
-module _ {σ : Signature} {ws offsets masks ps keys : List ℕ} {from at : ℕ}
-    (I : Instance σ ws offsets masks ps keys from at) where
+module _ {σ : Signature} {ws offsets masks ps keys : List ℕ} {from : ℕ}
+    (F : Filled σ ws offsets masks ps keys from) where
   abbrev image : ℕ → List ℕ
   image k = instanceFrom σ ws offsets masks ps k
 
-  pub instance-none : from ≡ length ps → (l : List ℕ) → length l ≡ 48 → Put l at (image from) at l
+  pub filled-none : from ≡ length ps → image from ≡ []
   unfolding flatMap
-  instance-none e l h =
-      let d : drop from ps ≡ [] = drop-of-length-le ps {i = from} (omega arith) in
-      rw d (record { after = omega arith; there = store-none l at h })
+  filled-none e =
+      let d : drop from ps ≡ [] = drop-of-length-le ps {i = from} (omega arith) in rw d
 
   module _ (n : from ≡ length ps → ⊥) where
     pub word-inside : from < length ps
-    word-inside = omega (arith, n, I .inside)
+    word-inside = omega (arith, n, F .inside)
 
     step : drop from ps ≡ getD ps from 0 ∷ drop (from + 1) ps
     step = rw add-one (drop-cons ps from 0 word-inside)
 
-    module _ (v : getD ps from 0 < firstVariable) where
-      symbol-first : image from ≡ getD ps from 0 ∷ image (from + 1)
-      unfolding flatMap
-      symbol-first = rw (step, lt-ltb (getD ps from 0) firstVariable v)
+    pub filled-next : Filled σ ws offsets masks ps keys (from + 1)
+    filled-next = record {
+      prepared = F .prepared;
+      pieces = F .pieces;
+      pattern = F .pattern;
+      inside = omega (arith, word-inside);
+    }
 
-      pub instance-next : Instance σ ws offsets masks ps keys (from + 1) (at + 1)
-      instance-next = record {
-        prepared = I .prepared;
-        pieces = I .pieces;
-        pattern = I .pattern;
-        inside = omega (arith, word-inside);
-        room = omega (arith, I .room, ap length symbol-first);
-      }
-
-      pub instance-symbol : (l : List ℕ) (r : ℕ) (out : List ℕ) →
-          Put (set l at (getD ps from 0)) (at + 1) (image (from + 1)) r out → Put l at (image from) r out
-      instance-symbol l r out p = rw symbol-first (put-symbol l at (getD ps from 0) (image (from + 1)) r out p)
+    pub symbol-first : getD ps from 0 < firstVariable → image from ≡ getD ps from 0 ∷ image (from + 1)
+    unfolding flatMap
+    symbol-first v = rw (step, lt-ltb (getD ps from 0) firstVariable v)
 
     module _ (v : firstVariable ≤ getD ps from 0) {x : ℕ} (e : x ≡ getD ps from 0 - firstVariable) where
       pub variable-small : x < 18
-      variable-small = omega (arith, e, v, I .pattern .nodes from word-inside)
+      variable-small = omega (arith, e, v, F .pattern .nodes from word-inside)
 
       module _ {i : ℕ} (d : i ≡ getD offsets x 0) where
-        abbrev piece : Term
-        piece = pieceAt σ ws i (getD masks x 0)
-
-        variable-first : image from ≡ words piece ++ image (from + 1)
+        pub variable-first : image from ≡ words (pieceAt σ ws i (getD masks x 0)) ++ image (from + 1)
         unfolding flatMap
         variable-first = rw (step, le-ltb (getD ps from 0) firstVariable v, d, e)
 
         pub is-piece : IsPiece σ ws i (getD masks x 0)
-        is-piece = rw d (I .pieces .pieces x variable-small)
+        is-piece = rw d (F .pieces .pieces x variable-small)
 
-        fits : at + length (words piece) + length (image (from + 1)) ≤ 48
-        fits = omega (arith, I .room, ap length variable-first, length-append (words piece) (image (from + 1)))
+        pub size-variable : (k m : ℕ) → k ≡ length (words (pieceAt σ ws i (getD masks x 0))) →
+            m ≡ length (image (from + 1)) → k + m ≡ length (image from)
+        size-variable k m p q =
+            omega (
+              arith,
+              ap length variable-first,
+              length-append (words (pieceAt σ ws i (getD masks x 0))) (image (from + 1)),
+            )
 
-        pub piece-room : at + length (words piece) ≤ 48
-        piece-room = omega (arith, fits)
+    pub size-symbol : getD ps from 0 < firstVariable → (k : ℕ) → k ≡ length (image (from + 1)) →
+        1 + k ≡ length (image from)
+    size-symbol v k q = omega (arith, ap length (symbol-first v))
 
-        module _ {l mid : List ℕ} {k : ℕ} (p : Put l at (words piece) k mid) where
-          pub instance-after : Instance σ ws offsets masks ps keys (from + 1) k
-          instance-after = record {
-            prepared = I .prepared;
-            pieces = I .pieces;
-            pattern = I .pattern;
-            inside = omega (arith, word-inside);
-            room = omega (arith, fits, p .after);
-          }
+  pub size-none : from ≡ length ps → 0 ≡ length (image from)
+  size-none e = sym (ap length (filled-none e))
 
-          pub instance-variable : (r : ℕ) (out : List ℕ) → Put mid k (image (from + 1)) r out → Put l at (image from)
-              r out
-          instance-variable r out q =
-              rw variable-first (put-then l at (words piece) (image (from + 1)) k mid r out p q)
+-- ---- what is put
+
+module _ {σ : Signature} {ws offsets masks ps keys : List ℕ} {from at : ℕ}
+    (I : Instance σ ws offsets masks ps keys from at) where
+  pub instance-none : from ≡ length ps → (l : List ℕ) → length l ≡ 48 →
+      Put l at (instanceFrom σ ws offsets masks ps from) at l
+  instance-none e l h = rw (filled-none (I .filled) e) (record { after = omega arith; there = store-none l at h })
+
+  module _ (n : from ≡ length ps → ⊥) where
+    module _ (v : getD ps from 0 < firstVariable) where
+      pub instance-next : Instance σ ws offsets masks ps keys (from + 1) (at + 1)
+      instance-next = record {
+        filled = filled-next (I .filled) n;
+        room = omega (arith, I .room, ap length (symbol-first (I .filled) n v));
+      }
+
+      pub instance-symbol : (l : List ℕ) (r : ℕ) (out : List ℕ) →
+          Put (set l at (getD ps from 0)) (at + 1) (instanceFrom σ ws offsets masks ps (from + 1)) r out →
+          Put l at (instanceFrom σ ws offsets masks ps from) r out
+      instance-symbol l r out p =
+          rw (symbol-first (I .filled) n v)
+          (put-symbol l at (getD ps from 0) (instanceFrom σ ws offsets masks ps (from + 1)) r out p)
+
+    module _ (v : firstVariable ≤ getD ps from 0) {x i : ℕ} (e : x ≡ getD ps from 0 - firstVariable)
+        (d : i ≡ getD offsets x 0) where
+      abbrev piece : Term
+      piece = pieceAt σ ws i (getD masks x 0)
+
+      first : instanceFrom σ ws offsets masks ps from ≡ words piece ++ instanceFrom σ ws offsets masks ps (from + 1)
+      first = variable-first (I .filled) n v e d
+
+      fits : at + length (words piece) + length (instanceFrom σ ws offsets masks ps (from + 1)) ≤ 48
+      fits =
+          omega (
+            arith,
+            I .room,
+            ap length first,
+            length-append (words piece) (instanceFrom σ ws offsets masks ps (from + 1)),
+          )
+
+      pub piece-room : at + length (words piece) ≤ 48
+      piece-room = omega (arith, fits)
+
+      module _ {l mid : List ℕ} {k : ℕ} (p : Put l at (words piece) k mid) where
+        pub instance-after : Instance σ ws offsets masks ps keys (from + 1) k
+        instance-after = record { filled = filled-next (I .filled) n; room = omega (arith, fits, p .after) }
+
+        pub instance-variable : (r : ℕ) (out : List ℕ) →
+            Put mid k (instanceFrom σ ws offsets masks ps (from + 1)) r out →
+            Put l at (instanceFrom σ ws offsets masks ps from) r out
+        instance-variable r out q =
+            rw first (put-then l at (words piece) (instanceFrom σ ws offsets masks ps (from + 1)) k mid r out p q)

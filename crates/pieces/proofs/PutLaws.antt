@@ -1,5 +1,6 @@
 -- The words of a sum, put word by word: what each end of the walk over the terms shows.
 --     forest-words, part-words                     the words of a part are those that stand there
+--     same-size, size-none, size-one, size-on      how many words
 --     owed-some                                    a mask that takes something finds a term
 --     put-none, put-own, put-off, put-one, put-on  the ends
 use mathlib.Core.List.{List, [], _∷_, _++_, map}
@@ -169,6 +170,15 @@ module _ {σ : Signature} {f : ℕ} {ws keys : List ℕ} {i n mask : ℕ} (M : M
     part-length : length (take w (drop i ws)) ≡ w
     part-length = ap length own-words ∙ length-words (partAt σ ws i) ∙ sym sized
 
+    pub size-one : mask ≡ 1 → w ≡ length (sumWords σ f ws i n mask)
+    size-one h = sym (ap length (sum-one h) ∙ part-length)
+
+    pub size-on : mask % 2 ≡ 1 → (mask ≡ 1 → ⊥) → (k : ℕ) →
+        k ≡ length (sumWords σ f ws (i + w) (n - 1) (mask / 2)) → 1 + w + k ≡ length (sumWords σ f ws i n mask)
+    size-on h d k q =
+        let vs = sumWords σ f ws (i + w) (n - 1) (mask / 2) in
+        omega (arith, ap length (sum-on h d), length-append (take w (drop i ws)) vs, part-length)
+
     pub one-fits : (at : ℕ) → mask ≡ 1 → at + length (sumWords σ f ws i n mask) ≤ 48 → at + w ≤ 48
     one-fits at h k = omega (arith, ap length (sum-one h), part-length)
 
@@ -203,6 +213,15 @@ module _ {σ : Signature} {f : ℕ} {ws keys : List ℕ} {i n mask : ℕ} (M : M
 pub put-same : (l : List ℕ) (at : ℕ) (vs ws : List ℕ) (r : ℕ) (out : List ℕ) → vs ≡ ws → Put l at ws r out →
     Put l at vs r out
 put-same l at vs ws r out e p = rw e p
+
+pub same-size : (k : ℕ) (vs ws : List ℕ) → vs ≡ ws → k ≡ length ws → k ≡ length vs
+same-size k vs ws e h = rw e h
+
+pub size-none : {σ : Signature} {f : ℕ} {ws keys : List ℕ} {i n mask : ℕ} → Masked σ f ws keys i n mask → mask ≡ 0 →
+    0 ≡ length (sumWords σ f ws i n mask)
+unfolding joinedWords
+size-none {σ} {f} {ws} {i} {n} {mask} M e =
+    rw e (sym (ap (λ (ts : List Term). length (joinedWords f (map words ts))) (masked-none (elementsAt σ f ws i n))))
 
 pub put-none : {σ : Signature} {f : ℕ} {ws keys : List ℕ} {i n mask : ℕ} → Masked σ f ws keys i n mask →
     (l : List ℕ) (at : ℕ) → mask ≡ 0 → length l ≡ 48 → Put l at (sumWords σ f ws i n mask) at l

@@ -49,12 +49,16 @@ module _ (σ : Signature) (ws : List ℕ) (offsets masks ps : List ℕ) where
   abbrev pub instanceFrom : ℕ → List ℕ
   instanceFrom from = flatMap (imageWords (imageAt σ ws offsets masks)) (drop from ps)
 
-  -- There are pieces for the pattern's variables, and the instance fits a buffer of 48 words at an offset.
-  pub record Instance (keys : List ℕ) (from at : ℕ) : Type 0 where
+  -- There are pieces for the pattern's variables.
+  pub record Filled (keys : List ℕ) (from : ℕ) : Type 0 where
     pub prepared : Prepared σ ws keys
     pub pieces : ArePieces σ ws offsets masks
     pub pattern : IsPattern ps
     pub inside : from ≤ length ps
+
+  -- And the instance fits a buffer of 48 words at an offset.
+  pub record Instance (keys : List ℕ) (from at : ℕ) : Type 0 where
+    pub filled : Filled keys from
     pub room : at + length (instanceFrom from) ≤ 48
 
 -- The same piece: a whole part, or a sum of two elements or more.

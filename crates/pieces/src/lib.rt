@@ -4,6 +4,7 @@ pub mod comparison;
 pub mod elements;
 pub mod instances;
 pub mod masks;
+pub mod sizes;
 pub mod sums;
 
 // How many words a buffer for an instance of a rule's side holds.

@@ -39,7 +39,8 @@ words-fill hole t = sym (append-nil (words t))
 words-fill (inside f ss c ts) t = ap (_∷_ f) (simp (wordsOf-append, words-fill c t, append-assoc))
 
 -- A property that goes down to the parts holds of what is in the open place.
-pub fill-each : {P : Term → Type 0} {Q : Terms → Type 0} → Hereditary P Q → (c : Context) (t : Term) → P (fill c t) → P t
+pub fill-each : {P : Term → Type 0} {Q : Terms → Type 0} → Hereditary P Q → (c : Context) (t : Term) → P (fill c t) →
+    P t
 fill-each h hole t p = p
 fill-each h (inside f ss c ts) t p =
     let us = arguments (ss ++ (fill c t ∷ ts)) in

@@ -34,7 +34,8 @@ use Rattle.simplifying.proofs.CanonicalLaws.{bunch-joined, single-of-ro
 use Rattle.simplifying.proofs.CanonicalLaws.{Single}
 
 module _ {A : Type 0} (greater : A → A → Bool) where
-  pub parted-ascending : {l m n : List A} → Parted l m n → Ascending greater l → Ascending greater m × Ascending greater n
+  pub parted-ascending : {l m n : List A} → Parted l m n → Ascending greater l → Ascending greater m × Ascending
+      greater n
   parted-ascending parted s = (tt, tt)
   parted-ascending (onLeft p) (s, r) =
       let (h, k) = parted-ascending p r in ((λ b i. s b (parted-left p b i), h), k)

@@ -52,12 +52,12 @@ put-instance-returns t c =
 put-instance-mul-word : (t : ℕ) → put-instance-lts.Need-mul-word (put-instance-claims t) (put-instance-at t)
     put-instance.Post
 put-instance-mul-word t c =
-    let I = c .before .pre .1 .0 in omega (arith, I .inside, I .pattern .short)
+    let I = c .before .pre .1 .0 in omega (arith, I .filled .inside, I .filled .pattern .short)
 
 put-instance-index-1-word : (t : ℕ) → put-instance-lts.Need-index-1-word (put-instance-claims t) (put-instance-at t)
     put-instance.Post
 put-instance-index-1-word t c =
-    word-inside (c .before .pre .1 .0) (c .if1 .left)
+    word-inside (c .before .pre .1 .0 .filled) (c .if1 .left)
 
 put-instance-mul-out : (t : ℕ) → put-instance-lts.Need-mul-out (put-instance-claims t) (put-instance-at t)
     put-instance.Post
@@ -81,7 +81,7 @@ put-instance-element-write-out t c =
 put-instance-add-put-instance : (t : ℕ) → put-instance-lts.Need-add-put-instance (put-instance-claims t)
     (put-instance-at t) put-instance.Post
 put-instance-add-put-instance t c =
-    let I = c .before .before .before .pre .1 .0 in omega (arith, I .inside, I .pattern .short)
+    let I = c .before .before .before .pre .1 .0 in omega (arith, I .filled .inside, I .filled .pattern .short)
 
 put-instance-add-put-instance-2 : (t : ℕ) → put-instance-lts.Need-add-put-instance-2 (put-instance-claims t)
     (put-instance-at t) put-instance.Post
@@ -96,7 +96,12 @@ put-instance-put-instance-requires : (t : ℕ) → put-instance-lts.Need-put-ins
     (put-instance-at t) put-instance.Post
 put-instance-put-instance-requires t c κs =
     let I = c .before .before .before .before .pre .1 .0 in (
-      omega (arith, c .before .before .before .before .pre .0, word-inside I (c .before .before .before .if1 .left)),
+      omega (
+        arith,
+        c .before .before .before .before .pre .0,
+        word-inside (I .filled)
+            (c .before .before .before .if1 .left),
+      ),
       (
         instance-next I (c .before .before .before .if1 .left) (c .before .if2 .taken),
         simp length-set
@@ -117,7 +122,7 @@ put-instance-wide-requires t c κs = search needs
 put-instance-element-copy-out-wide-byte : (t : ℕ) → put-instance-lts.Need-element-copy-out-wide-byte
     (put-instance-claims t) (put-instance-at t) put-instance.Post
 put-instance-element-copy-out-wide-byte t c =
-    variable-small (c .before .before .before .before .pre .1 .0) (c .before .before .before .if1 .left)
+    variable-small (c .before .before .before .before .pre .1 .0 .filled) (c .before .before .before .if1 .left)
     (c .before .if2 .left) (c .wide .ensures .0)
 
 put-instance-wide-byte-requires : (t : ℕ) → put-instance-lts.Need-wide-byte-requires (put-instance-claims t)
@@ -129,7 +134,7 @@ put-instance-mul-put-piece : (t : ℕ) → put-instance-lts.Need-mul-put-piece (
 put-instance-mul-put-piece t c =
     omega (
       arith,
-      variable-small (c .before .before .before .before .before .before .pre .1 .0)
+      variable-small (c .before .before .before .before .before .before .pre .1 .0 .filled)
           (c .before .before .before .before .before .if1 .left) (c .before .before .before .if2 .left)
           (c .before .before .wide .ensures .0),
     )
@@ -137,7 +142,7 @@ put-instance-mul-put-piece t c =
 put-instance-element-copy-out-put-piece : (t : ℕ) → put-instance-lts.Need-element-copy-out-put-piece
     (put-instance-claims t) (put-instance-at t) put-instance.Post
 put-instance-element-copy-out-put-piece t c =
-    variable-small (c .before .before .before .before .before .before .pre .1 .0)
+    variable-small (c .before .before .before .before .before .before .pre .1 .0 .filled)
     (c .before .before .before .before .before .if1 .left) (c .before .before .before .if2 .left)
     (c .before .before .wide .ensures .0)
 
@@ -145,9 +150,9 @@ put-instance-put-piece-requires : (t : ℕ) → put-instance-lts.Need-put-piece-
     (put-instance-at t) put-instance.Post
 put-instance-put-piece-requires t c κs =
     let I = c .before .before .before .before .before .before .before .before .pre .1 .0 in (
-      I .prepared,
+      I .filled .prepared,
       (
-        is-piece I (c .before .before .before .before .before .before .before .if1 .left)
+        is-piece (I .filled) (c .before .before .before .before .before .before .before .if1 .left)
             (c .before .before .before .before .before .if2 .left)
             (c .before .before .before .before .wide .ensures .0) (c .before .before .wide-byte .ensures .0),
         (
@@ -164,8 +169,8 @@ put-instance-add-put-instance-3 : (t : ℕ) → put-instance-lts.Need-add-put-in
 put-instance-add-put-instance-3 t c =
     let I = c .before .before .before .before .before .before .before .before .before .pre .1 .0 in omega (
       arith,
-      I .inside,
-      I .pattern .short,
+      I .filled .inside,
+      I .filled .pattern .short,
     )
 
 put-instance-put-instance-requires-2 : (t : ℕ) → put-instance-lts.Need-put-instance-requires-2 (put-instance-claims t)
@@ -175,7 +180,8 @@ put-instance-put-instance-requires-2 t c κs =
       omega (
         arith,
         c .before .before .before .before .before .before .before .before .before .before .pre .0,
-        word-inside I (c .before .before .before .before .before .before .before .before .before .if1 .left),
+        word-inside (I .filled)
+            (c .before .before .before .before .before .before .before .before .before .if1 .left),
       ),
       (
         instance-after I (c .before .before .before .before .before .before .before .before .before .if1 .left)

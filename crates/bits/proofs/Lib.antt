@@ -1,4 +1,4 @@
 -- Laws of the bits of a packed file.
 mod BitLaws
-pub mod NodeLaws
+mod NodeLaws
 mod WindowLaws

@@ -1,21 +1,18 @@
 -- Fields and nodes of a packed file as its reader gets them.
 --     field-got, field-missing      a field that fits, and one that does not
---     field-next, node-next         a field that was read ends its width further on, and so does a node
 --     node-got, node-cut, node-none a node from nine bits, one whose number does not fit, one that has no tag
 --     word-by-tag, width-by-tag     a node's word and width by its tag, with no test
 --     word-lt, tag-first            a node's word is below 272; its tag is the first of its bits
-use mathlib.Core.Path.{_≡_, refl, sym, _∙_}
+use mathlib.Core.Path.{_≡_, sym, _∙_}
 use mathlib.Core.List.{List}
-use mathlib.Core.Bool.{Bool, true, false, cond}
-use Prim.Native.Nat.{ℕ, suc, zero, _+_, _*_, _-_, _/_, _%_, _^_, _≤_, _<_}
+use Prim.Native.Nat.{ℕ, _+_, _*_, _-_, _/_, _%_, _^_, _≤_, _<_}
 use native.Mathlib.Nat.{add-assoc, add-zero, zero-add}
 use native.Mathlib.Omega.{arith}
 use lib.ListN.{length, getD}
-use lib.Dec.{leb}
 use borrow.Author.Tests.{le-leb, lt-leb, lt-ltb, le-ltb}
 use Rattle.format.specs.Errors.{fieldMissing}
 use Rattle.multisets.proofs.Relations.{byOrder}
-use Rattle.format.specs.Reading.{Node, spelt, bitAt, bitField, bitSource}
+use Rattle.format.specs.Reading.{spelt, bitAt, bitField, bitSource}
 use Rattle.format.specs.Reading.Reading.{got, fault}
 use Rattle.format.proofs.CodingLaws.{bit-lt, spelt-lt, spelt-add}
 use Rattle.bits.specs.Cursor.{nodeWidth, nodeWord}
@@ -51,16 +48,6 @@ module _ (bytes : List ℕ) where
   pub field-missing : (width at : ℕ) → 8 * length bytes < at + width → bitField bytes width at ≡ fault fieldMissing at
   unfolding bitField
   field-missing width at h = rw (lt-leb _ _ h)
-
-  got-value : (b : Bool) (x y at v next : ℕ) → cond b (got x y) (fault fieldMissing at) ≡ got v next → (v ≡ x) × (next ≡
-      y)
-  got-value true x y at v next e = (cc, cc)
-  got-value false x y at v next e = (cc, cc)
-
-  pub field-next : (width at v next : ℕ) → bitField bytes width at ≡ got v next → next ≡ at + width
-  unfolding bitField
-  field-next width at v next e =
-      got-value (leb (at + width) (8 * length bytes)) (spelt (bitAt bytes) at width) (at + width) at v next e .1
 
   module _ (at n : ℕ) (e : spelt (bitAt bytes) at 9 ≡ n) where
     halves : n ≡ spelt (bitAt bytes) at 1 * 256 + spelt (bitAt bytes) (at + 1) 8
@@ -109,21 +96,3 @@ module _ (bytes : List ℕ) where
 
   pub node-none : (at : ℕ) → 8 * length bytes ≤ at → bitSource bytes .node at ≡ fault fieldMissing at
   node-none at h = rw (field-missing 1 at (omega arith))
-
-  -- A node that was read ends its width further on, within the bytes.
-  pub node-next : (at : ℕ) (node : Node) (next : ℕ) → bitSource bytes .node at ≡ got node next →
-      (next ≡ at + nodeWidth (spelt (bitAt bytes) at 9)) × (next ≤ 8 * length bytes)
-  node-next at node next e =
-      let n = spelt (bitAt bytes) at 9 in
-      byOrder (8 * length bytes) (at + nodeWidth n)
-      (λ cut. byOrder at (8 * length bytes)
-      (λ begun. none (sym (node-cut at n refl begun cut) ∙ e))
-      λ ended. none (sym (node-none at ended) ∙ e))
-      λ fits. let end : at + nodeWidth n ≡ next = last (sym (node-got at n refl fits) ∙ e) in (sym end, rw end at fits)
-    where
-      none : {code offset : ℕ} → fault code offset ≡ got node next →
-          (next ≡ at + nodeWidth (spelt (bitAt bytes) at 9)) × (next ≤ 8 * length bytes)
-      none f = let absurdity : suc zero ≡ zero = cc in absurd (omega (arith, absurdity))
-
-      last : {x : Node} {y : ℕ} → got x y ≡ got node next → y ≡ next
-      last f = cc

@@ -1,21 +1,21 @@
 -- A window has the bits of a packed file from an offset on.
 --     ahead-empty, ahead-eight    it has none, or those of eight bytes
---     ahead-nine                  a node's nine bits are its first ones
---     ahead-past                  past a node
+--     ahead-nine, ahead-past      a node's nine bits are its first ones; past a node
+--     node-moved                  a node that was read, with the window past it
 use mathlib.Core.Path.{_≡_, sym, ap, _∙_}
 use mathlib.Core.List.{List}
 use Prim.Native.Nat.{ℕ, _+_, _-_, _*_, _/_, _%_, _^_, _≤_, _<_}
-use native.Mathlib.Nat.{mod-lt}
 use native.Mathlib.Omega.{arith}
 use lib.ListN.{length, getD}
-use lib.Pow.{high, low, shl-shr, shr-shr, pow-pos}
-use Rattle.format.specs.Reading.{Node, spelt, bitAt, bitSource}
-use Rattle.format.specs.Reading.Reading.{got}
+use lib.Pow.{high, low, shl-shr, shr-shr}
+use Rattle.format.specs.Reading.{spelt, bitAt, bitSource}
 use Rattle.format.proofs.CodingLaws.{bit-lt, spelt-lt, spelt-add}
 use Rattle.format.proofs.PackingLaws.{shl-mod, shl-field, byte-spelt}
-use Rattle.bits.specs.declared.Window.{Window}
-use Rattle.bits.specs.Cursor.{four, Ahead}
-use Rattle.bits.proofs.NodeLaws.{width-by-tag, node-next}
+use Rattle.bits.specs.declared.window.Window.{Window}
+use Rattle.bits.specs.declared.NodeRead.{NodeRead}
+use Rattle.bits.specs.declared.NodeRead.the-variants as node
+use Rattle.bits.specs.Cursor.{nodeReading, nodeWidth, nodeWord, four, Ahead, NodeMoved}
+use Rattle.bits.proofs.NodeLaws.{width-by-tag, word-lt, node-got}
 
 module _ (bytes : List ℕ) where
   abbrev bit : ℕ → ℕ
@@ -24,8 +24,8 @@ module _ (bytes : List ℕ) where
   lt : (at n : ℕ) → spelt bit at n < 2 ^ n
   lt = spelt-lt bit (bit-lt bytes)
 
-  ahead-empty : (at x : ℕ) → at ≤ 8 * length bytes → x < 2 ^ 64 → Ahead bytes at (record { bits = x; count = 0 })
-  ahead-empty at x h l = record { most = omega arith; within = omega arith; same = omega arith }
+  pub ahead-empty : (at : ℕ) → at ≤ 8 * length bytes → Ahead bytes at (record { bits = 0; count = 0 })
+  ahead-empty at h = record { most = omega arith; within = omega arith; same = omega arith }
 
   module _ (small : (i : ℕ) → getD bytes i 0 < 256) where
     byte : (at i : ℕ) → at ≡ 8 * i → spelt bit at 8 ≡ getD bytes i 0
@@ -108,25 +108,19 @@ module _ (bytes : List ℕ) where
               ∙ low (spelt bit at width) m (lt (at + width) m);
         }
 
-    module _ (fits : w .bits < 2 ^ 64) (node : Node) (next : ℕ) (e : bitSource bytes .node at ≡ got node next) where
-      abbrev width : ℕ
-      width = 9 - 4 * (w .bits / 2 ^ 63)
+    pub ahead-past : 9 ≤ w .count → Ahead bytes (at + nodeWidth (w .bits / 2 ^ 55)) (record {
+      bits = w .bits * 2 ^ (9 - 4 * (w .bits / 2 ^ 63)) % 2 ^ 64;
+      count = w .count - (9 - 4 * (w .bits / 2 ^ 63));
+    })
+    ahead-past l =
+        let (_, tag, small) = ahead-nine l in
+        let width = 9 - 4 * (w .bits / 2 ^ 63) in
+        let e : at + width ≡ at + nodeWidth (w .bits / 2 ^ 55) =
+        ap (λ (k : ℕ). at + (9 - 4 * k)) tag ∙ ap (λ (k : ℕ). at + k) (width-by-tag (w .bits / 2 ^ 55) small) in
+        rw e at (ahead-shifted width (omega arith))
 
-      -- Where the window has as many bits, the first one is the node's tag.
-      past-end : width ≤ w .count → at + width ≡ next
-      past-end l =
-          let n = spelt bit at 9 in
-          let tag : w .bits / 2 ^ 63 ≡ n / 256 =
-          first 1 (omega arith) ∙ sym (high (spelt bit at 1) 8 (lt (at + 1) 8))
-          ∙ ap (λ (k : ℕ). k / 256) (sym (spelt-add bit at 1 8)) in
-          ap (λ (k : ℕ). at + (9 - 4 * k)) tag ∙ ap (λ (k : ℕ). at + k) (width-by-tag n (lt at 9))
-          ∙ sym (node-next bytes at node next e .0)
-
-      pub ahead-past : width ≤ w .count →
-          Ahead bytes next (record { bits = w .bits * 2 ^ width % 2 ^ 64; count = w .count - width })
-      ahead-past l = rw (past-end l) at (ahead-shifted width l)
-
-      pub ahead-ended : Ahead bytes next (record { bits = w .bits * 2 ^ width % 2 ^ 64; count = 0 })
-      ahead-ended =
-          ahead-empty next (w .bits * 2 ^ width % 2 ^ 64) (node-next bytes at node next e .1)
-          (mod-lt (w .bits * 2 ^ width) (pow-pos 64))
+  module _ (at n : ℕ) (nine : spelt bit at 9 ≡ n) (fits : at + nodeWidth n ≤ 8 * length bytes) (w : Window)
+      (r : NodeRead) (e : r ≡ node.Got (nodeWord n) (record { at = at + nodeWidth n }) w) where
+    pub node-moved : Ahead bytes (at + nodeWidth n) w →
+        (nodeReading at r ≡ bitSource bytes .node at) × NodeMoved bytes r
+    node-moved h = rw e (sym (node-got bytes at n nine fits), (word-lt n (rw nine at (lt at 9)), h))

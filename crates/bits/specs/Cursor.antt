@@ -2,20 +2,31 @@
 use mathlib.Core.Path.{_≡_}
 use mathlib.Core.List.{List}
 use mathlib.Core.Bool.{cond}
-use Prim.Native.Nat.{ℕ, _+_, _-_, _*_, _/_, _^_, _≤_}
+use Prim.Native.Nat.{ℕ, _+_, _-_, _*_, _/_, _^_, _<_, _≤_}
 use lib.Dec.{ltb}
 use lib.ListN.{length, getD}
 use Rattle.terms.specs.Term.{variableCount}
 use Rattle.terms.specs.Words.{firstVariable}
 use Rattle.format.specs.Layout.{tagWidth}
 use Rattle.format.specs.Reading.{Reading, Node, spelt, bitAt}
+use Rattle.format.specs.Reading.Reading.{got, fault}
 use Rattle.answers.specs.declared.Answer.{Answer}
-use Rattle.answers.specs.Answer.{readingOf}
-use Rattle.bits.specs.declared.Window.{Window}
+use Rattle.answers.specs.declared.Answer.the-variants.{Got, Fault}
+use Rattle.bits.specs.declared.Read.{Read}
+use Rattle.bits.specs.declared.Read.the-variants as read
+use Rattle.bits.specs.declared.NodeRead.{NodeRead}
+use Rattle.bits.specs.declared.NodeRead.the-variants as node
+use Rattle.bits.specs.declared.window.Window.{Window}
+
+-- The answer that tells the offset of the moved cursor.
+abbrev pub told : Read → Answer
+told (read.Got value cursor) = Got value (cursor .at)
+told (read.Fault offset code) = Fault offset code
 
 -- The reading of a node at an offset; its number stands after its tag.
-abbrev pub nodeReading : ℕ → Answer → Reading Node
-nodeReading at = readingOf (λ (word : ℕ). record { word = word; offset = at + tagWidth })
+abbrev pub nodeReading : ℕ → NodeRead → Reading Node
+nodeReading at (node.Got word cursor window) = got (record { word = word; offset = at + tagWidth }) (cursor .at)
+nodeReading at (node.Fault offset code) = fault code offset
 
 -- The words of nodes: a symbol's is below 256, a variable's below 272.
 abbrev pub nodeWords : ℕ
@@ -39,3 +50,8 @@ pub record Ahead (bytes : List ℕ) (at : ℕ) (w : Window) : Type 0 where
   pub most : w .count ≤ 64
   pub within : at + w .count ≤ 8 * length bytes
   pub same : w .bits / 2 ^ (64 - w .count) ≡ spelt (bitAt bytes) at (w .count)
+
+-- The word is a node's, and the window has bits from the moved cursor on; an error's code has six bits and is not 0.
+abbrev pub NodeMoved : List ℕ → NodeRead → Type 0
+NodeMoved bytes (node.Got word cursor window) = (word < nodeWords) × Ahead bytes (cursor .at) window
+NodeMoved bytes (node.Fault offset code) = (0 < code) × (code < 64)

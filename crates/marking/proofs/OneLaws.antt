@@ -108,7 +108,7 @@ module _ (σ : Signature) (x : Reading Sides) (sides : Sides) (next : ℕ) (e : 
 
   pub rule-marked : (m : MarkedRule) → MarksRead σ sidesThemselves x (rule.Got m) → m .mark ≡ sidesMark σ sides
   rule-marked m (r, read, marks) =
-      let z : got r (m .next) ≡ got sides next = sym read ∙ e in
+      let z : got r (m .cursor .at) ≡ got sides next = sym read ∙ e in
       let q : r ≡ sides = cc in marks .mark ∙ ap (sidesMark σ) q
 
 -- A rule that is found has its number below the count of rules.

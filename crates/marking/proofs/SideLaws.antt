@@ -15,6 +15,7 @@ use Rattle.format.proofs.ReadingLaws.{holds-got}
 use Rattle.format.proofs.FormatLaws.{side-read}
 use Rattle.format.proofs.CodingLaws.{spells-fit}
 use Rattle.format.proofs.SideLaws.{side-formed, forest-le}
+use Rattle.bits.specs.declared.BitCursor.{BitCursor}
 use Rattle.marking.specs.declared.rule.MarkedRule.{MarkedRule}
 use Rattle.marking.specs.declared.rule.RuleReading.{RuleReading}
 use Rattle.marking.specs.declared.rule.RuleReading.the-variants.{Got, Fault}
@@ -33,8 +34,8 @@ module _ (bytes : List ℕ) (unused : ℕ) (σ : Signature) where
 
 module _ (σ : Signature) where
   -- A right side that was read, after its left side.
-  pub right-marked : (reading : Reading (List ℕ)) (left right : List ℕ) (n : ℕ) (m : MarkedRule) →
-      reading ≡ got right n → m .next ≡ n → Marks σ (record { left = left; right = right }) m →
+  pub right-marked : (reading : Reading (List ℕ)) (left right : List ℕ) (n : BitCursor) (m : MarkedRule) →
+      reading ≡ got right (n .at) → m .cursor ≡ n → Marks σ (record { left = left; right = right }) m →
       MarksRead σ (λ (l : List ℕ). record { left = left; right = l }) reading (Got m)
   right-marked reading left right n m e same x = (right, rw same e, x)
 

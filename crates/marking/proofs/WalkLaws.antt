@@ -71,13 +71,13 @@ module _ (source : Source) (unused : ℕ) (σ : Signature) (count start : ℕ) (
     pub listed-more : i < count → (n : ℕ) (m : MarkedRule) (marks' : List ℕ) (margins' : List ℤ) →
         MarksRead σ sidesThemselves (ruleReader source unused σ at) (rule.Got m) → n ≡ decreasingCount (m .mark ∷ []) →
         marks' ≡ set marks i (m .mark) → margins' ≡ set margins i (m .margin) →
-        ListedSoFar (i + 1) (m .next) (decreasing + n) marks' margins'
+        ListedSoFar (i + 1) (m .cursor .at) (decreasing + n) marks' margins'
     listed-more h n m marks' margins' (r, e, x) one mark put =
         let (done, d, l, so') = so in
         let added : map (sidesMark σ) (done ++ (r ∷ [])) ≡ map (sidesMark σ) done ++ (m .mark ∷ []) =
         map-append (sidesMark σ) done (r ∷ []) ∙ rw (x .mark) in (
           done ++ (r ∷ []),
-          done-more source unused σ count start i at done d h r (m .next) e,
+          done-more source unused σ count start i at done d h r (m .cursor .at) e,
           omega (arith, length-append done (r ∷ [])),
           record {
             falling = rw (added, decreasing-append (map (sidesMark σ) done) (m .mark ∷ []), ← so' .falling, ← one);

@@ -32,9 +32,9 @@ module _ (σ : Signature) where
     pub mark : m .mark ≡ sidesMark r
     pub margin : m .margin ≡ sidesMargin r
 
-  -- What was read, the sides that it makes, and the answer: the rule is marked, and the next offset is past it.
+  -- What was read, the sides that it makes, and the answer: the rule is marked, and the cursor is past it.
   abbrev pub MarksRead : {A : Type 0} → (A → Sides) → Reading A → RuleReading → Type 0
-  MarksRead {A} sidesOf reading (rule.Got m) = (a : A) × (reading ≡ got a (m .next)) × Marks (sidesOf a) m
+  MarksRead {A} sidesOf reading (rule.Got m) = (a : A) × (reading ≡ got a (m .cursor .at)) × Marks (sidesOf a) m
   MarksRead sidesOf reading (rule.Fault code offset) = reading ≡ fault code offset
 
   -- So many of the rules decrease, and their marks and margins stand first in the lists, as far as there is room.
@@ -52,7 +52,7 @@ module _ (σ : Signature) where
 
 -- The rule ends by that offset.
 abbrev pub MarkedWithin : ℕ → RuleReading → Type 0
-MarkedWithin end (rule.Got m) = m .next ≤ end
+MarkedWithin end (rule.Got m) = m .cursor .at ≤ end
 MarkedWithin end (rule.Fault code offset) = Unit {0}
 
 -- A file's rules are counted, with those that decrease, and their marks and margins stand first in the lists, as far as

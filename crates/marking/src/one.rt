@@ -14,13 +14,15 @@ ghost use Rattle.operations.specs.Jobs.{bookMarks};
 ghost use Rattle.symbols.specs.Table.{signatureOf, maxTableWords};
 ghost use Rattle.symbols.specs.Arities.{Arities};
 ghost use Rattle.answers.specs.Answer.{Within};
+ghost use Rattle.bits.specs.Cursor.{told};
 ghost use Rattle.reader.specs.File.{restReader};
 ghost use Rattle.reader.specs.Promise.{IsTable};
 ghost use Rattle.marking.specs.declared.one.Standing.the-variants.{Left};
 ghost use Rattle.marking.specs.Rule.{sidesMark};
 ghost use Rattle.marking.specs.One.{standingIn, fileStanding, RulesSkipped};
 use crate::rule::RuleReading;
-use answers::Answer;
+use bits::BitCursor;
+use bits::Read;
 
 // How a packed file stands of which so many rules are marked: it is refused or has fewer rules, it has no others, or
 // the next begins at a bit.
@@ -31,57 +33,61 @@ pub enum Standing {
 }
 
 // Reads past that many rules.
-fn skip_rules(book: &[u8], arities: &[u32; format::NODE_WORDS], count: usize, at: usize) -> Answer
-    requires { ⌜ (length (now book) ≤ maxBytes) × (at ≤ 8 * length (now book)) ⌝ }
+fn skip_rules(
+    book: &[u8],
+    arities: &[u32; format::NODE_WORDS],
+    count: usize,
+    cursor: BitCursor,
+) -> Read
+    requires { ⌜ (length (now book) ≤ maxBytes) × (cursor .at ≤ 8 * length (now book)) ⌝ }
     ensures { λ r. ⌜
         ((σ : Signature) → Arities σ (now (arities .entry)) →
-        RulesSkipped (bitSource (now (book .entry))) (unusedOf formNumber) σ count at r)
+        RulesSkipped (bitSource (now (book .entry))) (unusedOf formNumber) σ count (cursor .at) (told r))
         ⌝ }
-    ensures { λ r. ⌜ Within 0 (8 * length (now (book .entry))) r ⌝ }
+    ensures { λ r. ⌜ Within 0 (8 * length (now (book .entry))) (told r) ⌝ }
 {
     let unused = variables::unused_at_start(format::FORM);
     let mut none = [0u16; 0];
-    let mut here = at;
+    let mut here = cursor;
     let mut i = 0;
     while i < count {
         match sides::read_rule_into(book, arities, &mut none, unused, 0, here) {
-            Answer::Fault { code, offset } => return Answer::Fault { code, offset },
-            Answer::Got { value: _, next } => here = next,
+            Read::Fault { code, offset } => return Read::Fault { code, offset },
+            Read::Got { value: _, cursor } => here = cursor,
         }
         i += 1;
     }
-    Answer::Got {
+    Read::Got {
         value: 0,
-        next: here,
+        cursor: here,
     }
 }
 
 // Reads the rules under a symbol table, that many of them, to the end of the file; `marked` of them are marked.
-fn find_after(book: &[u8], table: &[u16], marked: usize, count: usize, at: usize) -> Standing
-    requires { ⌜ (length (now book) ≤ maxBytes) × (at ≤ 8 * length (now book)) ⌝ }
+fn find_after(book: &[u8], table: &[u16], marked: usize, count: usize, first: BitCursor) -> Standing
+    requires { ⌜ (length (now book) ≤ maxBytes) × (first .at ≤ 8 * length (now book)) ⌝ }
     requires { ⌜ length (now table) ≤ maxTableWords ⌝ }
     ensures { λ r. ⌜
         ((form : ℕ) → isTaken formNumber form ≡ true →
         r
         ≡ standingIn marked
-        (restReader form true (now (book .entry)) [] (signatureOf (now (table .entry))) count at))
+        (restReader form true (now (book .entry)) [] (signatureOf (now (table .entry))) count (first .at)))
         ⌝ }
 {
     if count < marked {
         return Standing::Bad;
     }
     let arities = symbols::arities(table);
-    let Answer::Got { value: _, next } = skip_rules(book, &arities, marked, at) else {
+    let Read::Got { value: _, cursor } = skip_rules(book, &arities, marked, first) else {
         return Standing::Bad;
     };
-    let start = next;
-    let Answer::Got { value: _, next } = skip_rules(book, &arities, count - marked, start) else {
+    let start = cursor;
+    let Read::Got { value: _, cursor } = skip_rules(book, &arities, count - marked, start) else {
         return Standing::Bad;
     };
-    let cursor = bits::BitCursor { at: next };
     if cursor.is_padding(book) {
         if marked < count {
-            return Standing::Left { at: start };
+            return Standing::Left { at: start.at };
         }
         return Standing::Done;
     }
@@ -95,28 +101,28 @@ pub fn find_next(book: &[u8], marked: usize) -> Standing
     let mut table = [0u16; symbols::TABLE_WORDS];
     let mut rules = 0;
     match reader::read_head(book, &[0u16; 0], true, format::FORM, &mut table, &mut rules) {
-        Answer::Fault { .. } => Standing::Bad,
-        Answer::Got { value, next } => {
+        Read::Fault { .. } => Standing::Bad,
+        Read::Got { value, cursor } => {
             let front = symbols::front(value);
-            find_after(book, &table[..front], marked, rules, next)
+            find_after(book, &table[..front], marked, rules, cursor)
         }
     }
 }
 
 // The mark of the rule that begins at a bit, under a symbol table.
-fn mark_there(book: &[u8], table: &[u16], at: usize) -> u8
-    requires { ⌜ (length (now book) ≤ maxBytes) × (at ≤ 8 * length (now book)) ⌝ }
+fn mark_there(book: &[u8], table: &[u16], cursor: BitCursor) -> u8
+    requires { ⌜ (length (now book) ≤ maxBytes) × (cursor .at ≤ 8 * length (now book)) ⌝ }
     requires { ⌜ IsTable (now table) ⌝ }
     ensures { λ r. ⌜
         ((sides : Sides) (next : ℕ) →
-        ruleReader (bitSource (now (book .entry))) (unusedOf formNumber) (signatureOf (now (table .entry))) at
-        ≡ got sides next → r ≡ sidesMark (signatureOf (now (table .entry))) sides)
+        ruleReader (bitSource (now (book .entry))) (unusedOf formNumber) (signatureOf (now (table .entry)))
+        (cursor .at) ≡ got sides next → r ≡ sidesMark (signatureOf (now (table .entry))) sides)
         ⌝ }
 {
     let arities = symbols::arities(table);
     let mut adds = [0u64; weights::NODE_SUMS];
     weights::nodes::put_node_sums(table, &mut adds);
-    match crate::rule::mark_rule(book, table, &arities, &adds, at) {
+    match crate::rule::mark_rule(book, table, &arities, &adds, cursor) {
         RuleReading::Fault { .. } => 0,
         RuleReading::Got(rule) => rule.mark,
     }
@@ -133,10 +139,11 @@ pub fn mark_at(book: &[u8], at: usize) -> u8
     let mut table = [0u16; symbols::TABLE_WORDS];
     let mut rules = 0;
     match reader::read_head(book, &[0u16; 0], true, format::FORM, &mut table, &mut rules) {
-        Answer::Fault { .. } => 0,
-        Answer::Got { value, next: _ } => {
+        Read::Fault { .. } => 0,
+        Read::Got { value, cursor: _ } => {
             let front = symbols::front(value);
-            mark_there(book, &table[..front], at)
+            let start = BitCursor { at };
+            mark_there(book, &table[..front], start)
         }
     }
 }

@@ -13,15 +13,16 @@ ghost use Rattle.symbols.specs.Arities.{Arities};
 ghost use Rattle.weights.specs.Nodes.{NodeSums};
 ghost use Rattle.reader.specs.Promise.{IsTable, Decoded};
 ghost use Rattle.marking.specs.Rule.{Marks, MarksRead, MarkedWithin};
-use answers::Answer;
+use bits::BitCursor;
+use bits::Read;
 use weights::NODE_SUMS;
 use weights::totals::total;
 
-// A rule's mark and margin, and the offset past it.
+// A rule's mark and margin, and the cursor past it.
 pub struct MarkedRule {
     pub mark: u8,
     pub margin: i64,
-    pub next: usize,
+    pub cursor: BitCursor,
 }
 
 // A rule that was marked, or an error's code and offset.
@@ -36,20 +37,20 @@ fn mark_sides(
     adds: &[u64; NODE_SUMS],
     left: &[u16],
     right: &[u16],
-    next: usize,
+    cursor: BitCursor,
 ) -> MarkedRule
     requires { ⌜ Decoded (now table) (now left) (now right) × NodeSums (signatureOf (now table)) (now adds) ⌝ }
     ensures { λ r. ⌜
         Marks (signatureOf (now (table .entry))) (record { left = now (left .entry); right = now (right .entry) }) r
         ⌝ }
-    ensures { λ r. ⌜ r .next ≡ next ⌝ }
+    ensures { λ r. ⌜ r .cursor ≡ cursor ⌝ }
 {
     let s = total(table, adds, left);
     let t = total(table, adds, right);
     MarkedRule {
         mark: order::mark::mark(table, adds, left, s, right, t),
         margin: weights::totals::margin(s, t),
-        next,
+        cursor,
     }
 }
 
@@ -62,9 +63,9 @@ fn mark_right(
     adds: &[u64; NODE_SUMS],
     left: &[u16],
     unused: usize,
-    at: usize,
+    cursor: BitCursor,
 ) -> RuleReading
-    requires { ⌜ (length (now book) ≤ maxBytes) × (at ≤ 8 * length (now book)) ⌝ }
+    requires { ⌜ (length (now book) ≤ maxBytes) × (cursor .at ≤ 8 * length (now book)) ⌝ }
     requires { ⌜
         IsTable (now table) × Arities (signatureOf (now table)) (now arities)
         × IsTerm (signatureOf (now table)) (now left) × NodeSums (signatureOf (now table)) (now adds)
@@ -73,20 +74,20 @@ fn mark_right(
     ensures { λ r. ⌜
         MarksRead (signatureOf (now (table .entry)))
         (λ (right : List ℕ). record { left = now (left .entry); right = right })
-        (sideReader (bitSource (now (book .entry))) maxNodes unused (signatureOf (now (table .entry))) (at)) r
+        (sideReader (bitSource (now (book .entry))) maxNodes unused (signatureOf (now (table .entry))) (cursor .at)) r
         ⌝ }
     ensures { λ r. ⌜ MarkedWithin (8 * length (now (book .entry))) r ⌝ }
 {
     let mut right = [0u16; format::MAX_NODES];
     let mut after = unused;
-    match sides::read_side(book, arities, &mut right, &mut after, at) {
-        Answer::Fault { code, offset } => RuleReading::Fault { code, offset },
-        Answer::Got { value, next } => RuleReading::Got(mark_sides(
+    match sides::read_side(book, arities, &mut right, &mut after, cursor) {
+        Read::Fault { code, offset } => RuleReading::Fault { code, offset },
+        Read::Got { value, cursor } => RuleReading::Got(mark_sides(
             table,
             adds,
             left,
             &right[..value],
-            next,
+            cursor,
         )),
     }
 }
@@ -97,25 +98,26 @@ pub fn mark_rule(
     table: &[u16],
     arities: &[u32; format::NODE_WORDS],
     adds: &[u64; NODE_SUMS],
-    at: usize,
+    cursor: BitCursor,
 ) -> RuleReading
-    requires { ⌜ (length (now book) ≤ maxBytes) × (at ≤ 8 * length (now book)) ⌝ }
+    requires { ⌜ (length (now book) ≤ maxBytes) × (cursor .at ≤ 8 * length (now book)) ⌝ }
     requires { ⌜
         IsTable (now table) × Arities (signatureOf (now table)) (now arities)
         × NodeSums (signatureOf (now table)) (now adds)
         ⌝ }
     ensures { λ r. ⌜
         MarksRead (signatureOf (now (table .entry))) (λ (sides : Sides). sides)
-        (ruleReader (bitSource (now (book .entry))) (unusedOf formNumber) (signatureOf (now (table .entry))) (at)) r
+        (ruleReader (bitSource (now (book .entry))) (unusedOf formNumber) (signatureOf (now (table .entry)))
+        (cursor .at)) r
         ⌝ }
     ensures { λ r. ⌜ MarkedWithin (8 * length (now (book .entry))) r ⌝ }
 {
     let mut unused = variables::unused_at_start(format::FORM);
     let mut left = [0u16; format::MAX_NODES];
-    match sides::read_side(book, arities, &mut left, &mut unused, at) {
-        Answer::Fault { code, offset } => RuleReading::Fault { code, offset },
-        Answer::Got { value, next } => {
-            mark_right(book, table, arities, adds, &left[..value], unused, next)
+    match sides::read_side(book, arities, &mut left, &mut unused, cursor) {
+        Read::Fault { code, offset } => RuleReading::Fault { code, offset },
+        Read::Got { value, cursor } => {
+            mark_right(book, table, arities, adds, &left[..value], unused, cursor)
         }
     }
 }

@@ -13,12 +13,14 @@ ghost use Rattle.operations.specs.Marking.{decreasingCount};
 ghost use Rattle.symbols.specs.Table.{signatureOf};
 ghost use Rattle.symbols.specs.Arities.{Arities};
 ghost use Rattle.answers.specs.Answer.{Within};
+ghost use Rattle.bits.specs.Cursor.{told};
 ghost use Rattle.weights.specs.Nodes.{NodeSums};
 ghost use Rattle.reader.specs.File.{restReader};
 ghost use Rattle.reader.specs.Promise.{IsTable};
 ghost use Rattle.marking.specs.Rule.{AllMarked, WholeMarked};
 use crate::rule::RuleReading;
-use answers::Answer;
+use bits::BitCursor;
+use bits::Read;
 
 // How many rules a file has and how many of them decrease, or an error's code and offset.
 pub enum FileMarked {
@@ -64,9 +66,9 @@ fn mark_rules(
     marks: &mut [u8],
     margins: &mut [i64],
     count: usize,
-    at: usize,
-) -> Answer
-    requires { ⌜ (length (now book) ≤ maxBytes) × (at ≤ 8 * length (now book)) ⌝ }
+    cursor: BitCursor,
+) -> Read
+    requires { ⌜ (length (now book) ≤ maxBytes) × (cursor .at ≤ 8 * length (now book)) ⌝ }
     requires { ⌜
         IsTable (now table) × Arities (signatureOf (now table)) (now arities)
         × NodeSums (signatureOf (now table)) (now adds)
@@ -74,29 +76,29 @@ fn mark_rules(
     requires { ⌜ (count ≤ length (now marks)) × (count < 1024) ⌝ }
     ensures { λ r. ⌜
         AllMarked (signatureOf (now (table .entry)))
-        (rulesReader (bitSource (now (book .entry))) (unusedOf formNumber) (signatureOf (now (table .entry))) count at)
-        r (now (marks .entry)) (now (marks .exit)) (now (margins .entry)) (now (margins .exit))
+        (rulesReader (bitSource (now (book .entry))) (unusedOf formNumber) (signatureOf (now (table .entry))) count
+        (cursor .at)) (told r) (now (marks .entry)) (now (marks .exit)) (now (margins .entry)) (now (margins .exit))
         ⌝ }
-    ensures { λ r. ⌜ Within count (8 * length (now (book .entry))) r ⌝ }
+    ensures { λ r. ⌜ Within count (8 * length (now (book .entry))) (told r) ⌝ }
 {
-    let mut here = at;
+    let mut here = cursor;
     let mut decreasing = 0;
     let mut i = 0;
     while i < count {
         match crate::rule::mark_rule(book, table, arities, adds, here) {
-            RuleReading::Fault { code, offset } => return Answer::Fault { code, offset },
+            RuleReading::Fault { code, offset } => return Read::Fault { code, offset },
             RuleReading::Got(rule) => {
                 put_mark(marks, i, rule.mark);
                 put_margin(margins, i, rule.margin);
                 decreasing += decreases(rule.mark);
-                here = rule.next;
+                here = rule.cursor;
             }
         }
         i += 1;
     }
-    Answer::Got {
+    Read::Got {
         value: decreasing,
-        next: here,
+        cursor: here,
     }
 }
 
@@ -107,23 +109,23 @@ fn mark_under(
     marks: &mut [u8],
     margins: &mut [i64],
     count: usize,
-    at: usize,
+    cursor: BitCursor,
 ) -> FileMarked
-    requires { ⌜ (length (now book) ≤ maxBytes) × (at ≤ 8 * length (now book)) ⌝ }
+    requires { ⌜ (length (now book) ≤ maxBytes) × (cursor .at ≤ 8 * length (now book)) ⌝ }
     requires { ⌜ IsTable (now table) × (count < 1024) × (1023 ≤ length (now marks)) ⌝ }
     ensures { λ r. ⌜
         ((form : ℕ) → isTaken formNumber form ≡ true →
-        WholeMarked (restReader form true (now (book .entry)) [] (signatureOf (now (table .entry))) count (at)) r
+        WholeMarked
+        (restReader form true (now (book .entry)) [] (signatureOf (now (table .entry))) count (cursor .at)) r
         (now (marks .entry)) (now (marks .exit)) (now (margins .entry)) (now (margins .exit)))
         ⌝ }
 {
     let arities = symbols::arities(table);
     let mut adds = [0u64; weights::NODE_SUMS];
     weights::nodes::put_node_sums(table, &mut adds);
-    match mark_rules(book, table, &arities, &adds, marks, margins, count, at) {
-        Answer::Fault { code, offset } => FileMarked::Fault { code, offset },
-        Answer::Got { value, next } => {
-            let cursor = bits::BitCursor { at: next };
+    match mark_rules(book, table, &arities, &adds, marks, margins, count, cursor) {
+        Read::Fault { code, offset } => FileMarked::Fault { code, offset },
+        Read::Got { value, cursor } => {
             if cursor.is_padding(book) {
                 return FileMarked::Marked {
                     rules: count,
@@ -131,7 +133,8 @@ fn mark_under(
                 };
             }
             let code = format::BAD_PADDING;
-            FileMarked::Fault { code, offset: next }
+            let offset = cursor.at;
+            FileMarked::Fault { code, offset }
         }
     }
 }
@@ -147,10 +150,10 @@ pub fn mark_file(book: &[u8], marks: &mut [u8], margins: &mut [i64]) -> FileMark
     let mut table = [0u16; symbols::TABLE_WORDS];
     let mut rules = 0;
     match reader::read_head(book, &[0u16; 0], true, format::FORM, &mut table, &mut rules) {
-        Answer::Fault { code, offset } => FileMarked::Fault { code, offset },
-        Answer::Got { value, next } => {
+        Read::Fault { code, offset } => FileMarked::Fault { code, offset },
+        Read::Got { value, cursor } => {
             let front = symbols::front(value);
-            mark_under(book, &table[..front], marks, margins, rules, next)
+            mark_under(book, &table[..front], marks, margins, rules, cursor)
         }
     }
 }

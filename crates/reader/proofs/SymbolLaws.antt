@@ -23,7 +23,8 @@ use Rattle.format.specs.Errors.{acNotBinary, weightInadmissible, rankTaken}
 use Rattle.format.specs.Layout.{arityWidth, acWidth, weightWidth, rankWidth}
 use Rattle.format.specs.Reading.{Reading, Reader, _>>=_, _>>_, give, here, require, Source}
 use Rattle.format.specs.Reading.Reading.{got, fault}
-use Rattle.format.specs.Symbols.{ones, heldBy, firstOutranked, weightOffset, symbolReader, symbolsReader, symbolTableReader}
+use Rattle.format.specs.Symbols.{ones, heldBy, firstOutranked, weightOffset}
+use Rattle.format.specs.Symbols.{symbolReader, symbolsReader, symbolTableReader}
 use Rattle.format.specs.Packing.{itemWord, symbolItems}
 use Rattle.format.proofs.ReadingLaws.{andThen-same}
 use Rattle.format.proofs.RankLaws.{outranked-le}
@@ -33,6 +34,10 @@ use Rattle.symbols.proofs.EntryLaws.{entries-more}
 use Rattle.answers.specs.Answer.{readingOf}
 use Rattle.answers.specs.declared.Answer.{Answer}
 use Rattle.answers.specs.declared.Answer.the-variants.{Got, Fault}
+use Rattle.bits.specs.declared.BitCursor.{BitCursor}
+use Rattle.bits.specs.declared.Read.{Read}
+use Rattle.bits.specs.declared.Read.the-variants as read
+use Rattle.bits.specs.Cursor.{told}
 use Rattle.reader.specs.Symbol.{TakenBy, SymbolsRead}
 use Rattle.reader.proofs.SourceLaws.{tested-then}
 
@@ -184,38 +189,39 @@ module _ (source : Source) (least : ℕ → ℕ) (earlier : List Symbol) (at : �
   abbrev symbol : Reading Symbol
   symbol = symbolReader source least earlier at
 
-  abbrev Fielded : Answer → ℕ → ℕ → Type 0
-  Fielded x width offset = readingOf (λ (v : ℕ). v) x ≡ source .field width offset
+  abbrev Fielded : Read → ℕ → ℕ → Type 0
+  Fielded x width offset = readingOf (λ (v : ℕ). v) (told x) ≡ source .field width offset
 
-  pub arity-unread : (x : Answer) (code offset : ℕ) → x ≡ Fault offset code → Fielded x arityWidth at →
+  pub arity-unread : (x : Read) (code offset : ℕ) → x ≡ read.Fault offset code → Fielded x arityWidth at →
       symbol ≡ fault code offset
   arity-unread x code offset e f = symbol-parts source least earlier at ∙ rw (sym (rw e at f))
 
-  module _ (x : Answer) (arity n : ℕ) (e : x ≡ Got arity n) (f : Fielded x arityWidth at) where
-    pub mark-unread : (y : Answer) (code offset : ℕ) → y ≡ Fault offset code → Fielded y acWidth n →
+  module _ (x : Read) (arity : ℕ) (n : BitCursor) (e : x ≡ read.Got arity n) (f : Fielded x arityWidth at) where
+    pub mark-unread : (y : Read) (code offset : ℕ) → y ≡ read.Fault offset code → Fielded y acWidth (n .at) →
         symbol ≡ fault code offset
     mark-unread y code offset g h = symbol-parts source least earlier at ∙ rw (sym (rw e at f), sym (rw g at h))
 
-    module _ (y : Answer) (ac m : ℕ) (g : y ≡ Got ac m) (h : Fielded y acWidth n) (b : Bool)
+    module _ (y : Read) (ac : ℕ) (m : BitCursor) (g : y ≡ read.Got ac m) (h : Fielded y acWidth (n .at)) (b : Bool)
         (binary : b ≡ (eqb ac 0 || eqb arity 2)) where
       pub mark-refused : not b ≡ true → symbol ≡ fault acNotBinary at
       mark-refused wrong =
           symbol-parts source least earlier at
           ∙ rw (sym (rw e at f), sym (rw g at h), sym binary ∙ not-true b wrong)
 
-      pub weight-unread : not b ≡ false → (l k : ℕ) → l ≡ k → k ≡ least arity → (z : Answer)
-          (code offset : ℕ) → z ≡ Fault offset code →
-          readingOf (λ (v : ℕ). v) z ≡ tested source weightWidth (leb l) weightInadmissible m →
+      pub weight-unread : not b ≡ false → (l k : ℕ) → l ≡ k → k ≡ least arity → (z : Read)
+          (code offset : ℕ) → z ≡ read.Fault offset code →
+          readingOf (λ (v : ℕ). v) (told z) ≡ tested source weightWidth (leb l) weightInadmissible (m .at) →
           symbol ≡ fault code offset
       weight-unread right l k p q z code offset i j =
           symbol-parts source least earlier at
           ∙ rw (sym (rw e at f), sym (rw g at h), sym binary ∙ not-false b right, sym (rw (i, p ∙ q) at j))
 
-      pub rank-unread : not b ≡ false → (l k : ℕ) → l ≡ k → k ≡ least arity → (z : Answer) (weight o : ℕ) →
-          z ≡ Got weight o → readingOf (λ (v : ℕ). v) z ≡ tested source weightWidth (leb l) weightInadmissible m →
-          (taken : List Bool) → TakenBy earlier taken → (r : Answer) (code offset : ℕ) → r ≡ Fault offset code →
-          ((es : List Symbol) → TakenBy es taken → readingOf (λ (v : ℕ). v) r
-          ≡ tested source rankWidth (λ (rank : ℕ). not (heldBy es rank)) rankTaken o) → symbol ≡ fault code offset
+      pub rank-unread : not b ≡ false → (l k : ℕ) → l ≡ k → k ≡ least arity → (z : Read) (weight : ℕ) (o : BitCursor) →
+          z ≡ read.Got weight o → readingOf (λ (v : ℕ). v) (told z) ≡ tested source weightWidth (leb l)
+          weightInadmissible (m .at) →
+          (taken : List Bool) → TakenBy earlier taken → (r : Read) (code offset : ℕ) → r ≡ read.Fault offset code →
+          ((es : List Symbol) → TakenBy es taken → readingOf (λ (v : ℕ). v) (told r)
+          ≡ tested source rankWidth (λ (rank : ℕ). not (heldBy es rank)) rankTaken (o .at)) → symbol ≡ fault code offset
       rank-unread right l k p q z weight o i j taken t r code offset u v =
           symbol-parts source least earlier at
           ∙ rw (

@@ -7,6 +7,7 @@ ghost use Rattle.format.specs.Layout.{maxBytes};
 ghost use Rattle.format.specs.Forms.{isTaken, formError};
 ghost use Rattle.format.specs.Files.{readBytesIn, readWords};
 ghost use Rattle.symbols.specs.Table.{maxTableWords};
+ghost use Rattle.bits.specs.Cursor.{told};
 ghost use Rattle.reader.specs.Source.{Reached, Room, readSource};
 ghost use Rattle.reader.specs.File.{countsReader, HeadRead, PackedRead, SheetRead};
 use crate::field::field;
@@ -14,6 +15,8 @@ use crate::field::field_at_least;
 use crate::rule::read_packed_rules;
 use crate::rule::read_word_rules;
 use answers::Answer;
+use bits::BitCursor;
+use bits::Read;
 use format::NO_SYMBOLS;
 use format::SYMBOL_COUNT_WIDTH;
 
@@ -25,34 +28,42 @@ fn read_counts(
     form: u16,
     table: &mut [u16],
     rules: &mut usize,
-    at: usize,
-) -> Answer
-    requires { ⌜ (length (now book) ≤ maxBytes) × Reached packed (now book) (now sheet) 1 at ⌝ }
+    cursor: BitCursor,
+) -> Read
+    requires { ⌜ (length (now book) ≤ maxBytes) × Reached packed (now book) (now sheet) 1 (cursor .at) ⌝ }
     requires { ⌜ Room packed maxTableWords (now table) ⌝ }
     ensures { λ r. ⌜
         ((reader : ℕ) → isTaken reader form ≡ true →
         HeadRead reader packed (now (book .entry)) (now (sheet .entry))
-        (countsReader form packed (now (book .entry)) (now (sheet .entry)) at) r (now (table .exit))
+        (countsReader form packed (now (book .entry)) (now (sheet .entry)) (cursor .at)) (told r) (now (table .exit))
         (now (rules .exit)))
         ⌝ }
 {
-    let read = field_at_least(book, sheet, packed, at, SYMBOL_COUNT_WIDTH, 1, NO_SYMBOLS);
-    let Answer::Got { value, next } = read else {
+    let read = field_at_least(
+        book,
+        sheet,
+        packed,
+        cursor,
+        SYMBOL_COUNT_WIDTH,
+        1,
+        NO_SYMBOLS,
+    );
+    let Read::Got { value, cursor } = read else {
         return read;
     };
     let symbols = value;
     let error = format::VARIABLE_WEIGHTLESS;
-    let read = field_at_least(book, sheet, packed, next, format::WEIGHT_WIDTH, 1, error);
-    let Answer::Got { value, next } = read else {
+    let read = field_at_least(book, sheet, packed, cursor, format::WEIGHT_WIDTH, 1, error);
+    let Read::Got { value, cursor } = read else {
         return read;
     };
     let w0 = value as u16;
-    let read = field(book, sheet, packed, next, format::RULE_COUNT_WIDTH);
-    let Answer::Got { value, next } = read else {
+    let read = field(book, sheet, packed, cursor, format::RULE_COUNT_WIDTH);
+    let Read::Got { value, cursor } = read else {
         return read;
     };
     *rules = value;
-    crate::table::read_table(book, sheet, packed, table, form, w0, symbols, value, next)
+    crate::table::read_table(book, sheet, packed, table, form, w0, symbols, value, cursor)
 }
 
 // Whether a reader of that form takes a file of the form that it read.
@@ -81,26 +92,28 @@ pub fn read_head(
     form: u16,
     table: &mut [u16],
     rules: &mut usize,
-) -> Answer
+) -> Read
     requires { ⌜ Room packed maxTableWords (now table) ⌝ }
     ensures { λ r. ⌜
         HeadRead form packed (now (book .entry)) (now (sheet .entry))
-        (readSource form packed (now (book .entry)) (now (sheet .entry))) r (now (table .exit)) (now (rules .exit))
+        (readSource form packed (now (book .entry)) (now (sheet .entry))) (told r) (now (table .exit))
+        (now (rules .exit))
         ⌝ }
 {
     if format::MAX_BYTES < book.len() {
         let code = format::FILE_TOO_LONG;
-        return Answer::Fault { code, offset: 0 };
+        return Read::Fault { code, offset: 0 };
     }
-    let read = field(book, sheet, packed, 0, format::FORM_WIDTH);
-    let Answer::Got { value, next } = read else {
+    let start = BitCursor { at: 0 };
+    let read = field(book, sheet, packed, start, format::FORM_WIDTH);
+    let Read::Got { value, cursor } = read else {
         return read;
     };
     if !is_taken(form, value) {
         let code = form_error(value);
-        return Answer::Fault { code, offset: 0 };
+        return Read::Fault { code, offset: 0 };
     }
-    read_counts(book, sheet, packed, value as u16, table, rules, next)
+    read_counts(book, sheet, packed, value as u16, table, rules, cursor)
 }
 
 // Reads a packed file that a reader of that form takes, the words before its rules into the table and those of its
@@ -115,21 +128,21 @@ pub fn read_packed(book: &[u8], form: u16, table: &mut [u16], words: &mut [u16])
 {
     let mut rules = 0;
     let read = read_head(book, &[0u16; 0], true, form, table, &mut rules);
-    let Answer::Got { value, next } = read else {
-        return read;
+    let Read::Got { value, cursor } = read else {
+        return bits::told(read);
     };
     let front = symbols::front(value);
     let arities = &symbols::arities(&table[..front]);
-    let read = read_packed_rules(book, arities, words, form, rules, next);
-    let Answer::Got { value, next } = read else {
-        return read;
+    let read = read_packed_rules(book, arities, words, form, rules, cursor);
+    let Read::Got { value, cursor } = read else {
+        return bits::told(read);
     };
-    let cursor = bits::BitCursor { at: next };
     if cursor.is_padding(book) {
         return Answer::Got { value, next: front };
     }
     let code = format::BAD_PADDING;
-    Answer::Fault { code, offset: next }
+    let offset = cursor.at;
+    Answer::Fault { code, offset }
 }
 
 // Reads a sheet. The value is how many symbols it has, and in place of an offset how many words stand before its rules.
@@ -139,17 +152,17 @@ pub fn read_sheet(sheet: &[u16]) -> Answer
     let mut none = [0u16; 0];
     let mut rules = 0;
     let head = read_head(&[0u8; 0], sheet, false, format::FORM, &mut none, &mut rules);
-    let Answer::Got { value: _, next } = head else {
-        return head;
+    let Read::Got { value: _, cursor } = head else {
+        return bits::told(head);
     };
     let unused = variables::unused_at_start(format::FORM);
-    let arities = &symbols::arities(&sheet[..next]);
-    let read = read_word_rules(arities, sheet, unused, rules, next);
+    let arities = &symbols::arities(&sheet[..cursor.at]);
+    let read = read_word_rules(arities, sheet, unused, rules, cursor.at);
     let Answer::Got { value: _, next } = read else {
         return read;
     };
     if next == sheet.len() {
-        return head;
+        return bits::told(head);
     }
     let code = format::WORDS_LEFT_OVER;
     Answer::Fault { code, offset: next }

@@ -10,9 +10,12 @@ ghost use Rattle.format.specs.Forms.{unusedOf};
 ghost use Rattle.format.specs.Format.{Sides, ruleReader, rulesReader};
 ghost use Rattle.symbols.specs.Arities.{Arities};
 ghost use Rattle.answers.specs.Answer.{endOf, Within};
+ghost use Rattle.bits.specs.Cursor.{told};
 ghost use Rattle.sides.specs.Side.{WordsRead, sideWords, rulesWords};
 ghost use Rattle.reader.specs.File.{sidesIn, rulesIn};
 use answers::Answer;
+use bits::BitCursor;
+use bits::Read;
 use format::NODE_WORDS;
 
 // Reads a rule of that form from bits, its words stored from an index on with the variables in order of first use; the
@@ -23,23 +26,23 @@ fn read_packed_rule(
     words: &mut [u16],
     form: u16,
     index: usize,
-    at: usize,
-) -> Answer
-    requires { ⌜ (length (now book) ≤ maxBytes) × (at ≤ 8 * length (now book)) × (index + maxNodes < 2 ^ 32) ⌝ }
+    cursor: BitCursor,
+) -> Read
+    requires { ⌜ (length (now book) ≤ maxBytes) × (cursor .at ≤ 8 * length (now book)) × (index + maxNodes < 2 ^ 32) ⌝ }
     ensures { λ r. ⌜
         ((σ : Signature) → Arities σ (now (arities .entry)) →
         WordsRead (λ (s : Sides). sideWords (sidesIn form s))
-        (ruleReader (bitSource (now (book .entry))) (unusedOf form) σ at)
-        index (now (words .entry)) r (now (words .exit)))
+        (ruleReader (bitSource (now (book .entry))) (unusedOf form) σ (cursor .at))
+        index (now (words .entry)) (told r) (now (words .exit)))
         ⌝ }
-    ensures { λ r. ⌜ Within (index + 2 * maxNodes) (8 * length (now (book .entry))) r ⌝ }
+    ensures { λ r. ⌜ Within (index + 2 * maxNodes) (8 * length (now (book .entry))) (told r) ⌝ }
 {
     let unused = variables::unused_at_start(form);
-    let read = sides::read_rule_into(book, arities, words, unused, index, at);
+    let read = sides::read_rule_into(book, arities, words, unused, index, cursor);
     if form != format::FIRST_FORM {
         return read;
     }
-    let Answer::Got { value, next: _ } = read else {
+    let Read::Got { value, cursor: _ } = read else {
         return read;
     };
     variables::renumber(words, index, value);
@@ -53,32 +56,32 @@ pub fn read_packed_rules(
     words: &mut [u16],
     form: u16,
     count: usize,
-    at: usize,
-) -> Answer
-    requires { ⌜ (length (now book) ≤ maxBytes) × (at ≤ 8 * length (now book)) × (count < 1024) ⌝ }
+    cursor: BitCursor,
+) -> Read
+    requires { ⌜ (length (now book) ≤ maxBytes) × (cursor .at ≤ 8 * length (now book)) × (count < 1024) ⌝ }
     ensures { λ r. ⌜
         ((σ : Signature) → Arities σ (now (arities .entry)) →
         WordsRead (λ (rules : List Sides). rulesWords (rulesIn form rules))
-        (rulesReader (bitSource (now (book .entry))) (unusedOf form) σ count at)
-        0 (now (words .entry)) r (now (words .exit)))
+        (rulesReader (bitSource (now (book .entry))) (unusedOf form) σ count (cursor .at))
+        0 (now (words .entry)) (told r) (now (words .exit)))
         ⌝ }
 {
     let mut end = 0;
-    let mut here = at;
+    let mut here = cursor;
     let mut number = 0;
     while number < count {
         match read_packed_rule(book, arities, words, form, end, here) {
-            Answer::Fault { code, offset } => return Answer::Fault { code, offset },
-            Answer::Got { value, next } => {
+            Read::Fault { code, offset } => return Read::Fault { code, offset },
+            Read::Got { value, cursor } => {
                 end = value;
-                here = next;
+                here = cursor;
             }
         }
         number += 1;
     }
-    Answer::Got {
+    Read::Got {
         value: end,
-        next: here,
+        cursor: here,
     }
 }
 

@@ -13,31 +13,40 @@ ghost use Rattle.format.specs.Symbols.{heldBy, ones, symbolReader, symbolsReade
 ghost use Rattle.format.specs.Packing.{itemWord, symbolItems};
 ghost use Rattle.symbols.specs.Table.{symbolAt, symbolsAt, tableWords, symbolsWords};
 ghost use Rattle.answers.specs.Answer.{readingOf, Below};
+ghost use Rattle.bits.specs.Cursor.{told};
 ghost use Rattle.reader.specs.Source.{sourceOf, Reached, tableOf, Room, Stored, tested};
 ghost use Rattle.reader.specs.File.{storedForm};
 ghost use Rattle.reader.specs.Symbol.{TakenBy, SymbolPut, SymbolsRead};
 use crate::field::field;
-use answers::Answer;
+use bits::BitCursor;
+use bits::Read;
 use format::RANKS;
 
 // The rank here, which is to be none of those taken.
-fn read_rank(book: &[u8], sheet: &[u16], packed: bool, taken: &[bool; RANKS], at: usize) -> Answer
+fn read_rank(
+    book: &[u8],
+    sheet: &[u16],
+    packed: bool,
+    taken: &[bool; RANKS],
+    cursor: BitCursor,
+) -> Read
     requires { ⌜ length (now book) ≤ maxBytes ⌝ }
     ensures { λ r. ⌜
         ((earlier : List Symbol) → TakenBy earlier (now (taken .entry)) →
-        readingOf (λ (v : ℕ). v) r
+        readingOf (λ (v : ℕ). v) (told r)
         ≡ tested (sourceOf packed (now (book .entry)) (now (sheet .entry))) rankWidth
-        (λ (rank : ℕ). not (heldBy earlier rank)) rankTaken at)
+        (λ (rank : ℕ). not (heldBy earlier rank)) rankTaken (cursor .at))
         ⌝ }
-    ensures { λ r. ⌜ Below 256 r ⌝ }
+    ensures { λ r. ⌜ Below 256 (told r) ⌝ }
 {
-    let read = field(book, sheet, packed, at, format::RANK_WIDTH);
-    let Answer::Got { value, next: _ } = read else {
+    let read = field(book, sheet, packed, cursor, format::RANK_WIDTH);
+    let Read::Got { value, cursor: _ } = read else {
         return read;
     };
     if taken[value] {
         let code = format::RANK_TAKEN;
-        return Answer::Fault { code, offset: at };
+        let offset = cursor.at;
+        return Read::Fault { code, offset };
     }
     read
 }
@@ -80,55 +89,56 @@ fn read_symbol(
     form: u16,
     w0: u16,
     number: usize,
-    at: usize,
-) -> Answer
+    cursor: BitCursor,
+) -> Read
     requires { ⌜ (length (now book) ≤ maxBytes) × (number < 256) × Room packed (tableWords (number + 1)) (now table) ⌝ }
-    requires { ⌜ Reached packed (now book) (now sheet) (tableWords number) at ⌝ }
+    requires { ⌜ Reached packed (now book) (now sheet) (tableWords number) (cursor .at) ⌝ }
     requires { ⌜
         TakenBy (symbolsAt (tableOf packed (now sheet) (now table)) 0 number) (now taken) × (length (now taken) ≡ 256)
         ⌝ }
     ensures { λ r. ⌜
         SymbolPut
         (symbolReader (sourceOf packed (now (book .entry)) (now (sheet .entry))) (leastWeightIn form w0)
-        (symbolsAt (tableOf packed (now (sheet .entry)) (now (table .entry))) 0 number) at)
+        (symbolsAt (tableOf packed (now (sheet .entry)) (now (table .entry))) 0 number) (cursor .at))
         (symbolsAt (tableOf packed (now (sheet .entry)) (now (table .entry))) 0 number)
         (Reached packed (now (book .entry)) (now (sheet .entry)) (tableWords (number + 1)))
         (λ (s : Symbol). Stored packed (tableWords number) (map itemWord (symbolItems s)) (now (table .entry))
-        (now (table .exit))) r
+        (now (table .exit))) (told r)
         (symbolsAt (tableOf packed (now (sheet .entry)) (now (table .exit))) 0 (number + 1)) (now (taken .exit))
         ⌝ }
     ensures { λ r. ⌜ length (now (taken .exit)) ≡ 256 ⌝ }
 {
-    let read = field(book, sheet, packed, at, format::ARITY_WIDTH);
-    let Answer::Got { value, next } = read else {
+    let offset = cursor.at;
+    let read = field(book, sheet, packed, cursor, format::ARITY_WIDTH);
+    let Read::Got { value, cursor } = read else {
         return read;
     };
     let arity = value as u16;
-    let read = field(book, sheet, packed, next, format::AC_WIDTH);
-    let Answer::Got { value, next } = read else {
+    let read = field(book, sheet, packed, cursor, format::AC_WIDTH);
+    let Read::Got { value, cursor } = read else {
         return read;
     };
     let ac = value as u16;
     if !symbols::binary_if_ac(arity, ac) {
         let code = format::AC_NOT_BINARY;
-        return Answer::Fault { code, offset: at };
+        return Read::Fault { code, offset };
     }
     let least = symbols::wide(symbols::least_weight(form, w0, arity));
     let read = crate::field::field_at_least(
         book,
         sheet,
         packed,
-        next,
+        cursor,
         format::WEIGHT_WIDTH,
         least,
         format::WEIGHT_INADMISSIBLE,
     );
-    let Answer::Got { value, next } = read else {
+    let Read::Got { value, cursor } = read else {
         return read;
     };
     let weight = value as u16;
-    let read = read_rank(book, sheet, packed, taken, next);
-    let Answer::Got { value, next: _ } = read else {
+    let read = read_rank(book, sheet, packed, taken, cursor);
+    let Read::Got { value, cursor: _ } = read else {
         return read;
     };
     put_entry(table, packed, number, arity, ac, weight, value as u16);
@@ -145,19 +155,20 @@ fn read_symbols_from(
     form: u16,
     w0: u16,
     count: usize,
-    at: usize,
-) -> Answer
+    cursor: BitCursor,
+) -> Read
     requires { ⌜ (length (now book) ≤ maxBytes) × (count < 256) × Room packed (tableWords count) (now table) ⌝ }
-    requires { ⌜ Reached packed (now book) (now sheet) 4 at ⌝ }
+    requires { ⌜ Reached packed (now book) (now sheet) 4 (cursor .at) ⌝ }
     ensures { λ r. ⌜
         SymbolsRead
-        (symbolsReader (sourceOf packed (now (book .entry)) (now (sheet .entry))) (leastWeightIn form w0) count [] at)
-        (λ (ss : List Symbol). Stored packed 4 (symbolsWords ss) (now (table .entry)) (now (table .exit))) r
+        (symbolsReader (sourceOf packed (now (book .entry)) (now (sheet .entry))) (leastWeightIn form w0) count []
+        (cursor .at))
+        (λ (ss : List Symbol). Stored packed 4 (symbolsWords ss) (now (table .entry)) (now (table .exit))) (told r)
         (symbolsAt (tableOf packed (now (sheet .entry)) (now (table .exit))) 0 count)
         ⌝ }
 {
     let mut taken = [false; RANKS];
-    let mut here = at;
+    let mut here = cursor;
     let mut number = 0;
     while number < count {
         match read_symbol(
@@ -171,14 +182,14 @@ fn read_symbols_from(
             number,
             here,
         ) {
-            Answer::Fault { code, offset } => return Answer::Fault { code, offset },
-            Answer::Got { value, next } => here = next,
+            Read::Fault { code, offset } => return Read::Fault { code, offset },
+            Read::Got { value, cursor } => here = cursor,
         }
         number += 1;
     }
-    Answer::Got {
+    Read::Got {
         value: count,
-        next: here,
+        cursor: here,
     }
 }
 
@@ -203,21 +214,22 @@ pub fn read_symbols(
     w0: u16,
     count: usize,
     rules: usize,
-    at: usize,
-) -> Answer
+    cursor: BitCursor,
+) -> Read
     requires { ⌜ (length (now book) ≤ maxBytes) × (count < 256) × Room packed (tableWords count) (now table) ⌝ }
-    requires { ⌜ Reached packed (now book) (now sheet) 4 at × (rules < 1024) ⌝ }
+    requires { ⌜ Reached packed (now book) (now sheet) 4 (cursor .at) × (rules < 1024) ⌝ }
     ensures { λ r. ⌜
         SymbolsRead
-        (symbolsReader (sourceOf packed (now (book .entry)) (now (sheet .entry))) (leastWeightIn form w0) count [] at)
+        (symbolsReader (sourceOf packed (now (book .entry)) (now (sheet .entry))) (leastWeightIn form w0) count []
+        (cursor .at))
         (λ (ss : List Symbol). Stored packed 0 (storedForm form ∷ count ∷ w0 ∷ rules ∷ symbolsWords ss)
-        (now (table .entry)) (now (table .exit))) r
+        (now (table .entry)) (now (table .exit))) (told r)
         (symbolsAt (tableOf packed (now (sheet .entry)) (now (table .exit))) 0 count)
         ⌝ }
 {
     if packed {
         symbols::put_header(table, stored_form(form), count as u16, w0, rules as u16);
-        return read_symbols_from(book, sheet, true, table, form, w0, count, at);
+        return read_symbols_from(book, sheet, true, table, form, w0, count, cursor);
     }
-    read_symbols_from(book, sheet, false, table, form, w0, count, at)
+    read_symbols_from(book, sheet, false, table, form, w0, count, cursor)
 }

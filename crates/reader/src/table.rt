@@ -9,10 +9,12 @@ ghost use Rattle.format.specs.Layout.{maxBytes};
 ghost use Rattle.format.specs.Forms.{leastWeightIn};
 ghost use Rattle.format.specs.Symbols.{firstOutranked, weightOffset, symbolTableReader};
 ghost use Rattle.symbols.specs.Table.{symbolsAt, tableWords, symbolsWords};
+ghost use Rattle.bits.specs.Cursor.{told};
 ghost use Rattle.reader.specs.Source.{sourceOf, Reached, tableOf, Room, Stored};
 ghost use Rattle.reader.specs.File.{storedForm};
 ghost use Rattle.reader.specs.Symbol.{SymbolsRead};
-use answers::Answer;
+use bits::BitCursor;
+use bits::Read;
 use format::AC_WIDTH;
 use format::ARITY_WIDTH;
 
@@ -51,27 +53,38 @@ pub fn read_table(
     w0: u16,
     count: usize,
     rules: usize,
-    at: usize,
-) -> Answer
+    cursor: BitCursor,
+) -> Read
     requires { ⌜ (length (now book) ≤ maxBytes) × (count < 256) × Room packed (tableWords count) (now table) ⌝ }
-    requires { ⌜ Reached packed (now book) (now sheet) 4 at × (rules < 1024) ⌝ }
+    requires { ⌜ Reached packed (now book) (now sheet) 4 (cursor .at) × (rules < 1024) ⌝ }
     ensures { λ r. ⌜
         SymbolsRead
-        (symbolTableReader (sourceOf packed (now (book .entry)) (now (sheet .entry))) (leastWeightIn form w0) count at)
+        (symbolTableReader (sourceOf packed (now (book .entry)) (now (sheet .entry))) (leastWeightIn form w0) count
+        (cursor .at))
         (λ (ss : List Symbol). Stored packed 0 (storedForm form ∷ count ∷ w0 ∷ rules ∷ symbolsWords ss)
-        (now (table .entry)) (now (table .exit))) r
+        (now (table .entry)) (now (table .exit))) (told r)
         (symbolsAt (tableOf packed (now (sheet .entry)) (now (table .exit))) 0 count)
         ⌝ }
 {
-    let read = crate::symbol::read_symbols(book, sheet, packed, table, form, w0, count, rules, at);
-    let Answer::Got { value: _, next: _ } = read else {
+    let read = crate::symbol::read_symbols(
+        book,
+        sheet,
+        packed,
+        table,
+        form,
+        w0,
+        count,
+        rules,
+        cursor,
+    );
+    let Read::Got { .. } = read else {
         return read;
     };
     let low = outranked_in(sheet, packed, table, count);
     if low < count {
         let code = format::WEIGHT_INADMISSIBLE;
-        let offset = weight_offset(packed, at, low);
-        return Answer::Fault { code, offset };
+        let offset = weight_offset(packed, cursor.at, low);
+        return Read::Fault { code, offset };
     }
     read
 }

@@ -28,6 +28,10 @@ use Rattle.format.proofs.ForestLaws.{before, nothing-owed, none-allowed}
 use Rattle.answers.specs.declared.Answer.{Answer}
 use Rattle.answers.specs.declared.Answer.the-variants.{Got, Fault}
 use Rattle.answers.specs.Answer.{Within}
+use Rattle.bits.specs.declared.BitCursor.{BitCursor}
+use Rattle.bits.specs.declared.Read.{Read}
+use Rattle.bits.specs.declared.Read.the-variants as read
+use Rattle.bits.specs.Cursor.{told}
 use Rattle.sides.specs.Side.{ForestRead, SideRead, SideStored, WordsRead, sideWords}
 
 -- One node fewer is allowed after a node.
@@ -90,8 +94,8 @@ side-read unused words after lowest used r (fault code offset) long k e = rw e
 -- ---- storing
 
 -- A side that was read stands at the front of the words.
-module _ (x : Answer) (value next : ℕ) (e : x ≡ Got value next) (last : ℕ) (within : Within maxNodes last x)
-    (words : List ℕ) (long : length words ≡ maxNodes) where
+module _ (x : Read) (value : ℕ) (cursor : BitCursor) (e : x ≡ read.Got value cursor) (last : ℕ)
+    (within : Within maxNodes last (told x)) (words : List ℕ) (long : length words ≡ maxNodes) where
   pub side-within : value ≤ length words
   side-within = omega (arith, (rw e at within) .0)
 

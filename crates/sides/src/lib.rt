@@ -10,34 +10,33 @@ ghost use Rattle.format.specs.Reading.{bitSource};
 ghost use Rattle.format.specs.Format.{forestReader, sideReader, ruleReader};
 ghost use Rattle.symbols.specs.Arities.{Arities};
 ghost use Rattle.answers.specs.Answer.{answerOf, Within};
-ghost use Rattle.bits.specs.Cursor.{Ahead};
+ghost use Rattle.bits.specs.Cursor.{told, Ahead};
 ghost use Rattle.sides.specs.Side.{ForestRead, SideRead, SideStored, WordsRead, sideWords};
-use answers::Answer;
+use bits::BitCursor;
+use bits::NodeRead;
+use bits::Read;
 use bits::Window;
 use format::FIRST_VARIABLE;
 use format::MAX_NODES;
 use format::NODE_WORDS;
 
-// Reads as many terms as are owed from an offset on, their words stored after the first ones, and moves the word of the
-// lowest unused variable, the count of words and the offset past them, or the offset to a fault. It reads a node and
-// calls itself for what is then owed, with one node fewer allowed. The bits from the offset on that are held ahead go
-// from call to call as two numbers, and the answer is an error's code, 0 where it is none: with a struct or an enum
-// there this call in last place would be no jump.
+// Reads as many terms as are owed from a cursor on, their words stored after the first ones, moves the word of the
+// lowest unused variable and the count of words past them, and stores the offset where they end, or that of a fault. It
+// reads a node and calls itself for what is then owed, with one node fewer allowed. The answer is an error's code, 0
+// where it is none: with an enum there this call in last place would be no jump. Nor would it be one with a parameter
+// that is handed on whole, so cursor and window are made anew of their numbers.
 fn read_terms(
     book: &&[u8],
     arities: &[u32; NODE_WORDS],
     words: &mut [u16; MAX_NODES],
     lowest: &mut usize,
     count: &mut usize,
-    at: &mut usize,
-    ahead: u64,
-    held: usize,
+    end: &mut usize,
+    from: BitCursor,
+    ahead: Window,
     owed: usize,
 ) -> u8
-    requires { ⌜
-        (length (now (now book)) ≤ maxBytes)
-        × Ahead (now (now book)) (now at) (record { bits = ahead; count = held })
-        ⌝ }
+    requires { ⌜ (length (now (now book)) ≤ maxBytes) × Ahead (now (now book)) (from .at) ahead ⌝ }
     requires { ⌜
         (now count ≤ maxNodes) × (owed + 2 ^ 32 * (maxNodes - now count) ≤ 2 ^ 60) × (length (now words) ≡ maxNodes)
         ⌝ }
@@ -46,59 +45,60 @@ fn read_terms(
         ((σ : Signature) → Arities σ (now (arities .entry)) → (unused : ℕ) →
         now (lowest .entry) ≡ firstVariable + unused →
         ForestRead unused (now (count .entry)) (now (words .entry))
-        (answerOf r (now (count .exit)) (now (at .exit))) (now (words .exit)) (now (lowest .exit))
-        (forestReader (bitSource (now (now (book .entry)))) unused σ (maxNodes - now (count .entry)) owed
-        (now (at .entry))))
+        (answerOf r (now (count .exit)) (now (end .exit))) (now (words .exit)) (now (lowest .exit))
+        (forestReader (bitSource (now (now (book .entry)))) unused σ (maxNodes - now (count .entry)) owed (from .at)))
         ⌝ }
     ensures { λ r. ⌜
-        Within maxNodes (8 * length (now (now (book .entry)))) (answerOf r (now (count .exit)) (now (at .exit)))
+        Within maxNodes (8 * length (now (now (book .entry)))) (answerOf r (now (count .exit)) (now (end .exit)))
         ⌝ }
     ensures { λ _. ⌜
         (length (now (words .exit)) ≡ maxNodes) × (256 ≤ now (lowest .exit)) × (now (lowest .exit) ≤ 272)
         ⌝ }
 {
+    let at = from.at;
+    let cursor = BitCursor { at };
+    let window = Window {
+        bits: ahead.bits,
+        count: ahead.count,
+    };
+    *end = at;
     if owed == 0 {
         return 0;
     }
     if *count == MAX_NODES {
         return format::TOO_MANY_NODES;
     }
-    let here = *at;
-    let before = Window {
-        bits: ahead,
-        count: held,
-    };
-    let window = before.refilled(*book, here);
-    let cursor = bits::BitCursor { at: here };
     match cursor.node(*book, window) {
-        Answer::Fault { code, offset } => {
-            *at = offset;
+        NodeRead::Fault { code, offset } => {
+            *end = offset;
             code
         }
-        Answer::Got { value, next } => {
-            let word = value as u16;
-            words[*count] = word;
-            *at = here + 1;
-            let cell = symbols::cell_at(arities, word);
+        NodeRead::Got {
+            word,
+            cursor: next,
+            window: past,
+        } => {
+            let node = word as u16;
+            words[*count] = node;
+            *end = at + 1;
+            let cell = symbols::cell_at(arities, node);
             if cell == 0 {
                 return format::NO_SUCH_SYMBOL;
             }
-            if *lowest < value {
+            if *lowest < word {
                 return format::VARIABLE_OUT_OF_TURN;
             }
-            *lowest = variables::unused_after(*lowest, value);
+            *lowest = variables::unused_after(*lowest, word);
             *count += 1;
-            *at = next;
-            let after = window.past();
             read_terms(
                 book,
                 arities,
                 words,
                 lowest,
                 count,
-                at,
-                after.bits,
-                after.count,
+                end,
+                next,
+                past,
                 cell - 1 + (owed - 1),
             )
         }
@@ -112,22 +112,22 @@ pub fn read_side(
     arities: &[u32; NODE_WORDS],
     words: &mut [u16; MAX_NODES],
     unused: &mut usize,
-    at: usize,
-) -> Answer
-    requires { ⌜ (length (now book) ≤ maxBytes) × (at ≤ 8 * length (now book)) × (length (now words) ≡ maxNodes) ⌝ }
-    requires { ⌜ now unused ≤ 16 ⌝ }
+    cursor: BitCursor,
+) -> Read
+    requires { ⌜ (length (now book) ≤ maxBytes) × (cursor .at ≤ 8 * length (now book)) ⌝ }
+    requires { ⌜ (length (now words) ≡ maxNodes) × (now unused ≤ 16) ⌝ }
     ensures { λ r. ⌜
         ((σ : Signature) → Arities σ (now (arities .entry)) →
         SideRead (now (unused .entry))
-        (sideReader (bitSource (now (book .entry))) maxNodes (now (unused .entry)) σ at) r (now (words .exit))
-        (now (unused .exit)))
+        (sideReader (bitSource (now (book .entry))) maxNodes (now (unused .entry)) σ (cursor .at)) (told r)
+        (now (words .exit)) (now (unused .exit)))
         ⌝ }
-    ensures { λ r. ⌜ Within maxNodes (8 * length (now (book .entry))) r ⌝ }
+    ensures { λ r. ⌜ Within maxNodes (8 * length (now (book .entry))) (told r) ⌝ }
     ensures { λ _. ⌜ (length (now (words .exit)) ≡ maxNodes) × (now (unused .exit) ≤ 16) ⌝ }
 {
     let mut lowest = FIRST_VARIABLE as usize + *unused;
     let mut count = 0;
-    let mut end = at;
+    let mut end = cursor.at;
     let code = read_terms(
         &book,
         arities,
@@ -135,12 +135,12 @@ pub fn read_side(
         &mut lowest,
         &mut count,
         &mut end,
-        0,
-        0,
+        cursor,
+        Window::empty(),
         1,
     );
     *unused = lowest - FIRST_VARIABLE as usize;
-    answers::answer_of(code, count, end)
+    bits::read_of(code, count, end)
 }
 
 // Stores words from an index on, where there is room for all of them, and none where there is not.
@@ -171,27 +171,27 @@ fn read_side_into(
     words: &mut [u16],
     unused: &mut usize,
     index: usize,
-    at: usize,
-) -> Answer
-    requires { ⌜ (length (now book) ≤ maxBytes) × (at ≤ 8 * length (now book)) × (index < 2 ^ 32) ⌝ }
+    cursor: BitCursor,
+) -> Read
+    requires { ⌜ (length (now book) ≤ maxBytes) × (cursor .at ≤ 8 * length (now book)) × (index < 2 ^ 32) ⌝ }
     requires { ⌜ now unused ≤ 16 ⌝ }
     ensures { λ r. ⌜
         ((σ : Signature) → Arities σ (now (arities .entry)) →
         SideStored (now (unused .entry))
-        (sideReader (bitSource (now (book .entry))) maxNodes (now (unused .entry)) σ at)
-        index (now (words .entry)) r (now (words .exit)) (now (unused .exit)))
+        (sideReader (bitSource (now (book .entry))) maxNodes (now (unused .entry)) σ (cursor .at))
+        index (now (words .entry)) (told r) (now (words .exit)) (now (unused .exit)))
         ⌝ }
-    ensures { λ r. ⌜ Within (index + maxNodes) (8 * length (now (book .entry))) r ⌝ }
+    ensures { λ r. ⌜ Within (index + maxNodes) (8 * length (now (book .entry))) (told r) ⌝ }
     ensures { λ _. ⌜ now (unused .exit) ≤ 16 ⌝ }
 {
     let mut side = [0u16; MAX_NODES];
-    let read = read_side(book, arities, &mut side, unused, at);
-    let Answer::Got { value, next } = read else {
+    let read = read_side(book, arities, &mut side, unused, cursor);
+    let Read::Got { value, cursor } = read else {
         return read;
     };
     put_words(words, index, &side[..value]);
     let end = index + value;
-    Answer::Got { value: end, next }
+    Read::Got { value: end, cursor }
 }
 
 // Reads a rule's two sides, where the variables from a number on are unused, their words stored from an index on; the
@@ -202,21 +202,21 @@ pub fn read_rule_into(
     words: &mut [u16],
     unused: usize,
     index: usize,
-    at: usize,
-) -> Answer
-    requires { ⌜ (length (now book) ≤ maxBytes) × (at ≤ 8 * length (now book)) × (index + maxNodes < 2 ^ 32) ⌝ }
+    cursor: BitCursor,
+) -> Read
+    requires { ⌜ (length (now book) ≤ maxBytes) × (cursor .at ≤ 8 * length (now book)) × (index + maxNodes < 2 ^ 32) ⌝ }
     requires { ⌜ unused ≤ 16 ⌝ }
     ensures { λ r. ⌜
         ((σ : Signature) → Arities σ (now (arities .entry)) →
-        WordsRead sideWords (ruleReader (bitSource (now (book .entry))) unused σ at)
-        index (now (words .entry)) r (now (words .exit)))
+        WordsRead sideWords (ruleReader (bitSource (now (book .entry))) unused σ (cursor .at))
+        index (now (words .entry)) (told r) (now (words .exit)))
         ⌝ }
-    ensures { λ r. ⌜ Within (index + 2 * maxNodes) (8 * length (now (book .entry))) r ⌝ }
+    ensures { λ r. ⌜ Within (index + 2 * maxNodes) (8 * length (now (book .entry))) (told r) ⌝ }
 {
     let mut lowest = unused;
-    let read = read_side_into(book, arities, words, &mut lowest, index, at);
-    let Answer::Got { value, next } = read else {
+    let read = read_side_into(book, arities, words, &mut lowest, index, cursor);
+    let Read::Got { value, cursor } = read else {
         return read;
     };
-    read_side_into(book, arities, words, &mut lowest, value, next)
+    read_side_into(book, arities, words, &mut lowest, value, cursor)
 }

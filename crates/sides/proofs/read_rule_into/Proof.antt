@@ -1,6 +1,7 @@
 -- The left side is stored, and the right side where it ends, with the variables that the left one leaves unused.
 use native.Mathlib.Omega.{arith}
 use Rattle.format.specs.Reading.{bitSource}
+use Rattle.bits.specs.Cursor.{told}
 use Rattle.sides.proofs.SideLaws.{left-fault, right-stored, within-wider}
 use borrow.Author.Needs.{needs}
 use Rattle.sides.proofs.read_rule_into.Statement.{statement}
@@ -11,9 +12,10 @@ returns c =
     let c4 = c .before .before .before .before in
     let c9 = c4 .before .before .before .before .before in
     let a = c9 .args in
-    rw (c .enum-told .given .1) (
-      λ σ k. left-fault (bitSource (a .book .now)) (a .unused) σ (a .at) (a .index) (a .words .now) _ _
-          (a .words .now) (rw (c .enum-told .given .1) at (c4 .read-side-into .ensures .0 σ k)),
+    let fault = c .enum-told .given .1 in
+    rw fault (
+      λ σ k. left-fault (bitSource (a .book .now)) (a .unused) σ (a .cursor .at) (a .index) (a .words .now) _ _
+          (a .words .now) (rw fault at (c4 .read-side-into .ensures .0 σ k)),
       tt,
     )
 
@@ -22,8 +24,9 @@ read-side-into-requires-2 c κs =
     let c3 = c .before .before .before in
     let c7 = c3 .before .before .before .before in
     let c12 = c7 .before .before .before .before .before in
-    let within = rw (c3 .read .given .1) at (c7 .read-side-into .ensures .1 .0) in
-    ((c12 .pre .0 .0, within .1, omega (arith, within .0)), omega (arith, c7 .read-side-into .ensures .1 .1))
+    let first = c7 .read-side-into .ensures .1 in
+    let within = rw (c3 .read .given .1) at (first .0) in
+    ((c12 .pre .0 .0, within .1, omega (arith, within .0)), omega (arith, first .1))
 
 returns-2 : tie.Need-returns-2
 returns-2 c =
@@ -31,14 +34,15 @@ returns-2 c =
     let c10 = c6 .before .before .before .before in
     let c15 = c10 .before .before .before .before .before in
     let a = c15 .args in
+    let read = c6 .read .given .1 in
     let first = c10 .read-side-into in
     let second = c .before .before .read-side-into2 in
-    let within = rw (c6 .read .given .1) at (first .ensures .1 .0) in (
-      λ σ k. right-stored (bitSource (a .book .now)) (a .unused) σ (a .at) (a .index) (a .words .now) _ _
-          (first .last .1 .1 .0) (first .last .1 .1 .1 .0) (rw (c6 .read .given .1) at (first .ensures .0 σ k))
-          (first .kept .1 .1 .0) (second .result) (second .last .1 .1 .0) (second .last .1 .1 .1 .0)
+    let within = rw read at (first .ensures .1 .0) in (
+      λ σ k. right-stored (bitSource (a .book .now)) (a .unused) σ (a .cursor .at) (a .index) (a .words .now) _ _
+          (first .last .1 .1 .0) (first .last .1 .1 .1 .0) (rw read at (first .ensures .0 σ k))
+          (first .kept .1 .1 .0) (told (second .result)) (second .last .1 .1 .0) (second .last .1 .1 .1 .0)
           (second .ensures .0 σ k),
-      within-wider _ _ _ (omega (arith, within .0)) (second .result) (second .ensures .1 .0),
+      within-wider _ _ _ (omega (arith, within .0)) (told (second .result)) (second .ensures .1 .0),
     )
 
 pub read-rule-into-spec : {M : Type 1} → statement M

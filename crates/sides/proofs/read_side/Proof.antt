@@ -10,18 +10,27 @@ use borrow.Author.Needs.{needs}
 use Rattle.sides.proofs.read_side.Statement.{statement}
 use Rattle.sides.proofs.read_side.Tie as tie
 
+read-terms-requires : tie.Need-read-terms-requires
+read-terms-requires c κs =
+    let c8 = c .before .before .before .before .before .before .before .before in
+    let a = c8 .args in
+    let p = c8 .pre in (
+      (p .0 .0, c .empty .ensures (a .t1 .now) (a .cursor .at) (p .0 .1)),
+      ((omega arith, omega arith, p .1 .0), (omega arith, omega (arith, p .1 .1))),
+    )
+
 sub-unused : tie.Need-sub-unused
 sub-unused c = c .read-terms .ensures .1 .1 .1
 
 returns : tie.Need-returns
 returns c =
-    let c9 = c .before .before .before .before .before .before .before .before .before in
-    let a = c9 .args in
+    let c10 = c .before .before .before .before .before .before .before .before .before .before in
+    let a = c10 .args in
     let read = c .before .read-terms in
-    rw (c .answer-of .ensures) (
+    rw (c .read-of .ensures) (
       λ σ k. side-read (a .unused .now) (a .words .now) (read .last .1 .1 .0) (read .last .1 .1 .1 .0) _
           (answerOf (read .result) (read .last .1 .1 .1 .1 .0) (read .last .1 .1 .1 .1 .1 .0))
-          (sideReader (bitSource (a .t1 .now)) maxNodes (a .unused .now) σ (a .at)) (c9 .pre .0 .2) refl
+          (sideReader (bitSource (a .t1 .now)) maxNodes (a .unused .now) σ (a .cursor .at)) (c10 .pre .1 .0) refl
           (read .ensures .0 σ k (a .unused .now) refl),
       (read .ensures .1 .0, (read .ensures .1 .1 .0, omega (arith, read .ensures .1 .1 .2))),
     )
@@ -33,6 +42,7 @@ read-side-spec =
     (λ c. search needs)
     (λ c. search needs)
     (λ c κs. search needs)
+    read-terms-requires
     (λ c. search needs)
     sub-unused
     (λ c κs. search needs)

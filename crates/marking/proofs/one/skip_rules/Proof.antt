@@ -16,35 +16,32 @@ use Rattle.marking.proofs.one.skip_rules.Statement.{statement}
 use Rattle.marking.proofs.one.skip_rules.Tie as tie
 
 abbrev Inv-loop : tie.InvT-loop
-Inv-loop book arities count at unused none₀ here₀ i₀ none here i =
-    (i ≤ count) × (here ≤ 8 * length book) × (length none ≡ 0)
+Inv-loop book arities count unused none₀ here₀ i₀ none here i =
+    (i ≤ count) × (here .at ≤ 8 * length book) × (length none ≡ 0)
     × ((σ : Signature) → Arities σ arities → (total : ℕ) → count ≤ total →
-    (done : List Sides) × Done (bitSource book) (unusedOf formNumber) σ total at i here done)
+    (done : List Sides) × Done (bitSource book) (unusedOf formNumber) σ total (here₀ .at) i (here .at) done)
 
 abbrev μ-loop : tie.MeasureT-loop
-μ-loop book arities count at unused none₀ here₀ i₀ none here i = count - i
+μ-loop book arities count unused none₀ here₀ i₀ none here i = count - i
 
 loop-holds : tie.Need-loop-holds Inv-loop μ-loop
 loop-holds c =
-    let c2 = c .before .before in
-    let a = c2 .args in (
+    let a = c .before .before .args in (
       omega arith,
-      c2 .pre .1,
+      c .before .before .pre .1,
       refl,
-      λ σ k total h. ([], done-none (bitSource (a .book .now)) (unusedOf formNumber) σ total (a .at)),
+      λ σ k total h. ([], done-none (bitSource (a .book .now)) (unusedOf formNumber) σ total (a .cursor .at)),
     )
 
 slice-aggregate : tie.Need-slice-aggregate-read-rule-into Inv-loop μ-loop
 slice-aggregate c =
-    let c2 = c .before .before in
-    sym (c2 .loop .inv .2)
+    sym (c .before .before .loop .inv .2)
 
 read-rule-into-requires : tie.Need-read-rule-into-requires Inv-loop μ-loop
 read-rule-into-requires c κs =
-    let c2 = c .before .before in
-    let c3 = c2 .before in
+    let c3 = c .before .before .before in
     let c5 = c3 .before .before in
-    ((c5 .pre .0, c2 .loop .inv .1, omega arith), c3 .unused-at-start .ensures .1)
+    ((c5 .pre .0, c .before .before .loop .inv .1, omega arith), c3 .unused-at-start .ensures .1)
 
 returns : tie.Need-returns Inv-loop μ-loop
 returns c =
@@ -56,8 +53,8 @@ returns c =
     let a = c10 .args in
     let l = c7 .loop in (
       λ σ k total h. let (done, d) = l .inv .3 σ k total h in
-          done-fault (bitSource (a .book .now)) (unusedOf formNumber) σ total (a .at) (l .i) (l .here) done d
-          (omega (arith, c6 .loop-test .taken)) _ _
+          done-fault (bitSource (a .book .now)) (unusedOf formNumber) σ total (a .cursor .at) (l .i) (l .here .at) done
+          d (omega (arith, c6 .loop-test .taken)) _ _
           (rw (c .before .offset .given .1, c8 .unused-at-start .ensures .0) at (c4 .read-rule-into .ensures .0 σ k)),
       tt,
     )
@@ -71,17 +68,17 @@ loop-again c =
     let c10 = c8 .before .before in
     let a = c10 .args in
     let l = c7 .loop in
-    let within = rw (c .before .next .given .1) at (c4 .read-rule-into .ensures .1) in (
+    let within = rw (c .before .cursor .given .1) at (c4 .read-rule-into .ensures .1) in (
       omega arith,
       within .1,
       c4 .read-rule-into .kept .1 .1 .0 ∙ l .inv .2,
       λ σ k total h. let (done, d) = l .inv .3 σ k total h in
           let (r, read, long, put) =
-          rw (c .before .next .given .1, c8 .unused-at-start .ensures .0) at (c4 .read-rule-into .ensures .0 σ k)
+          rw (c .before .cursor .given .1, c8 .unused-at-start .ensures .0) at (c4 .read-rule-into .ensures .0 σ k)
           in (
             done ++ (r ∷ []),
-            done-more (bitSource (a .book .now)) (unusedOf formNumber) σ total (a .at) (l .i) (l .here) done d
-                (omega (arith, c6 .loop-test .taken)) r _ read,
+            done-more (bitSource (a .book .now)) (unusedOf formNumber) σ total (a .cursor .at) (l .i) (l .here .at) done
+                d (omega (arith, c6 .loop-test .taken)) r _ read,
           ),
     )
 

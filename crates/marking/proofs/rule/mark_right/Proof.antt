@@ -14,7 +14,7 @@ mark-sides-requires c κs =
     let σ = signatureOf (a .table .now) in
     let (T, A, left, N) = c10 .pre .1 .0 in
     let (e, u) = rw (c .before .before .value .given .1) at (c4 .read-side .ensures .0 σ A) in
-    (record { symbols = T; left = left; right = side-term (a .book .now) (a .unused) σ (a .at) _ _ e }, N)
+    (record { symbols = T; left = left; right = side-term (a .book .now) (a .unused) σ (a .cursor .at) _ _ e }, N)
 
 returns : tie.Need-returns
 returns c =

@@ -14,7 +14,7 @@ use Rattle.marking.proofs.rule.mark_rule.Tie as tie
 read-side-requires : tie.Need-read-side-requires
 read-side-requires c κs =
     let c5 = c .before .before .before .before .before in
-    ((c5 .pre .0 .0, c5 .pre .0 .1, refl), c .before .before .unused-at-start .ensures .1)
+    (c5 .pre .0, (refl, c .before .before .unused-at-start .ensures .1))
 
 mark-right-requires : tie.Need-mark-right-requires
 mark-right-requires c κs =
@@ -26,7 +26,7 @@ mark-right-requires c κs =
     let (e, u) = rw (c .before .before .value .given .1) at (c4 .read-side .ensures .0 σ A) in
     let (few, end) = rw (c .before .before .value .given .1) at (c4 .read-side .ensures .1 .0) in (
       (c10 .pre .0 .0, end),
-      ((T, A, side-term (a .book .now) _ σ (a .at) _ _ e, N), omega (arith, c4 .read-side .ensures .1 .1 .1)),
+      ((T, A, side-term (a .book .now) _ σ (a .cursor .at) _ _ e, N), omega (arith, c4 .read-side .ensures .1 .1 .1)),
     )
 
 returns : tie.Need-returns
@@ -38,7 +38,7 @@ returns c =
     let σ = signatureOf (a .table .now) in
     let e = rw (c .before .offset .given .1, c6 .unused-at-start .ensures .0)
     at (c3 .read-side .ensures .0 σ (c9 .pre .1 .1)) in
-    (left-unread σ (bitSource (a .book .now)) (unusedOf formNumber) (a .at) _ _ e, tt)
+    (left-unread σ (bitSource (a .book .now)) (unusedOf formNumber) (a .cursor .at) _ _ e, tt)
 
 returns-2 : tie.Need-returns-2
 returns-2 c =
@@ -50,7 +50,7 @@ returns-2 c =
     let σ = signatureOf (a .table .now) in
     let (e, u) = rw (c3 .value .given .1, c8 .unused-at-start .ensures .0)
     at (c5 .read-side .ensures .0 σ (c11 .pre .1 .1)) in (
-      rule-marked σ (bitSource (a .book .now)) (unusedOf formNumber) (a .at) _ _ _ e u (c .mark-right .result)
+      rule-marked σ (bitSource (a .book .now)) (unusedOf formNumber) (a .cursor .at) _ _ _ e u (c .mark-right .result)
           (c .mark-right .ensures .0),
       c .mark-right .ensures .1,
     )

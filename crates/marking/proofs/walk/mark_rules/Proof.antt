@@ -15,14 +15,15 @@ use Rattle.marking.proofs.walk.mark_rules.Statement.{statement}
 use Rattle.marking.proofs.walk.mark_rules.Tie as tie
 
 abbrev Inv-loop : tie.InvT-loop
-Inv-loop book table arities adds marks₀ margins₀ count at here₀ decreasing₀ i₀ marks margins here decreasing i =
+Inv-loop book table arities adds marks₀ margins₀ count here₀ decreasing₀ i₀ marks margins here decreasing i =
     (i ≤ count) × (decreasing ≤ i) × (length marks ≡ length marks₀) × (length margins ≡ length margins₀)
-    × (here ≤ 8 * length book)
-    × ListedSoFar (bitSource book) (unusedOf formNumber) (signatureOf table) count here₀ marks₀ margins₀ i here
+    × (here .at ≤ 8 * length book)
+    × ListedSoFar (bitSource book) (unusedOf formNumber) (signatureOf table) count (here₀ .at) marks₀ margins₀ i
+    (here .at)
     decreasing marks margins
 
 abbrev μ-loop : tie.MeasureT-loop
-μ-loop book table arities adds marks₀ margins₀ count at here₀ decreasing₀ i₀ marks margins here decreasing i = count - i
+μ-loop book table arities adds marks₀ margins₀ count here₀ decreasing₀ i₀ marks margins here decreasing i = count - i
 
 loop-holds : tie.Need-loop-holds Inv-loop μ-loop
 loop-holds c =
@@ -33,7 +34,8 @@ loop-holds c =
       refl,
       refl,
       c3 .pre .0 .1,
-      listed-none (bitSource (a .book .now)) (unusedOf formNumber) (signatureOf (a .table .now)) (a .count) (a .at)
+      listed-none (bitSource (a .book .now)) (unusedOf formNumber) (signatureOf (a .table .now)) (a .count)
+          (a .cursor .at)
           (a .marks .now) (a .margins .now),
     )
 
@@ -60,9 +62,10 @@ returns c =
     let c9 = c5 .before .before .before .before in
     let a = c9 .args in
     let l = c5 .loop in (
-      listed-fault (bitSource (a .book .now)) (unusedOf formNumber) (signatureOf (a .table .now)) (a .count) (a .at)
+      listed-fault (bitSource (a .book .now)) (unusedOf formNumber) (signatureOf (a .table .now)) (a .count)
+          (a .cursor .at)
           (a .marks .now) (a .margins .now)
-          (l .i) (l .here) (l .decreasing) (l .marks) (l .margins) (l .inv .5) (c4 .loop-test .taken) _ _ (l
+          (l .i) (l .here .at) (l .decreasing) (l .marks) (l .margins) (l .inv .5) (c4 .loop-test .taken) _ _ (l
           .marks) (l .margins)
           (rw (c .before .code .given .1) at (c3 .mark-rule .ensures .0)),
       tt,
@@ -71,28 +74,30 @@ returns c =
 loop-again : tie.Need-loop-again Inv-loop μ-loop
 loop-again c =
     let c3 = c .before .before .before in
-    let c7 = c3 .before .before .before .before in
-    let c10 = c7 .before .before .before in
-    let c12 = c10 .before .before in
-    let c13 = c12 .before in
+    let c4 = c3 .before in
+    let c8 = c4 .before .before .before .before in
+    let c11 = c8 .before .before .before in
+    let c13 = c11 .before .before in
     let c14 = c13 .before in
-    let c18 = c14 .before .before .before .before in
-    let a = c18 .args in
-    let l = c14 .loop in
-    let within = rw (c10 .rule .given .1) at (c12 .mark-rule .ensures .1) in (
+    let c15 = c14 .before in
+    let c19 = c15 .before .before .before .before in
+    let a = c19 .args in
+    let l = c15 .loop in
+    let within = rw (c11 .rule .given .1) at (c13 .mark-rule .ensures .1) in (
       omega arith,
-      omega (arith, c .decreases .ensures .1),
-      ap length (c7 .put-mark .ensures) ∙ simp length-set (l .inv .2),
-      ap length (c .before .before .put-margin .ensures) ∙ simp length-set (l .inv .3),
+      omega (arith, c .before .decreases .ensures .1),
+      ap length (c8 .put-mark .ensures) ∙ simp length-set (l .inv .2),
+      ap length (c3 .put-margin .ensures) ∙ simp length-set (l .inv .3),
       within,
-      listed-more (bitSource (a .book .now)) (unusedOf formNumber) (signatureOf (a .table .now)) (a .count) (a .at)
+      listed-more (bitSource (a .book .now)) (unusedOf formNumber) (signatureOf (a .table .now)) (a .count)
+          (a .cursor .at)
           (a .marks .now) (a .margins .now)
-          (l .i) (l .here) (l .decreasing) (l .marks) (l .margins) (l .inv .5) (c13 .loop-test .taken) _ (c10
-          .rule .given .0 .0) _ _
-          (rw (c10 .rule .given .1) at (c12 .mark-rule .ensures .0)) (c .decreases .ensures .0) (c7 .put-mark
+          (l .i) (l .here .at) (l .decreasing) (l .marks) (l .margins) (l .inv .5) (c14 .loop-test .taken) _
+          (c11 .rule .given .0 .0) _ _
+          (rw (c11 .rule .given .1) at (c13 .mark-rule .ensures .0)) (c .before .decreases .ensures .0) (c8 .put-mark
           .ensures)
-          (c .before .before .put-margin .ensures ∙ ap (set (l .margins) (l .i)) (toZ-ofZ w64 _ (record {
-            sfits = c3 .struct-told
+          (c3 .put-margin .ensures ∙ ap (set (l .margins) (l .i)) (toZ-ofZ w64 _ (record {
+            sfits = c4 .struct-told
                 .given .1 .0 .1;
           }))),
     )
@@ -108,9 +113,10 @@ returns-2 c =
     let c5 = c .before .before .before .before .before in
     let a = c5 .args in
     let l = c .before .loop in (
-      listed-all (bitSource (a .book .now)) (unusedOf formNumber) (signatureOf (a .table .now)) (a .count) (a .at)
+      listed-all (bitSource (a .book .now)) (unusedOf formNumber) (signatureOf (a .table .now)) (a .count)
+          (a .cursor .at)
           (a .marks .now) (a .margins .now)
-          (l .i) (l .here) (l .decreasing) (l .marks) (l .margins) (l .inv .5) (c .loop-test .left) (l .here)
+          (l .i) (l .here .at) (l .decreasing) (l .marks) (l .margins) (l .inv .5) (c .loop-test .left) (l .here .at)
           refl,
       (omega arith, l .inv .4),
     )

@@ -33,12 +33,13 @@ returns c form taken =
     let σ = signatureOf (a .table .now) in
     let read = rw (c3 .value .given .1) at (c8 .mark-rules .ensures .0) in
     let within = rw (c3 .value .given .1) at (c8 .mark-rules .ensures .1) in
-    let long = rules-length (bitSource (a .book .now)) (unusedOf formNumber) σ (a .count) (a .at) (read .0) _ (read .1)
+    let long = rules-length (bitSource (a .book .now)) (unusedOf formNumber) σ (a .count) (a .cursor .at)
+    (read .0) _ (read .1)
     in (
       _,
       _,
-      rest-ended formNumber form taken true (a .book .now) [] σ (a .count) (a .at) (read .0) _ (read .1)
-          (c3 .value .given .0 .1 .0) (rw (sym (c .before .is-padding .ensures) ∙ c .if1 .taken)),
+      rest-ended formNumber form taken true (a .book .now) [] σ (a .count) (a .cursor .at) (read .0) _ (read .1)
+          (c3 .value .given .0 .1 .0 .at) (rw (sym (c .before .is-padding .ensures) ∙ c .if1 .taken)),
       marked-as form σ (read .0) (a .count) _ _ _ _ _ long (c19 .pre .1 .1) (within .0) (read .2),
     )
 
@@ -48,7 +49,8 @@ returns-2 c form taken =
     let c6 = c .before .before .before .before .before .before in
     let c17 = c6 .before .before .before .before .before .before .before .before .before .before .before in
     let a = c17 .args in
-    rest-unread formNumber form taken true (a .book .now) [] (signatureOf (a .table .now)) (a .count) (a .at) _ _
+    rest-unread formNumber form taken true (a .book .now) [] (signatureOf (a .table .now)) (a .count)
+    (a .cursor .at) _ _
     (rw (c .before .offset .given .1) at (c6 .mark-rules .ensures .0))
 
 returns-3 : tie.Need-returns-3
@@ -59,7 +61,7 @@ returns-3 c form taken =
     let c19 = c8 .before .before .before .before .before .before .before .before .before .before .before in
     let a = c19 .args in
     let read = rw (c3 .value .given .1) at (c8 .mark-rules .ensures .0) in
-    rest-unended formNumber form taken true (a .book .now) [] (signatureOf (a .table .now)) (a .count) (a .at)
+    rest-unended formNumber form taken true (a .book .now) [] (signatureOf (a .table .now)) (a .count) (a .cursor .at)
     (read .0) _ (read .1) _ _
     (rw (sym (c .before .is-padding .ensures) ∙ c .if1 .left))
 

@@ -13,10 +13,11 @@ returns c = rw (c .before .if1 .taken) (c .field .ensures)
 returns-2 : tie.Need-returns-2
 unfolding sourceOf
 returns-2 c =
-    let c4 = c .before .before .before .before in
-    rw (c .before .if1 .left) (rw (one-shl 64 (c4 .args .width) (omega (arith, c4 .pre .1))) at (c .word-below
-    .ensures))
+    let c5 = c .before .before .before .before .before in
+    let word = rw (one-shl 64 (c5 .args .width) (omega (arith, c5 .pre .1))) at (c .before .word-below .ensures) in
+    rw (c .before .before .if1 .left, c .moved .ensures) word
 
 pub field-spec : {M : Type 1} → statement M
 field-spec =
-    tie.close (tie.spec (λ c κs. search needs) returns (λ c. search needs) (λ c κs. search needs) returns-2)
+    tie.close (tie.spec (λ c κs. search needs) returns (λ c. search needs) (λ c κs. search needs) (λ c κs. search needs)
+    returns-2)

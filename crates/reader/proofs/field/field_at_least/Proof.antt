@@ -15,7 +15,7 @@ returns c =
     let read = sym (rw (c .enum-told .given .1) at (c .before .before .field .ensures .0)) in
     rw (c .enum-told .given .1) (
       sym (tested-fault (sourceOf (a .packed) (a .book .now) (a .sheet .now)) (a .width) (leb (a .least)) (a .code)
-          (a .at) _ _ read),
+          (a .cursor .at) _ _ read),
       rw (c .enum-told .given .1) at (c .before .before .field .ensures .1),
     )
 
@@ -26,7 +26,7 @@ returns-2 c =
     let a = c7 .args in
     let read = sym (rw (c .before .before .read .given .1) at (c4 .field .ensures .0)) in (
       sym (tested-less (sourceOf (a .packed) (a .book .now) (a .sheet .now)) (a .width) (leb (a .least)) (a .code)
-          (a .at) _ _ read (lt-leb _ _ (c .if1 .taken))),
+          (a .cursor .at) _ _ read (lt-leb _ _ (c .if1 .taken))),
       (c7 .pre .2, c7 .pre .3),
     )
 
@@ -37,7 +37,7 @@ returns-3 c =
     let a = c7 .args in
     let read = sym (rw (c .before .before .read .given .1) at (c4 .field .ensures .0)) in (
       sym (tested-got (sourceOf (a .packed) (a .book .now) (a .sheet .now)) (a .width) (leb (a .least)) (a .code)
-          (a .at) _ _ read (le-leb _ _ (c .if1 .left))),
+          (a .cursor .at) _ _ read (le-leb _ _ (c .if1 .left))),
       rw (c .before .before .read .given .1) at (c4 .field .ensures .1),
     )
 

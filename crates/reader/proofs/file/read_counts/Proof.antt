@@ -8,6 +8,7 @@ use Rattle.reader.specs.Source.{sourceOf}
 use Rattle.reader.specs.File.{countsReader}
 use Rattle.reader.proofs.SourceLaws.{tested-field, reached-field, w0-stands, room-le}
 use Rattle.reader.proofs.FileLaws.{head-answer}
+use Rattle.bits.specs.Cursor.{told}
 use borrow.Author.Needs.{needs}
 use Rattle.reader.proofs.file.read_counts.Statement.{statement}
 use Rattle.reader.proofs.file.read_counts.Tie as tie
@@ -55,7 +56,7 @@ read-table-requires c κs =
     let c16 = c12 .before .before .before .before in
     let a = c16 .args in
     let source = sourceOf (a .packed) (a .book .now) (a .sheet .now) in
-    let count = tested-field source 8 (leb 1) 4 (a .at) _ _
+    let count = tested-field source 8 (leb 1) 4 (a .cursor .at) _ _
     (sym (rw (c10 .read .given .1) at (c12 .field-at-least .ensures .0))) in
     let w0 = tested-field source 16 (leb 1) 5 _ _ _
     (sym (rw (c6 .read2 .given .1) at (c8 .field-at-least2 .ensures .0))) in
@@ -85,14 +86,14 @@ returns-4 c reader taken =
     let count-read = sym (rw (c13 .read .given .1) at (c15 .field-at-least .ensures .0)) in
     let w0-read = sym (rw (c9 .read2 .given .1) at (c11 .field-at-least2 .ensures .0)) in
     let rules = sym (rw (c5 .read3 .given .1) at (c7 .field .ensures .0)) in
-    let count = tested-field source 8 (leb 1) 4 (a .at) _ _ count-read in
+    let count = tested-field source 8 (leb 1) 4 (a .cursor .at) _ _ count-read in
     let w0 = tested-field source 16 (leb 1) 5 _ _ _ w0-read in
     let reach = reached-field (a .packed) (a .book .now) (a .sheet .now) in
     let second = reach 1 8 _ _ _ (c19 .pre .0 .1) (count .0) in
     let few = rw (c13 .read .given .1) at (c15 .field-at-least .ensures .1) in
     let some = rw (c5 .read3 .given .1) at (c7 .field .ensures .1) in
     rw (count-read, w0-read, rules) (head-answer (a .form) (a .packed) (a .book .now) (a .sheet .now) _ _ _ _
-    (a .table .now) (c .before .before .read-table .last .1 .1 .1 .0) (c .before .before .read-table .result)
+    (a .table .now) (c .before .before .read-table .last .1 .1 .1 .0) (told (c .before .before .read-table .result))
     (c .before .before .read-table .ensures)
     (w0-stands (a .packed) (a .book .now) (a .sheet .now) 16 _ _ _ second (w0 .0))
     (c .before .before .read-table .kept .1 .1 .1 .0)

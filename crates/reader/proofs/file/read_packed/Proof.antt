@@ -1,11 +1,12 @@
 -- The head is read, the rules under the front of its table, and what may follow them.
-use mathlib.Core.Path.{sym, _∙_}
+use mathlib.Core.Path.{sym, ap, _∙_}
 use mathlib.Core.List.{[]}
 use native.Mathlib.Omega.{arith}
 use lib.Seq.{length-take-le}
 use Rattle.reader.specs.Source.{Reached}
 use Rattle.reader.proofs.SourceLaws.{read-packed}
 use Rattle.reader.proofs.WholeLaws.{packed-unread, packed-unended, packed-read}
+use Rattle.bits.specs.Cursor.{told}
 use borrow.Author.Needs.{needs}
 use Rattle.reader.proofs.file.read_packed.Statement.{statement}
 use Rattle.reader.proofs.file.read_packed.Tie as tie
@@ -13,10 +14,11 @@ use Rattle.reader.proofs.file.read_packed.Tie as tie
 returns : tie.Need-returns
 unfolding Reached
 returns c =
-    let c4 = c .before .before .before .before in
-    let c11 = c4 .before .before .before .before .before .before .before in
-    rw (c .enum-told .given .1) (sym (read-packed (c11 .args .form) (c11 .args .book .now) [])
-    ∙ rw (c .enum-told .given .1) at (c4 .read-head .ensures))
+    let c5 = c .before .before .before .before .before in
+    let c12 = c5 .before .before .before .before .before .before .before in
+    let fault = c .before .enum-told .given .1 in
+    rw (c .told .ensures, fault) (sym (read-packed (c12 .args .form) (c12 .args .book .now) [])
+    ∙ rw fault at (c5 .read-head .ensures))
 
 front-requires : tie.Need-front-requires
 unfolding Reached
@@ -52,17 +54,19 @@ read-packed-rules-requires c κs =
 returns-2 : tie.Need-returns-2
 unfolding Reached
 returns-2 c =
-    let c4 = c .before .before .before .before in
-    let c7 = c4 .before .before .before in
-    let c9 = c7 .before .before in
-    let c11 = c9 .before .before in
-    let c15 = c11 .before .before .before .before in
-    let c22 = c15 .before .before .before .before .before .before .before in
-    let a = c22 .args in
-    rw (c .enum-told2 .given .1) (packed-unread (a .form) (a .book .now) (c15 .read-head .last .1 .1 .1 .1 .0)
-    (a .words .now) (c4 .read-packed-rules .last .1 .1 .0) _ _ _ _ (c11 .read .given .1) (c15 .read-head .ensures) _
-    (c9 .front .ensures .0) (c7 .arities .result)
-    (c7 .arities .ensures) _ (c4 .read-packed-rules .ensures) _ _ (c .enum-told2 .given .1))
+    let c5 = c .before .before .before .before .before in
+    let c8 = c5 .before .before .before in
+    let c10 = c8 .before .before in
+    let c12 = c10 .before .before in
+    let c16 = c12 .before .before .before .before in
+    let c23 = c16 .before .before .before .before .before .before .before in
+    let a = c23 .args in
+    let fault = c .before .enum-told2 .given .1 in
+    rw (c .told2 .ensures, fault) (packed-unread (a .form) (a .book .now) (c16 .read-head .last .1 .1 .1 .1 .0)
+    (a .words .now) (c5 .read-packed-rules .last .1 .1 .0) _ _ _ _ (ap told (c12 .read .given .1))
+    (c16 .read-head .ensures) _
+    (c10 .front .ensures .0) (c8 .arities .result)
+    (c8 .arities .ensures) _ (c5 .read-packed-rules .ensures) _ _ (ap told fault))
 
 is-padding-requires : tie.Need-is-padding-requires
 unfolding Reached
@@ -83,9 +87,10 @@ returns-3 c =
     let c25 = c18 .before .before .before .before .before .before .before in
     let a = c25 .args in
     packed-read (a .form) (a .book .now) (c18 .read-head .last .1 .1 .1 .1 .0) (a .words .now)
-    (c7 .read-packed-rules .last .1 .1 .0) _ _ _ _ (c14 .read .given .1) (c18 .read-head .ensures) _
+    (c7 .read-packed-rules .last .1 .1 .0) _ _ _ _ (ap told (c14 .read .given .1)) (c18 .read-head .ensures) _
     (c12 .front .ensures .0)
-    (c10 .arities .result) (c10 .arities .ensures) _ (c7 .read-packed-rules .ensures) _ _ (c3 .read2 .given .1) _
+    (c10 .arities .result) (c10 .arities .ensures) _ (c7 .read-packed-rules .ensures) _ _
+    (ap told (c3 .read2 .given .1)) _
     (c .before .is-padding .ensures)
     (c .if1 .taken) (c12 .front .ensures .1)
 
@@ -101,16 +106,19 @@ returns-4 c =
     let c25 = c18 .before .before .before .before .before .before .before in
     let a = c25 .args in
     packed-unended (a .form) (a .book .now) (c18 .read-head .last .1 .1 .1 .1 .0) (a .words .now)
-    (c7 .read-packed-rules .last .1 .1 .0) _ _ _ _ (c14 .read .given .1) (c18 .read-head .ensures) _
+    (c7 .read-packed-rules .last .1 .1 .0) _ _ _ _ (ap told (c14 .read .given .1)) (c18 .read-head .ensures) _
     (c12 .front .ensures .0)
-    (c10 .arities .result) (c10 .arities .ensures) _ (c7 .read-packed-rules .ensures) _ _ (c3 .read2 .given .1) _
+    (c10 .arities .result) (c10 .arities .ensures) _ (c7 .read-packed-rules .ensures) _ _
+    (ap told (c3 .read2 .given .1)) _
     (c .before .is-padding .ensures)
     (c .if1 .left)
 
 pub read-packed-spec : {M : Type 1} → statement M
 read-packed-spec =
     tie.close (tie.spec (λ c. search needs) (λ c κs. search needs) (λ c. search needs) (λ c. search needs)
-    (λ c. search needs) returns front-requires (λ c. search needs) slice-aggregate-arities arities-requires
-    read-packed-rules-requires (λ c. search needs) (λ c. search needs) (λ c. search needs) (λ c. search needs)
-    returns-2 is-padding-requires (λ c. search needs) (λ c. search needs) returns-3 (λ c. search needs)
+    (λ c κs. search needs) (λ c. search needs) returns front-requires (λ c. search needs)
+    slice-aggregate-arities arities-requires
+    read-packed-rules-requires (λ c. search needs) (λ c. search needs) (λ c κs. search needs) (λ c. search needs)
+    (λ c. search needs) returns-2 is-padding-requires (λ c. search needs) (λ c. search needs) returns-3
+    (λ c. search needs)
     (λ c. search needs) returns-4)

@@ -4,6 +4,7 @@ use native.Mathlib.Omega.{arith}
 use Rattle.format.specs.Reading.{bitSource}
 use Rattle.format.specs.Forms.{unusedOf}
 use Rattle.format.specs.Format.{ruleReader}
+use Rattle.bits.specs.Cursor.{told}
 use Rattle.reader.proofs.RuleLaws.{rule-as-read, rule-renumbered}
 use borrow.Author.Needs.{needs}
 use Rattle.reader.proofs.rule.read_packed_rule.Statement.{statement}
@@ -29,7 +30,8 @@ returns c =
     let c8 = c5 .before .before .before in
     let a = c8 .args in (
       λ σ k. rule-as-read (a .form) (a .index) (a .words .now) (c3 .read-rule-into .last .1 .1 .0)
-          (ruleReader (bitSource (a .book .now)) (unusedOf (a .form)) σ (a .at)) (c3 .read-rule-into .result)
+          (ruleReader (bitSource (a .book .now)) (unusedOf (a .form)) σ (a .cursor .at))
+          (told (c3 .read-rule-into .result))
           (c .if1 .taken)
           (rw (c5 .unused-at-start .ensures .0) at (c3 .read-rule-into .ensures .0 σ k)),
       c3 .read-rule-into .ensures .1,
@@ -65,7 +67,7 @@ returns-3 c =
     let c12 = c10 .before .before in
     let c15 = c12 .before .before .before in
     let a = c15 .args in (
-      λ σ k. rule-renumbered (a .book .now) (a .form) σ (a .at) (a .index) (a .words .now)
+      λ σ k. rule-renumbered (a .book .now) (a .form) σ (a .cursor .at) (a .index) (a .words .now)
           (c10 .read-rule-into .last .1 .1 .0) (c .before .before .renumber .last .0) _ _ (c7 .if1 .left)
           (rw (c5 .read .given .1, c12 .unused-at-start .ensures .0) at (c10 .read-rule-into .ensures .0 σ k))
           (c .before .before .renumber .ensures),

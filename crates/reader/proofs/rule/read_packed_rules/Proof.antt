@@ -13,12 +13,13 @@ use Rattle.reader.proofs.rule.read_packed_rules.Tie as tie
 use Rattle.reader.proofs.rule.read_packed_rule.Reads as read-packed-rule-reads
 
 abbrev Inv-loop : tie.InvT-loop
-Inv-loop book arities words₀ form count at end₀ here₀ number₀ words end here number =
-    (number ≤ count) × (length words ≡ length words₀) × (end ≤ 256 * number) × (here ≤ 8 * length book)
-    × ((σ : Signature) → Arities σ arities → SoFar form (bitSource book) σ count number at here 0 end words₀ words)
+Inv-loop book arities words₀ form count end₀ here₀ number₀ words end here number =
+    (number ≤ count) × (length words ≡ length words₀) × (end ≤ 256 * number) × (here .at ≤ 8 * length book)
+    × ((σ : Signature) → Arities σ arities → SoFar form (bitSource book) σ count number (here₀ .at) (here .at)
+    0 end words₀ words)
 
 abbrev μ-loop : tie.MeasureT-loop
-μ-loop book arities words₀ form count at end₀ here₀ number₀ words end here number = count - number
+μ-loop book arities words₀ form count end₀ here₀ number₀ words end here number = count - number
 
 loop-holds : tie.Need-loop-holds Inv-loop μ-loop
 loop-holds c =
@@ -27,7 +28,7 @@ loop-holds c =
       refl,
       omega arith,
       c .before .before .pre .1,
-      λ σ k. so-far-none (a .form) (bitSource (a .book .now)) σ (a .count) (a .at) 0 (a .words .now),
+      λ σ k. so-far-none (a .form) (bitSource (a .book .now)) σ (a .count) (a .cursor .at) 0 (a .words .now),
     )
 
 read-packed-rule-requires : tie.Need-read-packed-rule-requires Inv-loop μ-loop
@@ -48,7 +49,8 @@ returns c σ k =
     let c11 = c8 .before .before .before in
     let a = c11 .args in
     let l = c8 .loop in
-    so-far-fault (a .form) (bitSource (a .book .now)) σ (a .count) (a .at) 0 (a .words .now) (l .number) (l .here)
+    so-far-fault (a .form) (bitSource (a .book .now)) σ (a .count) (a .cursor .at) 0 (a .words .now) (l .number)
+    (l .here .at)
     (l .end) (l .words) (omega arith) (l .inv .4 σ k) _ _ (c5 .read-packed-rule .last .1 .1 .0)
     (rw (c .before .offset .given .1) at (c5 .read-packed-rule .ensures .0 σ k))
 
@@ -65,8 +67,8 @@ loop-again c =
       c5 .read-packed-rule .kept .1 .1 .0 ∙ v .1,
       omega (arith, within .0),
       within .1,
-      λ σ k. so-far-more (a .form) (bitSource (a .book .now)) σ (a .count) (a .at) 0 (a .words .now) (l .number)
-          (l .here) (l .end) (l .words) (omega arith) (v .4 σ k) _ _ (c5 .read-packed-rule .last .1 .1 .0) (v .1)
+      λ σ k. so-far-more (a .form) (bitSource (a .book .now)) σ (a .count) (a .cursor .at) 0 (a .words .now) (l .number)
+          (l .here .at) (l .end) (l .words) (omega arith) (v .4 σ k) _ _ (c5 .read-packed-rule .last .1 .1 .0) (v .1)
           (rw (c .before .value .given .1) at (c5 .read-packed-rule .ensures .0 σ k)),
     )
 
@@ -78,7 +80,8 @@ returns-2 c σ k =
     let c4 = c .before .before .before .before in
     let a = c4 .args in
     let l = c .before .loop in
-    so-far-done (a .form) (bitSource (a .book .now)) σ (a .count) (a .at) 0 (a .words .now) (l .end) (l .here)
+    so-far-done (a .form) (bitSource (a .book .now)) σ (a .count) (a .cursor .at) 0 (a .words .now) (l .end)
+    (l .here .at)
     (l .words) (l .number) (omega arith) (l .inv .4 σ k)
 
 pub read-packed-rules-spec : {M : Type 1} → statement M

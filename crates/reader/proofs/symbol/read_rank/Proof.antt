@@ -17,7 +17,7 @@ returns c =
     let read = sym (rw (c .enum-told .given .1) at (c .before .before .field .ensures .0)) in
     rw (c .enum-told .given .1) (
       λ earlier h. sym (tested-fault (sourceOf (a .packed) (a .book .now) (a .sheet .now)) 8
-          (λ (rank : ℕ). not (heldBy earlier rank)) 8 (a .at) _ _ read),
+          (λ (rank : ℕ). not (heldBy earlier rank)) 8 (a .cursor .at) _ _ read),
       rw (c .enum-told .given .1) at (c .before .before .field .ensures .1),
     )
 
@@ -35,7 +35,8 @@ returns-2 c =
     let read = sym (rw (c3 .read .given .1) at (c5 .field .ensures .0)) in
     let small = rw (c3 .read .given .1) at (c5 .field .ensures .1) in (
       λ earlier h. sym (tested-less (sourceOf (a .packed) (a .book .now) (a .sheet .now)) 8
-          (λ (rank : ℕ). not (heldBy earlier rank)) 8 (a .at) _ _ read (ap not (sym (h _ small) ∙ c .if1 .taken))),
+          (λ (rank : ℕ). not (heldBy earlier rank)) 8 (a .cursor .at) _ _ read
+          (ap not (sym (h _ small) ∙ c .if1 .taken))),
       omega arith,
     )
 
@@ -48,7 +49,8 @@ returns-3 c =
     let read = sym (rw (c3 .read .given .1) at (c5 .field .ensures .0)) in
     let small = rw (c3 .read .given .1) at (c5 .field .ensures .1) in (
       λ earlier h. sym (tested-got (sourceOf (a .packed) (a .book .now) (a .sheet .now)) 8
-          (λ (rank : ℕ). not (heldBy earlier rank)) 8 (a .at) _ _ read (ap not (sym (h _ small) ∙ c .if1 .left))),
+          (λ (rank : ℕ). not (heldBy earlier rank)) 8 (a .cursor .at) _ _ read
+          (ap not (sym (h _ small) ∙ c .if1 .left))),
       small,
     )
 

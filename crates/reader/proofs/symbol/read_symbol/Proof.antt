@@ -62,14 +62,18 @@ least-weight-requires c κs =
 returns-4 : tie.Need-returns-4
 returns-4 c =
     let c3 = c .before .before .before in
-    let c6 = c3 .before .before .before in
+    let c4 = c3 .before in
+    let c5 = c4 .before in
+    let c6 = c5 .before in
     let c8 = c6 .before .before in
-    let c12 = c8 .before .before .before .before in
-    let c18 = c12 .before .before .before .before .before .before in
+    let c10 = c8 .before .before in
+    let c12 = c10 .before .before in
+    let c14 = c12 .before .before in
+    let c18 = c14 .before .before .before .before in
     rw (c .enum-told3 .given .1) (
-      weight-unread _ _ _ _ _ _ _ (c12 .read .given .1) (c12 .before .before .field .ensures .0) _ _ _
-          (c8 .read2 .given .1) (c8 .before .before .field2 .ensures .0) _ (c6 .binary-if-ac .ensures)
-          (c3 .before .before .if1 .left) _ _ (c3 .wide .ensures .0) (c3 .before .least-weight .ensures) _ _ _
+      weight-unread _ _ _ _ _ _ _ (c12 .read .given .1) (c14 .field .ensures .0) _ _ _
+          (c8 .read2 .given .1) (c10 .field2 .ensures .0) _ (c6 .binary-if-ac .ensures)
+          (c5 .if1 .left) _ _ (c3 .wide .ensures .0) (c4 .least-weight .ensures) _ _ _
           (c .enum-told3 .given .1) (c .before .before .field-at-least .ensures .0),
       c18 .pre .1 .1 .1,
     )
@@ -81,23 +85,28 @@ cast-weight c =
 
 read-rank-requires : tie.Need-read-rank-requires
 read-rank-requires c κs =
-    let c20 = c .before .before .before .before .before .before .before .before .before .before .before .before
-    .before .before .before .before .before .before .before .before in
+    let c10 = c .before .before .before .before .before .before .before .before .before .before in
+    let c20 = c10 .before .before .before .before .before .before .before .before .before .before in
     c20 .pre .0 .0
 
 returns-5 : tie.Need-returns-5
 returns-5 c =
     let c5 = c .before .before .before .before .before in
-    let c8 = c5 .before .before .before in
-    let c11 = c8 .before .before .before in
+    let c7 = c5 .before .before in
+    let c8 = c7 .before in
+    let c9 = c8 .before in
+    let c10 = c9 .before in
+    let c11 = c10 .before in
     let c13 = c11 .before .before in
-    let c17 = c13 .before .before .before .before in
-    let c23 = c17 .before .before .before .before .before .before in
+    let c15 = c13 .before .before in
+    let c17 = c15 .before .before in
+    let c19 = c17 .before .before in
+    let c23 = c19 .before .before .before .before in
     rw (c .enum-told4 .given .1) (
-      rank-unread _ _ _ _ _ _ _ (c17 .read .given .1) (c17 .before .before .field .ensures .0) _ _ _
-          (c13 .read2 .given .1) (c13 .before .before .field2 .ensures .0) _ (c11 .binary-if-ac .ensures)
-          (c8 .before .before .if1 .left) _ _ (c8 .wide .ensures .0) (c8 .before .least-weight .ensures) _ _ _
-          (c5 .read3 .given .1) (c5 .before .before .field-at-least .ensures .0) (c23 .args .taken .now)
+      rank-unread _ _ _ _ _ _ _ (c17 .read .given .1) (c19 .field .ensures .0) _ _ _
+          (c13 .read2 .given .1) (c15 .field2 .ensures .0) _ (c11 .binary-if-ac .ensures)
+          (c10 .if1 .left) _ _ (c8 .wide .ensures .0) (c9 .least-weight .ensures) _ _ _
+          (c5 .read3 .given .1) (c7 .field-at-least .ensures .0) (c23 .args .taken .now)
           (c23 .pre .1 .1 .0) _ _ _
           (c .enum-told4 .given .1) (c .before .before .read-rank .ensures .0),
       c23 .pre .1 .1 .1,
@@ -110,8 +119,9 @@ cast-put-entry c =
 
 put-entry-requires : tie.Need-put-entry-requires
 put-entry-requires c κs =
-    let c25 = c .before .before .before .before .before .before .before .before .before .before .before .before
-    .before .before .before .before .before .before .before .before .before .before .before .before .before in
+    let c10 = c .before .before .before .before .before .before .before .before .before .before in
+    let c20 = c10 .before .before .before .before .before .before .before .before .before .before in
+    let c25 = c20 .before .before .before .before .before in
     (c25 .pre .0 .1, c25 .pre .0 .2)
 
 element-write-taken : tie.Need-element-write-taken
@@ -145,7 +155,7 @@ returns-6 c =
     let rank = sym (rw (c5 .read4 .given .1) at (c7 .read-rank .ensures .0 earlier (c28 .pre .1 .1 .0))) in
     let small = rw (c5 .read4 .given .1) at (c7 .read-rank .ensures .1) in
     let parts = symbol-parts (sourceOf (a .packed) (a .book .now) (a .sheet .now)) (leastWeightIn (a .form) (a .w0))
-    earlier (a .at) in
+    earlier (a .cursor .at) in
     let s : Symbol = record {
       arity = c22 .read .given .0 .0;
       ac = eqb (c18 .read2 .given .0 .0) 1;
@@ -158,14 +168,14 @@ returns-6 c =
     let ranked = tested-field source rankWidth _ rankTaken _ _ _ rank .0 in
     let stored = c .before .before .put-entry .ensures .0 (a .sheet .now) s refl
     (entry-stands (a .packed) (a .book .now)
-    (a .sheet .now) (a .number) (a .at) _ _ _ _ _ _ _ _ (c28 .pre .1 .0) arity ac weighed ranked) in (
+    (a .sheet .now) (a .number) (a .cursor .at) _ _ _ _ _ _ _ _ (c28 .pre .1 .0) arity ac weighed ranked) in (
       (
         s,
         parts ∙ rw (arity, ac, binary, weight, rank),
         stored,
         rw stored (taken-put earlier s (a .taken .now) (c28 .pre .1 .1 .1) small (c28 .pre .1 .1 .0)),
-        reached-entry (a .packed) (a .book .now) (a .sheet .now) (a .number) (a .at) _ _ _ _ _ _ _ _ (c28 .pre .1 .0)
-            arity ac weighed ranked,
+        reached-entry (a .packed) (a .book .now) (a .sheet .now) (a .number) (a .cursor .at) _ _ _ _ _ _ _ _
+            (c28 .pre .1 .0) arity ac weighed ranked,
         stored-same (a .packed) _ _ _ _ _ (entry-words _ _ _ _ (rw (c18 .read2 .given .1) at (c20 .field2 .ensures .1)))
             (c .before .before .put-entry .ensures .1),
       ),

@@ -2,6 +2,7 @@
 use mathlib.Core.Path.{_∙_}
 use native.Mathlib.Omega.{arith}
 use Rattle.symbols.proofs.EntryLaws.{table-some}
+use Rattle.bits.specs.Cursor.{told}
 use Rattle.reader.proofs.SymbolLaws.{symbols-headed}
 use borrow.Author.Needs.{needs}
 use Rattle.reader.proofs.symbol.read_symbols.Statement.{statement}
@@ -29,7 +30,7 @@ returns c =
     let c13 = c9 .before .before .before .before in
     let a = c13 .args in
     rw (c9 .if1 .taken) (symbols-headed _ (a .count) (a .w0) (a .rules) _
-    (c .before .before .read-symbols-from .result) _ (a .table .now) (c6 .put-header .last .0) _
+    (told (c .before .before .read-symbols-from .result)) _ (a .table .now) (c6 .put-header .last .0) _
     (c6 .put-header .ensures ∙ rw (c7 .stored-form .ensures))
     (c .before .before .read-symbols-from .ensures))
 

@@ -21,16 +21,17 @@ use Rattle.reader.proofs.symbol.read_symbols_from.Statement.{statement}
 use Rattle.reader.proofs.symbol.read_symbols_from.Tie as tie
 
 abbrev Inv-loop : tie.InvT-loop
-Inv-loop book sheet packed table₀ form w0 count at taken₀ here₀ number₀ table taken here number =
+Inv-loop book sheet packed table₀ form w0 count taken₀ here₀ number₀ table taken here number =
     (number ≤ count) × (length table ≡ length table₀) × (length taken ≡ 256) ×
     TakenBy (symbolsAt (tableOf packed sheet table) 0 number) taken ×
-    (symbolsReader (sourceOf packed book sheet) (leastWeightIn form w0) count [] at ≡
+    (symbolsReader (sourceOf packed book sheet) (leastWeightIn form w0) count [] (here₀ .at) ≡
     symbolsReader (sourceOf packed book sheet) (leastWeightIn form w0) (count - number)
-    (symbolsAt (tableOf packed sheet table) 0 number) here) × Reached packed book sheet (tableWords number) here ×
+    (symbolsAt (tableOf packed sheet table) 0 number) (here .at)) ×
+    Reached packed book sheet (tableWords number) (here .at) ×
     Stored packed 4 (symbolsWords (symbolsAt (tableOf packed sheet table) 0 number)) table₀ table
 
 abbrev μ-loop : tie.MeasureT-loop
-μ-loop book sheet packed table₀ form w0 count at taken₀ here₀ number₀ table taken here number = count - number
+μ-loop book sheet packed table₀ form w0 count taken₀ here₀ number₀ table taken here number = count - number
 
 loop-holds : tie.Need-loop-holds Inv-loop μ-loop
 loop-holds c =
@@ -75,7 +76,7 @@ returns c =
     let v = c9 .loop .inv in
     v .4 ∙ symbols-fault (sourceOf (a .packed) (a .book .now) (a .sheet .now)) least (a .count) (c9 .loop .number)
     (omega arith) (symbolsAt (tableOf (a .packed) (a .sheet .now) (c9 .loop .table)) 0 (c9 .loop .number))
-    (c9 .loop .here) _ _
+    (c9 .loop .here .at) _ _
     (rw (c .before .offset .given .1) at (c5 .read-symbol .ensures .0))
 
 loop-again : tie.Need-loop-again Inv-loop μ-loop
@@ -93,9 +94,9 @@ loop-again c =
       taken,
       v .4 ∙ symbols-past (sourceOf (a .packed) (a .book .now) (a .sheet .now)) least (a .count) (c9 .loop .number)
           (omega arith) (symbolsAt (tableOf (a .packed) (a .sheet .now) (c9 .loop .table)) 0 (c9 .loop .number))
-          (c9 .loop .here) s _ read ∙
+          (c9 .loop .here .at) s _ read ∙
           ap (λ (ss : List Symbol). symbolsReader (sourceOf (a .packed) (a .book .now) (a .sheet .now)) least
-          (a .count - (c9 .loop .number + 1)) ss (c .before .value .given .0 .1 .0)) (sym stored),
+          (a .count - (c9 .loop .number + 1)) ss (c .before .value .given .0 .1 .0 .at)) (sym stored),
       reached,
       rw stored (stored-more (a .packed) (a .table .now) (c9 .loop .table) _ (c9 .loop .number)
           (symbolsAt (tableOf (a .packed) (a .sheet .now) (c9 .loop .table)) 0 (c9 .loop .number)) s
@@ -117,7 +118,7 @@ returns-2 c =
     let z : a .count - number ≡ 0 = omega arith in (
       v .4 ∙ symbols-done (sourceOf (a .packed) (a .book .now) (a .sheet .now)) least (a .count - number)
           (symbolsAt (tableOf (a .packed) (a .sheet .now) (c .before .loop .table)) 0 number)
-          (c .before .loop .here) z ∙ rw e,
+          (c .before .loop .here .at) z ∙ rw e,
       sym (length-symbols _ 0 (a .count)),
       rw e at (v .6),
     )

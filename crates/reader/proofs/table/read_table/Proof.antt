@@ -16,10 +16,10 @@ returns c =
 
 weight-offset-requires : tie.Need-weight-offset-requires
 weight-offset-requires c κs =
-    let c7 = c .before .before .before .before .before .before .before in
-    let c12 = c7 .before .before .before .before .before in
+    let c12 = c .before .before .before .before .before .before .before .before .before .before .before .before in
     let a = c12 .args in (
-      reached-le (a .packed) (a .book .now) (a .sheet .now) 4 (a .at) (omega arith) (c12 .pre .0 .0) (c12 .pre .1 .0),
+      reached-le (a .packed) (a .book .now) (a .sheet .now) 4 (a .cursor .at) (omega arith) (c12 .pre .0 .0)
+          (c12 .pre .1 .0),
       omega arith,
     )
 
@@ -31,7 +31,7 @@ returns-2 c =
     let a = c13 .args in
     let table = tableOf (a .packed) (a .sheet .now) (c8 .read-symbols .last .1 .1 .1 .0) in
     let read = rw (c4 .enum-told .given .1) at (c8 .read-symbols .ensures) in
-    table-outranked (sourceOf (a .packed) (a .book .now) (a .sheet .now)) _ (a .count) (a .at) _ _ (read .0) _
+    table-outranked (sourceOf (a .packed) (a .book .now) (a .sheet .now)) _ (a .count) (a .cursor .at) _ _ (read .0) _
     (c .before .before .outranked-in .ensures) (omega (arith, length-symbols table 0 (a .count))) _
     (c .weight-offset .ensures (a .book .now) (a .sheet .now))
 
@@ -45,7 +45,7 @@ returns-3 c =
     let table = tableOf (a .packed) (a .sheet .now) (c7 .read-symbols .last .1 .1 .1 .0) in
     let read = rw told at (c7 .read-symbols .ensures) in
     rw told (
-      table-ranked (sourceOf (a .packed) (a .book .now) (a .sheet .now)) _ (a .count) (a .at) _ _ (read .0) _
+      table-ranked (sourceOf (a .packed) (a .book .now) (a .sheet .now)) _ (a .count) (a .cursor .at) _ _ (read .0) _
           (c .before .outranked-in .ensures) (omega (arith, length-symbols table 0 (a .count))),
       read .1,
       read .2,

@@ -1,7 +1,7 @@
 -- A node that begins with bit 0 is a symbol, of nine bits, another a variable, of five.
 use borrow.Author.Tests.{lt-ltb, le-ltb}
-use Rattle.bits.proofs.node_width.Statement.{statement}
-use Rattle.bits.proofs.node_width.Tie as tie
+use Rattle.bits.proofs.cut.node_width.Statement.{statement}
+use Rattle.bits.proofs.cut.node_width.Tie as tie
 
 returns : tie.Need-returns
 returns c = rw (lt-ltb _ _ (c .if1 .taken))

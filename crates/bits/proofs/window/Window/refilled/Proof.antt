@@ -4,8 +4,8 @@ use native.Mathlib.Omega.{arith}
 use lib.ListN.{getD}
 use Rattle.bits.proofs.WindowLaws.{ahead-eight}
 use borrow.Author.Needs.{needs}
-use Rattle.bits.proofs.Window.refilled.Statement.{statement}
-use Rattle.bits.proofs.Window.refilled.Tie as tie
+use Rattle.bits.proofs.window.Window.refilled.Statement.{statement}
+use Rattle.bits.proofs.window.Window.refilled.Tie as tie
 
 returns-3 : tie.Need-returns-3
 returns-3 c =

@@ -2,8 +2,8 @@
 use mathlib.Core.Path.{refl}
 use native.Mathlib.Omega.{arith}
 use borrow.Author.Needs.{needs}
-use Rattle.bits.proofs.wide_byte.Statement.{statement}
-use Rattle.bits.proofs.wide_byte.Tie as tie
+use Rattle.bits.proofs.window.wide_byte.Statement.{statement}
+use Rattle.bits.proofs.window.wide_byte.Tie as tie
 
 cast-result : tie.Need-cast-result
 cast-result c = omega (arith, c .shared-slice-known .given (c .before .args .i))

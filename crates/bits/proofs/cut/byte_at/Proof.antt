@@ -4,8 +4,8 @@ use mathlib.Core.Path.{refl, sym}
 use lib.ListN.{List·getD-eq-default}
 use lib.Dec.{lit<}
 use borrow.Author.Needs.{needs}
-use Rattle.bits.proofs.byte_at.Statement.{statement}
-use Rattle.bits.proofs.byte_at.Tie as tie
+use Rattle.bits.proofs.cut.byte_at.Statement.{statement}
+use Rattle.bits.proofs.cut.byte_at.Tie as tie
 
 cast-result : tie.Need-cast-result
 cast-result c = omega (arith, c .shared-slice-known .given (c .before .before .args .index))

@@ -85,6 +85,7 @@ pub fn break_field(random: &mut Random, fields: &mut Vec<Field>) {
         NO_SYMBOL => fields[1].word = 0,
         NO_WEIGHT => fields[2].word = 0,
         AC_ARITY => set(random, fields, of(Role::Ac), |_, _| 1),
+        INADMISSIBLE if random.one_in(2) => lighten_unary(random, fields),
         INADMISSIBLE => {
             let less = if random.one_in(4) { u16::MAX } else { 1 };
             set(random, fields, of(Role::Weight), |_, word| word.saturating_sub(less));
@@ -98,6 +99,17 @@ pub fn break_field(random: &mut Random, fields: &mut Vec<Field>) {
             set(random, fields, of(Role::Node), |random, _| random.between(count, LAST_SYMBOL.into()) as u16);
         }
         _ => grow_side(random, fields),
+    }
+}
+
+/// Lets one or two symbols of arity 1 weigh 0, whatever their ranks.
+fn lighten_unary(random: &mut Random, fields: &mut [Field]) {
+    let unary = |index: &usize| fields[*index].role == Role::Arity && fields[*index].word == 1;
+    let arities: Vec<usize> = (0..fields.len()).filter(unary).collect();
+    for _ in 0..random.between(1, 2) {
+        if let Some(&arity) = random.choose(&arities) {
+            fields[arity + 2].word = 0;
+        }
     }
 }
 

@@ -26,9 +26,9 @@ const EXPORTS: [&str; 2] = [FOR_C, TURN];
 
 /// The functions whose contracts are believed, each with its file.
 pub fn believed(tree: &Tree) -> Vec<(String, Function)> {
-    let exported = EXPORTS.iter().flat_map(|file| {
-        functions(&tree.text(file)).into_iter().filter(|f| f.exported).map(|f| (file.to_string(), f))
-    });
+    let exported = EXPORTS
+        .iter()
+        .flat_map(|file| functions(&tree.text(file)).into_iter().filter(|f| f.exported).map(|f| (file.to_string(), f)));
     let named = OPERATIONS.iter().flat_map(|(file, name)| {
         let own = move |f: &Function| f.name == *name;
         functions(&tree.text(file)).into_iter().filter(own).map(|f| (file.to_string(), f))

@@ -122,8 +122,7 @@ pub fn faults(tree: &Tree) -> Vec<String> {
 /// Each statement that the guide's table names is proved itself.
 pub fn claims(tree: &Tree) -> Vec<String> {
     let guide = &tree.0["docs/GUIDE.md"];
-    let table =
-        guide.split("The theorems (").nth(1).and_then(|rest| rest.split("By computation").next()).unwrap_or("");
+    let table = guide.split("The theorems (").nth(1).and_then(|rest| rest.split("By computation").next()).unwrap_or("");
     let rows = table.lines().filter(|line| line.starts_with('|')).filter_map(|line| line.split(" | ").nth(1));
     let names =
         rows.flat_map(|row| row.split('`').skip(1).step_by(2)).filter(|name| name.starts_with(char::is_uppercase));

@@ -57,7 +57,9 @@ pub fn total(table: &[u16], adds: &[u64; NODE_SUMS], words: &[u16]) -> Totals
 // by eight, and stops where one is found.
 pub fn first_oftener(left: Totals, right: Totals) -> usize
     requires { ⌜ Counts left × Counts right ⌝ }
-    ensures { λ r. ⌜ ((σ : Signature) → Ones σ → (s t : Term) → Counted s left → Counted t right → r ≡ firstOftener σ s t) ⌝ }
+    ensures { λ r. ⌜
+        ((σ : Signature) → Ones σ → (s t : Term) → Counted s left → Counted t right → r ≡ firstOftener σ s t)
+        ⌝ }
 {
     let low = first_greater(left.low, right.low);
     if low < 8 {

@@ -4,3 +4,4 @@ pub mod PutLaws
 pub mod PieceLaws
 pub mod SameLaws
 pub mod NodeLaws
+pub mod ResultLaws

@@ -1,5 +1,6 @@
 -- The pieces of an arranged expression.
---     part-arranged, elements-arranged     its parts and their elements
+--     opened, part-arranged                its parts
+--     elements-arranged                    their elements
 --     piece-arranged, piece-node           its pieces: arranged expressions, and the elements of a sum
 --     same-pieces                          words that are the same tell AC-equivalence
 use mathlib.Core.List.{List, [], _∷_, append-nil, List·Memᴰ}
@@ -38,7 +39,7 @@ module _ {σ : Signature} {ws : List ℕ} (S : Subject σ ws) where
   -- ---- parts
 
   module _ (i : ℕ) (h : i < length ws) where
-    opened : (o : Opened (S .term) i) → Expression σ (o .part) × Arranged σ (o .part) × (partAt σ ws i ≡ o .part)
+    pub opened : (o : Opened (S .term) i) → Expression σ (o .part) × Arranged σ (o .part) × (partAt σ ws i ≡ o .part)
     opened o =
         let e = subst (Expression σ) (o .whole) (S .expression) in
         let a = subst (Arranged σ) (o .whole) (S .arranged) in

@@ -3,3 +3,4 @@ pub mod Buffer
 pub mod Sums
 pub mod Pieces
 pub mod Subject
+pub mod Results

@@ -4,6 +4,7 @@ pub mod comparison;
 pub mod elements;
 pub mod instances;
 pub mod masks;
+pub mod results;
 pub mod sizes;
 pub mod sums;
 

@@ -1,18 +1,22 @@
-/* The nine operations of libackbo.a, for C. Each is proved, for every input, to reply and to leave the lent memory as
+/* The twelve operations of libackbo.a, for C. Each is proved, for every input, to reply and to leave the lent memory as
    its definition says (crates/operations/specs: Boundary, over Coding, Converting, Comparing, Picking, Variables,
-   Hashing, Marking and Paging).
+   Hashing, Enumerating, Marking, Paging and Turns).
 
    The caller owes this, and nothing else: each pointer is valid for its length, aligned, and not NULL even where the
-   length is 0; reply has room for three numbers; what is written to overlaps nothing else that is lent.
+   length is 0; reply has room for three numbers; what is written to overlaps nothing else that is lent. A length counts
+   elements: bytes of a book or a page, marks of a byte each, words of 16 bits of a sheet or a term, jobs. To pass an
+   empty buffer, pass any pointer that is not NULL, such as one to a variable, with length 0: the data() of an empty
+   std::vector may be NULL, so it takes v.empty() ? &none : v.data(). Nothing is allocated, kept or freed.
 
-   The result is 0, or the number of the refusal, 1 to 19. Of a refusal reply holds the input at fault (0 the first),
-   the place (a bit of a book, a word of a sheet or a term, from 0), and 0. A refused call changes no other buffer. The
-   first fault in reading order is given, one input after another.
+   The result is 0, or the number of the refusal, 1 to 19 or 22 to 25. Of a refusal reply holds the input at fault (0
+   the first), the place (a bit of a book, a word of a sheet or a term, a job, from 0), and 0. A refused call changes no
+   other buffer. The first fault in reading order is given, one input after another.
 
    A book is of form 2: within a rule, left side first, a variable's first appearance takes the lowest unused number. A
    book, input 0 but in ackbo_encode, is refused with 1 over 32,768 bytes, 2 a field does not fit, 3 its form is neither
-   1 nor 2, 4 it has no symbol, 5 w0 is 0, 6 an AC symbol's arity is not 2, 7 a weight is inadmissible, 8 an earlier
-   symbol has the rank, 9 a symbol number is too great, 10 a 129th node is called for, 11 more than padding follows the
+   1 nor 2, 4 it has no symbol, 5 w0 is 0, 6 an AC symbol's arity is not 2, 7 a weight is inadmissible (of a symbol of
+   arity 1 that weighs 0 and is not ranked above every other, tested after the last symbol), 8 an earlier symbol has the
+   rank, 9 a symbol number is too great, 10 a 129th node is called for, 11 more than padding follows the
    last rule, 17 its form is 1, which ackbo_convert turns into 2, 18 a variable is out of turn, its number above the
    count of different variables before it in its rule.
 
@@ -25,10 +29,12 @@
    one call writes to is used by no other.
 
    ackbo_text.h has names and words for refusals and marks, and the limits; docs/MARKS.md says what each means.
+   ackbo_sheet.h finds the terms of an opened book, and the margins of its rules.
 
-   Stack, at most, as measured: ackbo_convert 224 KB and ackbo_decode 120 KB, for every book; ackbo_encode 2 KB,
-   ackbo_fingerprint 7 KB, ackbo_oftener 12 KB; ackbo_compare, ackbo_pick and ackbo_mark 72 KB and ackbo_page 81 KB,
-   where AC symbols nest 63 deep. */
+   Stack, in KB of 1,000 bytes, at most, as tests/stack measures it: ackbo_decode 117, ackbo_encode 2, ackbo_convert
+   224, ackbo_compare 69, ackbo_pick 69, ackbo_fingerprint 7, ackbo_oftener 12, ackbo_count 5, ackbo_list 38, ackbo_mark
+   72, ackbo_page 81, ackbo_turn 71; that of ackbo_decode and ackbo_convert for every book, that of comparing where AC
+   symbols nest 63 deep, the deepest that 128 nodes allow. */
 #ifndef ACKBO_H
 #define ACKBO_H
 
@@ -48,8 +54,27 @@ enum { ACKBO_LEFT = 1, ACKBO_RIGHT = 2 };
 /* What ackbo_oftener replies where no variable occurs oftener on the right: the count of variables. */
 enum { ACKBO_NONE_OFTENER = 16 };
 
+/* What ackbo_count replies first: the number comes second, or there are more terms than are counted. */
+enum { ACKBO_NUMBER = 1, ACKBO_MORE = 2 };
+
+/* The most nodes that ackbo_count and ackbo_list take, and the most terms that they count and list. */
+enum { ACKBO_MAX_SIZE = 7, ACKBO_MAX_TERMS = 65535 };
+
 /* The bytes of a line that ackbo_page writes. */
 enum { ACKBO_LINE_BYTES = 65 };
+
+/* What ackbo_turn replies. */
+enum { ACKBO_SERVED = 1, ACKBO_IDLE = 2 };
+
+/* The most jobs of ackbo_turn, and the bytes of marks for each. */
+enum { ACKBO_MAX_JOBS = 32, ACKBO_JOB_MARKS = 1023 };
+
+/* A job: a book in a buffer, by its start and length there, and how many of its rules are marked. */
+struct ackbo_job {
+    size_t start;
+    size_t length;
+    size_t marked;
+};
 
 /* Opens a book to a sheet: writes its words at the front of words. reply: how many, 0, 0. */
 uint8_t ackbo_decode(const uint8_t *book, size_t book_len, uint16_t *words, size_t words_len, int64_t reply[3]);
@@ -91,7 +116,21 @@ uint8_t ackbo_fingerprint(const uint8_t *book, size_t book_len, const uint16_t *
 uint8_t ackbo_oftener(const uint8_t *book, size_t book_len, const uint16_t *left, size_t left_len,
                       const uint16_t *right, size_t right_len, int64_t reply[3]);
 
-/* Marks the rules of a book: writes a mark, 1 to 10, for each. reply: the rules, those that fall, the score: the
+/* Counts the variable-free terms of n nodes under a book, without listing them. reply: ACKBO_NUMBER, their number, 0;
+   or ACKBO_MORE, 0, 0 where there are more than ACKBO_MAX_TERMS. Terms whose words differ are different ones, AC-equal
+   or not; their weight plays no part. Refused are the book and, with 22, an n that is not 1 to 7 (input 0, place 0).
+   Past the book, the cost grows with the symbols, not with the terms. */
+uint8_t ackbo_count(const uint8_t *book, size_t book_len, size_t n, int64_t reply[3]);
+
+/* Lists the variable-free terms of n nodes under a book: writes their words at the front of words, n for each term, one
+   term after another, ordered by their words from the first on. reply: the count of words written, n times the number
+   of terms, 0, 0. Refused are the book, with 22 an n that is not 1 to 7 (input 0, place 0), and with 23 words (input 1)
+   that are fewer than that, or, however many words there are, a number of more than ACKBO_MAX_TERMS. Past the book, the
+   cost grows with the words written. */
+uint8_t ackbo_list(const uint8_t *book, size_t book_len, uint16_t *words, size_t words_len, size_t n,
+                   int64_t reply[3]);
+
+/* Marks the rules of a book: writes a mark, 1 to 11, for each. reply: the rules, those that fall, the score: the
    percentage of rules that fall, rounded to the nearest whole number, an exact half to the even one; 100 without
    rules. All rules fall exactly if the first two are equal: 1,022 of 1,023 score 100 too. */
 uint8_t ackbo_mark(const uint8_t *book, size_t book_len, uint8_t *marks, size_t marks_len, int64_t reply[3]);
@@ -103,6 +142,21 @@ uint8_t ackbo_mark(const uint8_t *book, size_t book_len, uint8_t *marks, size_t 
    and, with 19, a page (input 1) shorter than 65 times the count of rules. A call costs what ackbo_mark costs, and the
    writing. */
 uint8_t ackbo_page(const uint8_t *book, size_t book_len, uint8_t *page, size_t page_len, int64_t reply[3]);
+
+/* A turn over 1 to ACKBO_MAX_JOBS jobs, whose books lie in one buffer and may overlap: marks one rule, the one that its
+   count numbers, of the next job after last, going round, that has rules left, and adds one to that count. reply:
+   ACKBO_SERVED, the index of that job, 0; or ACKBO_IDLE, 0, 0, where none has rules left, and nothing changes. Rule r
+   of job d is marked at byte ACKBO_JOB_MARKS times d plus r; no other byte changes, and no other count. last is the
+   index of the job that was served last; for the first turn any job's will do, and that of the last job begins with
+   job 0. If each turn passes on the index that the one before replied, a job with rules left is served within as many
+   turns as there are jobs, whatever is done to the others in between. A job begun at count 0, whose record, marks and
+   book nobody else changes, has the marks that ackbo_mark writes for its book once its count is that of the rules.
+   Refused are, first, with 24 (input 0), other counts of jobs and a last that is no job; then, with 25 (input 0, place
+   the lowest such job), a job whose book does not lie in the buffer, is refused, or has fewer rules than the count;
+   then, with 12 (input 2), marks shorter than ACKBO_JOB_MARKS times the jobs. A turn reads the book of every job, and
+   compares the sides of one rule. */
+uint8_t ackbo_turn(struct ackbo_job *jobs, size_t jobs_len, const uint8_t *buffer, size_t buffer_len, uint8_t *marks,
+                   size_t marks_len, size_t last, int64_t reply[3]);
 
 #ifdef __cplusplus
 }

@@ -14,13 +14,13 @@
 //! | 7 + 4s | its rank, the greater the higher | 0 to 255, each once |
 //! | from 4 + 4K on | the nodes of each rule, left side first | 0 to K - 1 a symbol, 256 to 271 a variable |
 //!
-//! A side is a term in prefix order: a symbol, then its arguments. It ends where every symbol has them, so nothing stands
-//! between sides. Within a rule, left side first, a
-//! variable's first appearance takes the lowest unused number, so the first one is 256. A term, as
-//! [`compare`](crate::compare) takes it, is the words of its nodes alone, with variables of any numbers.
+//! A side is a term in prefix order: a symbol, then its arguments. It ends where every symbol has them, so nothing
+//! stands between sides. Within a rule, left side first, a variable's first appearance takes the lowest unused number,
+//! so the first one is 256. A term, as [`compare`](crate::compare) takes it, is the words of its nodes alone, with
+//! variables of any numbers.
 //!
-//! A constant weighs at least w0, a symbol of arity 1 at least 1, and an AC symbol has arity 2. `docs/FORMAT.md` in the
-//! repository has the bits of a book, and what the fields mean.
+//! A constant weighs at least w0, a symbol of arity 1 at least 1 unless its rank is above every other, and an AC symbol
+//! has arity 2. `docs/FORMAT.md` in the repository has the bits of a book, and what the fields mean.
 //!
 //! ```
 //! use ackbo::layout::{rules, FIRST_VARIABLE};
@@ -36,7 +36,7 @@
 //! assert_eq!(ackbo::decoded(&book).unwrap(), sheet);
 //! ```
 
-use std::iter;
+use core::iter;
 
 /// The most bytes of a book.
 pub const MAX_BYTES: usize = 32_768;
@@ -63,6 +63,22 @@ pub fn rules(sheet: &[u16]) -> impl Iterator<Item = (&[u16], &[u16])> {
     let (head, mut rest) = sheet.split_at(head_len(sheet));
     let count = head.get(3).copied().unwrap_or(0);
     iter::from_fn(move || Some((first_term(head, &mut rest)?, first_term(head, &mut rest)?))).take(usize::from(count))
+}
+
+/// The count of words of the term at the front of words, under the symbols of a sheet; none where the term does not
+/// end, or has a symbol that is not there.
+///
+/// ```
+/// use ackbo::layout::{term_len, FIRST_VARIABLE};
+///
+/// // Form 2, two symbols, w0 = 1, no rule; a constant, weight 1, rank 0; an AC symbol, weight 1, rank 1.
+/// let sheet = [2, 2, 1, 0, 0, 0, 1, 0, 2, 1, 1, 1];
+/// assert_eq!(term_len(&sheet, &[1, FIRST_VARIABLE, 0, 0, 0]), Some(3));
+/// assert_eq!(term_len(&sheet, &[1, FIRST_VARIABLE]), None);
+/// assert_eq!(term_len(&sheet, &[2]), None);
+/// ```
+pub fn term_len(sheet: &[u16], words: &[u16]) -> Option<usize> {
+    first_term(&sheet[..head_len(sheet)], &mut { words }).map(<[u16]>::len)
 }
 
 /// The count of words before the first rule.

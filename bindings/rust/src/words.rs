@@ -3,14 +3,15 @@
 //! Each table has a row a number. `include/ackbo_text.h` has the same rows for C, and `docs/MARKS.md` an entry for
 //! each; the tests of this crate hold the three to one another.
 
-use std::fmt;
+use core::fmt;
 
 use crate::Error;
 
-/// Makes an enum of a table whose rows are a variant, its number, and its words.
+/// Makes an enum of a table, to which later versions add rows, whose rows are a variant, its number, and its words.
 macro_rules! numbered {
     ($(#[$about:meta])* $name:ident { $($variant:ident = $number:literal, $text:literal;)* }) => {
         $(#[$about])*
+        #[non_exhaustive]
         #[derive(Clone, Copy, Debug, PartialEq, Eq, Hash, PartialOrd, Ord)]
         #[repr(u8)]
         pub enum $name {
@@ -74,6 +75,7 @@ numbered! {
         LeftLighter = 8, "left lighter";
         SidesEqual = 9, "sides equal";
         NoCase = 10, "no case";
+        FallsByWrapping = 11, "falls by wrapping";
     }
 }
 
@@ -94,7 +96,7 @@ numbered! {
         NoSymbols = 4, "there is no symbol";
         VariableWeightless = 5, "w0, the weight of a variable, is 0";
         AcNotBinary = 6, "an AC symbol has an arity other than 2";
-        WeightInadmissible = 7, "the weight is too small for the symbol's arity";
+        WeightInadmissible = 7, "the weight is too small for the arity and the rank";
         RankTaken = 8, "an earlier symbol has this rank";
         NoSuchSymbol = 9, "no symbol has this number";
         TooManyNodes = 10, "a 129th node is called for";
@@ -107,6 +109,10 @@ numbered! {
         OldForm = 17, "the form is 1, which the converter alone reads";
         VariableOutOfTurn = 18, "a variable is out of turn in its rule";
         PageTooShort = 19, "the page is shorter than 65 times the count of rules";
+        SizeOutOfRange = 22, "the count of nodes is not 1 to 7";
+        NoRoomForTerms = 23, "the terms are too many, or have more words than there is room for";
+        NoSuchJob = 24, "there are not 1 to 32 jobs, or the last served is none";
+        BadJob = 25, "the job's book is outside, refused, or shorter than its count";
     }
 }
 

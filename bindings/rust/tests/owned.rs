@@ -25,6 +25,12 @@ fn opening_and_closing() {
 }
 
 #[test]
+fn paging() {
+    assert_eq!(ackbo::paged(&book("listing")).unwrap(), bytes("samples/listing.page"));
+    assert_eq!(ackbo::paged(&[]).unwrap_err().refusal(), Some(Refusal::FieldMissing));
+}
+
+#[test]
 fn converting() {
     assert_eq!(ackbo::converted(&book("old")).unwrap(), bytes("samples/old.converted"));
 }

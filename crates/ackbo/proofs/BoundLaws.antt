@@ -3,9 +3,10 @@
 --                                                      error's offset
 --     oftener-small                                    of a variable's number, and of an error's offset
 --     fingerprinted-small                              of a fingerprint, and of an error's offset
+--     counted-small, listed-small                      of a number of terms or of words, and of an error's offset
 --     paged-small                                      of the bytes of a page, and of an error's offset
 --     marked-small                                     of the counts and the score, and of an error's offset
-use mathlib.Core.List.{List}
+use mathlib.Core.List.{List, flatten}
 use mathlib.Core.Path.{_≡_, refl, sym, _∙_}
 use mathlib.Core.Bool.{Bool, true, false}
 use Prim.Native.Nat.{ℕ, _*_, _≤_, _<_}
@@ -13,14 +14,17 @@ use native.Mathlib.Omega.{arith}
 use lib.ListN.{length, length-map}
 use lib.Dec.{leb}
 use borrow.Author.Tests.{leb-true}
+use Rattle.multisets.proofs.Relations.{byTest}
 use Rattle.multisets.proofs.MultisetMaps.{choose-length}
 use Rattle.terms.specs.Signature.{Signature}
 use Rattle.terms.specs.Words.{termOf}
 use Rattle.terms.specs.Fingerprint.{fingerprint}
 use Rattle.terms.specs.Oftener.{firstOftener}
+use Rattle.terms.specs.Enumeration.{groundTerms}
 use Rattle.terms.proofs.OftenerLaws.{firstOftener-le}
 use Rattle.terms.proofs.Theorems.{fingerprint-fits}
 use Rattle.format.specs.Errors.{wordsTooShort, bytesTooShort, fileTooLong, marksTooShort, pageTooShort}
+use Rattle.format.specs.Errors.{sizeOutOfRange, noRoomForTerms}
 use Rattle.format.specs.Layout.{firstForm, formNumber, maxBytes}
 use Rattle.format.specs.Reading.{Reading}
 use Rattle.format.specs.Reading.Reading.{got, fault}
@@ -35,7 +39,7 @@ use Rattle.operations.specs.Replies.Reply.{accepted, refused}
 use Rattle.format.specs.Statements.IsRead.{fromBytes}
 use Rattle.operations.specs.Coding.{write, decoded, encoded}
 use Rattle.operations.specs.Converting.{converted}
-use Rattle.ackbo.specs.Numbers.{Small, numberOf, countOf, wordsOf}
+use Rattle.ackbo.specs.Numbers.{Small, numberOf, countOf, wordsOf, termsOf}
 use Rattle.format.proofs.FaultLaws.{fault-small}
 use Rattle.format.proofs.Theorems.{readable-well-formed, read-term-well-formed, faults-within}
 use Rattle.operations.specs.Inputs.{TermReader, Inputs, readTerms, readInputs}
@@ -43,6 +47,7 @@ use Rattle.operations.specs.Comparing.{comparison, compared}
 use Rattle.operations.specs.Picking.{greaterSide, picked}
 use Rattle.operations.specs.Hashing.{fingerprintedTerm, fingerprinted}
 use Rattle.operations.specs.Variables.{oftener}
+use Rattle.operations.specs.Enumerating.{isSize, maxTerms, termCount, countedTerms, counted, listedTerms, listed}
 use Rattle.operations.proofs.PickingLaws.{SideWithin, picked-accepted, picked-within}
 use Rattle.operations.specs.declared.GreaterSide.{GreaterSide}
 use Rattle.operations.specs.declared.GreaterSide.the-variants.{Left, Right, Equivalent, Unrelated}
@@ -190,6 +195,31 @@ fingerprinted-small bytes words h =
       fingerprint-fits σ (omega (arith, few)) (termOf σ t)
           (read-term-well-formed σ words t n .1 r .2 .wellFormed),
     )
+
+-- At most 65,535 terms are counted.
+pub counted-small : (bytes : List ℕ) (n : ℕ) → Small (numberOf termsOf (counted bytes n))
+unfolding counted countedTerms
+counted-small bytes n =
+    read-small termsOf 0 (readBytes bytes) (λ file. countedTerms (file .signature) n) (book-small formNumber bytes)
+    λ file end e. let number = length (groundTerms (file .signature) n) in
+    demand-small termsOf (isSize n) sizeOutOfRange 0 (accepted (termCount number))
+    λ t. byTest (leb number maxTerms) (λ l. rw l (omega (arith, leb-true number maxTerms l))) λ l. rw l (omega arith)
+
+-- The words listed have room.
+pub listed-small : (bytes words : List ℕ) (n : ℕ) → Small (length words) →
+    Small (numberOf countOf (listed bytes words n .reply))
+unfolding listed listedTerms
+listed-small bytes words n h =
+    outcome-small countOf (_>>=_ (fromInput 0 (readBytes bytes)) λ file. listedTerms (file .signature) words n) words
+    (read-small count 0 (readBytes bytes) (λ file. listedTerms (file .signature) words n) (book-small formNumber bytes)
+    λ file end e. let terms = groundTerms (file .signature) n in
+    let last : Reply (Written ℕ) = accepted (record { value = n * length terms; front = flatten terms }) in
+    let room : Reply (Written ℕ) = _>>_ (demand (leb (n * length terms) (length words)) noRoomForTerms 1) last in
+    let few : Reply (Written ℕ) = _>>_ (demand (leb (length terms) maxTerms) noRoomForTerms 1) room in
+    demand-small count (isSize n) sizeOutOfRange 0 few
+    λ t. demand-small count (leb (length terms) maxTerms) noRoomForTerms 1 room
+    λ t. demand-small count (leb (n * length terms) (length words)) noRoomForTerms 1 last
+    λ t. omega (arith, leb-true (n * length terms) (length words) t))
 
 pub paged-small : (bytes output : List ℕ) → Small (length output) → Small (numberOf countOf (paged bytes output .reply))
 unfolding paged

@@ -1,3 +1,4 @@
 -- What the code of the boundary cites.
 pub mod BoundLaws
 pub mod ReplyLaws
+pub mod TurnLaws

@@ -2,6 +2,8 @@
 use Prim.Native.Nat.{ℕ, _<_}
 use Rattle.operations.specs.declared.GreaterSide.{GreaterSide}
 use Rattle.operations.specs.declared.GreaterSide.the-variants.{Left, Right, Equivalent, Unrelated}
+use Rattle.operations.specs.declared.TermCount.{TermCount}
+use Rattle.operations.specs.declared.TermCount.the-variants.{Exactly, More}
 use Rattle.operations.specs.Replies.{Reply}
 use Rattle.operations.specs.Replies.Reply.{accepted, refused}
 
@@ -23,3 +25,8 @@ wordsOf (Left n) = n
 wordsOf (Right n) = n
 wordsOf Equivalent = 0
 wordsOf Unrelated = 0
+
+-- The number of terms; 0 where there are more than are counted.
+abbrev pub termsOf : TermCount → ℕ
+termsOf (Exactly n) = n
+termsOf More = 0

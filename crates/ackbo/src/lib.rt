@@ -3,6 +3,7 @@ ghost use mathlib.Core.Path.{_≡_};
 ghost use mathlib.Core.List.{[], _∷_};
 ghost use Prim.Native.Nat.{_<_};
 ghost use lib.IntN.{pos};
+ghost use lib.ListN.{length};
 ghost use lib.Seq.{sets};
 ghost use Rattle.operations.specs.Coding.{decoded, encoded};
 ghost use Rattle.operations.specs.Converting.{converted};
@@ -10,18 +11,30 @@ ghost use Rattle.operations.specs.Comparing.{compared};
 ghost use Rattle.operations.specs.Picking.{picked};
 ghost use Rattle.operations.specs.Variables.{oftener};
 ghost use Rattle.operations.specs.Hashing.{fingerprinted};
+ghost use Rattle.operations.specs.Enumerating.{counted, listed};
 ghost use Rattle.operations.specs.Enums.{numberReply};
-ghost use Rattle.ackbo.specs.Numbers.{Small, numberOf, countOf, wordsOf};
+ghost use Rattle.ackbo.specs.Numbers.{Small, numberOf, countOf, wordsOf, termsOf};
 ghost use Rattle.operations.specs.Marking.{marked};
 ghost use Rattle.operations.specs.Paging.{paged};
+ghost use Rattle.operations.specs.Turns.{turned};
 ghost use Rattle.operations.specs.Boundary.{codeOf, valuesOf};
-ghost use Rattle.operations.specs.Boundary.{numberValues, relationValue, comparisonValues, sideValues, summaryValues};
+ghost use Rattle.operations.specs.Boundary.{numberValues, relationValue, comparisonValues, sideValues, countValues};
+ghost use Rattle.operations.specs.Boundary.{summaryValues, turnValues};
+ghost use Rattle.scheduling.specs.Search.{Ready};
+ghost use Rattle.scheduling.specs.Run.{marksAfter};
+ghost use Rattle.ackbo.specs.Turn.{storedOf, valuesAfter};
 use operations::CompareReply;
+use operations::CountReply;
 use operations::GreaterSide;
+use operations::Job;
 use operations::MarkReply;
 use operations::NumberReply;
 use operations::PickReply;
 use operations::Relation;
+use operations::TermCount;
+use operations::Turn;
+use operations::TurnReply;
+use scheduling::Search;
 
 // The values of a reply.
 type Values = [i64; 3];
@@ -194,6 +207,43 @@ pub extern "C" fn ackbo_fingerprint(book: &[u8], term: &[u16], reply: &mut Value
     put_number(reply, hashing::fingerprint(book, term))
 }
 
+// Stores how many terms there are.
+fn put_terms(reply: &mut Values, count: TermCount) -> u8
+    requires { ⌜ Small (termsOf count) ⌝ }
+    ensures { λ r. ⌜ r ≡ 0 ⌝ }
+    ensures { λ _. ⌜ now (reply .exit) ≡ sets (now (reply .entry)) 0 (countValues count) ⌝ }
+{
+    match count {
+        TermCount::Exactly { terms } => put_counts(reply, 1, terms, 0),
+        TermCount::More => put_counts(reply, 2, 0, 0),
+    }
+}
+
+#[no_mangle]
+pub extern "C" fn ackbo_count(book: &[u8], n: usize, reply: &mut Values) -> u8
+    ensures { λ r. ⌜ r ≡ codeOf (counted (now (book .entry)) n) ⌝ }
+    ensures { λ _. ⌜
+        now (reply .exit) ≡ sets (now (reply .entry)) 0 (valuesOf countValues (counted (now (book .entry)) n))
+        ⌝ }
+{
+    match enumerating::count(book, n) {
+        CountReply::Accepted(count) => put_terms(reply, count),
+        CountReply::Refused(error) => put_error(reply, error.code, error.input, error.offset),
+    }
+}
+
+#[no_mangle]
+pub extern "C" fn ackbo_list(book: &[u8], words: &mut [u16], n: usize, reply: &mut Values) -> u8
+    ensures { λ r. ⌜ r ≡ codeOf (listed (now (book .entry)) (now (words .entry)) n .reply) ⌝ }
+    ensures { λ _. ⌜
+        now (reply .exit)
+        ≡ sets (now (reply .entry)) 0 (valuesOf numberValues (listed (now (book .entry)) (now (words .entry)) n .reply))
+        ⌝ }
+    ensures { λ _. ⌜ now (words .exit) ≡ listed (now (book .entry)) (now (words .entry)) n .output ⌝ }
+{
+    put_number(reply, enumerating::list(book, words, n))
+}
+
 #[no_mangle]
 pub extern "C" fn ackbo_mark(book: &[u8], marks: &mut [u8], reply: &mut Values) -> u8
     ensures { λ r. ⌜ r ≡ codeOf (marked (now (book .entry)) (now (marks .entry)) .reply) ⌝ }
@@ -219,4 +269,82 @@ pub extern "C" fn ackbo_page(book: &[u8], page: &mut [u8], reply: &mut Values) -
     ensures { λ _. ⌜ now (page .exit) ≡ paged (now (book .entry)) (now (page .entry)) .output ⌝ }
 {
     put_number(reply, paging::page(book, page))
+}
+
+// What is left to store after a turn: the code of its reply, and the job whose count changes, with that count. An index
+// that is the number of jobs is none.
+pub struct Stored {
+    pub code: u8,
+    pub index: usize,
+    pub marked: usize,
+}
+
+// The turn after a search, whose values are stored.
+fn put_turn(s: Search, buffer: &[u8], marks: &mut [u8], reply: &mut Values) -> Stored
+    requires { ⌜ Ready s (now buffer) ⌝ }
+    ensures { λ r. ⌜
+        (r ≡ storedOf s (length (now (marks .entry))))
+        × (now (marks .exit) ≡ marksAfter s (now (buffer .entry)) (now (marks .entry)))
+        × (now (reply .exit) ≡ valuesAfter s (length (now (marks .entry))) (now (reply .entry)))
+        ⌝ }
+{
+    match scheduling::run_next(s, buffer, marks) {
+        TurnReply::Refused(error) => {
+            let code = put_error(reply, error.code, error.input, error.offset);
+            Stored {
+                code,
+                index: s.jobs,
+                marked: 0,
+            }
+        }
+        TurnReply::Accepted(turn) => match turn {
+            Turn::Idle => {
+                let code = put_counts(reply, 2, 0, 0);
+                Stored {
+                    code,
+                    index: s.jobs,
+                    marked: 0,
+                }
+            }
+            Turn::Served { index } => {
+                let code = put_counts(reply, 1, index, 0);
+                Stored {
+                    code,
+                    index,
+                    marked: s.marked + 1,
+                }
+            }
+        },
+    }
+}
+
+#[no_mangle]
+pub extern "C" fn ackbo_turn(
+    jobs: &mut [Job],
+    buffer: &[u8],
+    marks: &mut [u8],
+    last: usize,
+    reply: &mut Values,
+) -> u8
+    ensures { λ r. ⌜
+        (r ≡ codeOf (turned (now (jobs .entry)) (now (buffer .entry)) (now (marks .entry)) last .reply))
+        × (now (jobs .exit) ≡ turned (now (jobs .entry)) (now (buffer .entry)) (now (marks .entry)) last .jobs)
+        × (now (marks .exit) ≡ turned (now (jobs .entry)) (now (buffer .entry)) (now (marks .entry)) last .marks)
+        × (now (reply .exit)
+        ≡ sets (now (reply .entry)) 0
+        (valuesOf turnValues (turned (now (jobs .entry)) (now (buffer .entry)) (now (marks .entry)) last .reply)))
+        ⌝ }
+{
+    let n = jobs.len();
+    let mut s = scheduling::begin(n, last);
+    let mut i = 0;
+    while i < n {
+        s = scheduling::look(s, i, jobs[i], buffer);
+        i = i + 1;
+    }
+    let t = put_turn(s, buffer, marks, reply);
+    if t.index < n {
+        jobs[t.index].marked = t.marked;
+    }
+    t.code
 }

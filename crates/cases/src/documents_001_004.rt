@@ -3,25 +3,25 @@
 use crate::print::print;
 use crate::print::show;
 
-// 000, examples 4.5, 4.8 and 4.11, and 004, examples 3.7 and 3.9, f of weight 1, not 0.
+// 000, examples 4.5, 4.8 and 4.11, and 004, examples 3.7 and 3.9: f weighs 0.
 #[rattlefmt::skip]
 const SYMBOL_OVER_VARIABLE: [u16; 29] = [
     2, 3, 1, 3,                   // form, K, w0, N
     0, 0, 1, 0,                   // c
     2, 1, 1, 1,                   // +
-    1, 0, 1, 2,                   // f
+    1, 0, 0, 2,                   // f
     2, 0,  0,                     // f(c) -> c
     2, 256,  256,                 // f(x) -> x
     1, 2, 256, 257,  1, 256, 257, // f(x)+y -> x+y
 ];
 
-// 000, examples 3.2 and 4.3, and 004, example 3.4 and section 4, f of weight 1, not 0: rule 2 both ways, and rule 1.
+// 000, examples 3.2 and 4.3, and 004, example 3.4 and section 4: rule 2 both ways, and rule 1; f weighs 0.
 #[rattlefmt::skip]
 const SYSTEM_R1: [u16; 45] = [
     2, 3, 1, 3,                    // form, K, w0, N
     0, 0, 1, 1,                    // a
     2, 1, 0, 0,                    // +
-    1, 0, 1, 2,                    // f
+    1, 0, 0, 2,                    // f
     1, 0, 2, 2, 0,  1, 2, 0, 2, 0, // a+f(f(a)) -> f(a)+f(a)
     1, 2, 0, 2, 0,  1, 0, 2, 2, 0, // f(a)+f(a) -> a+f(f(a))
     2, 1, 0, 0,  1, 2, 0, 2, 0,    // f(a+a) -> f(a)+f(a)

@@ -3,18 +3,19 @@
 --     renumbered-fit                       the new numbers are such as a variable may have
 --     converted-readable                   the converted file is readable
 --     converted-bits, converted-length     it has as many bits, and as many bytes
---     readable-before, converted-same      a file of form 2 is readable in form 1, and unchanged
+--     readable-before, converted-same      a file of form 2 is readable in form 1, if no unary symbol weighs 0, and
+--                                          unchanged
 use mathlib.Core.Path.{_≡_, refl, sym, ap, ap₂, _∙_}
 use mathlib.Core.List.{List, [], _∷_, _++_, map, map-append, flatMap, List·Memᴰ, List·Memᴰ·head, List·Memᴰ·tail}
 use mathlib.Core.Bool.{true}
-use Prim.Native.Nat.{ℕ, _+_, _/_, _<_}
+use Prim.Native.Nat.{ℕ, suc, zero, _+_, _/_, _≤_, _<_}
 use native.Mathlib.Omega.{arith}
 use lib.ListN.{length, take, drop, length-append, length-map}
 use lib.Seq.{take-at, drop-at}
 use lib.Dec.{lit<}
 use borrow.Author.Tests.{le-ltb, le-leb}
 use Rattle.multisets.proofs.MultisetMaps.{flatMap-append}
-use Rattle.terms.specs.Signature.{Signature}
+use Rattle.terms.specs.Signature.{Signature, symbolOf, NoZeroWeightUnary}
 use Rattle.terms.specs.Term.{variableCount}
 use Rattle.terms.specs.Words.{firstVariable}
 use Rattle.terms.specs.FirstUse.{firstUses, placeIn, renameWord, renumbered, inOrderFrom, inOrder}
@@ -22,16 +23,18 @@ use Rattle.terms.proofs.FirstUseLaws.{byWord, renameWord-symbol, renameWord-var
 use Rattle.terms.proofs.FirstUseCount.{firstUses-few}
 use Rattle.terms.proofs.FirstUseLaws.{place-lt, seen-word, renumbered-inOrder, inOrder-renumbered}
 use Rattle.format.specs.Layout.{formNumber, firstForm, tagWidth, variableWidth}
+use Rattle.format.specs.Symbols.{leastWeightIn}
 use Rattle.format.specs.Format.{Sides, RuleFile, allUsed}
 use Rattle.format.specs.Packing.{Item, symbolItems, ruleItems, itemsIn, itemBits, packedIn, packed}
 use Rattle.format.specs.Packing.Item.{node}
 use Rattle.format.specs.Conversion.{convertedSides, convertedFile}
 use Rattle.format.proofs.ForestLaws.{known, argumentCount}
 use Rattle.format.proofs.SpellingLaws.{AllFit, all-fit-append, all-fit-split}
-use Rattle.format.proofs.FormatLaws.{Forest, RulesOk}
+use Rattle.format.proofs.FormatLaws.{SymbolsOk, Forest, RulesOk}
 use Rattle.format.proofs.FormatLaws.Forest.{noTerm, termNode}
 use Rattle.format.proofs.PackingLaws.{length-bytesOf}
 use Rattle.format.proofs.FileLaws.{Readable, fileBitsIn}
+use Rattle.format.proofs.SymbolLaws.{weighs-at, symbols-weigh}
 use Rattle.format.proofs.TermReading.{fit-in-order}
 
 pub converted-words : (r : Sides) → convertedSides r .left ++ convertedSides r .right ≡ renumbered (r .left ++ r .right)
@@ -89,6 +92,33 @@ module _ (σ : Signature) where
       rw (arguments-rename ρ w) (forest-rename ρ f) in
       termNode (known-rename ρ w ∙ k) rest
 
+-- ---- the symbols
+
+least-less : (w0 arity : ℕ) → leastWeightIn formNumber w0 arity ≤ leastWeightIn firstForm w0 arity
+least-less w0 zero = omega arith
+least-less w0 (suc zero) = omega arith
+least-less w0 (suc (suc n)) = omega arith
+
+least-heavy : (w0 arity weight : ℕ) → (arity ≡ 1 → 1 ≤ weight) → leastWeightIn formNumber w0 arity ≤ weight →
+    leastWeightIn firstForm w0 arity ≤ weight
+least-heavy w0 zero weight heavy h = h
+least-heavy w0 (suc zero) weight heavy h = heavy refl
+least-heavy w0 (suc (suc n)) weight heavy h = h
+
+-- What weighs enough in form 1 does in form 2.
+symbols-now : (σ : Signature) → SymbolsOk (leastWeightIn firstForm (σ .w0)) [] (σ .symbols) →
+    SymbolsOk (leastWeightIn formNumber (σ .w0)) [] (σ .symbols)
+symbols-now σ oks =
+    symbols-weigh (leastWeightIn firstForm (σ .w0)) (leastWeightIn formNumber (σ .w0)) (σ .symbols) oks λ f l.
+    omega (arith, weighs-at oks f l, least-less (σ .w0) (symbolOf σ f .arity))
+
+-- And the other way round, if no unary symbol weighs 0.
+symbols-before : (σ : Signature) → NoZeroWeightUnary σ → SymbolsOk (leastWeightIn formNumber (σ .w0)) [] (σ .symbols) →
+    SymbolsOk (leastWeightIn firstForm (σ .w0)) [] (σ .symbols)
+symbols-before σ heavy oks =
+    symbols-weigh (leastWeightIn formNumber (σ .w0)) (leastWeightIn firstForm (σ .w0)) (σ .symbols) oks λ f l.
+    least-heavy (σ .w0) (symbolOf σ f .arity) (symbolOf σ f .weight) (heavy f l) (weighs-at oks f l)
+
 -- ---- the file
 
 pub rule-items : (r : Sides) → ruleItems r ≡ map node (r .left ++ r .right)
@@ -125,7 +155,8 @@ converted-readable f r =
       ok = record {
         someSymbol = r .ok .someSymbol;
         variableWeighs = r .ok .variableWeighs;
-        symbolsOk = r .ok .symbolsOk;
+        symbolsOk = symbols-now σ (r .ok .symbolsOk);
+        noneOutranked = r .ok .noneOutranked;
         rulesOk = ok;
       };
       fits = (lit< tt, (count, (w0, (rw (length-map (f .rules) convertedSides) rules, all))));
@@ -202,16 +233,17 @@ rules-in-any-order σ (r ∷ rs) (f, g, o, ok) fits =
     let (here, later) = all-fit-split (ruleItems r) (flatMap ruleItems rs) fits in
     (f, g, fit-in-order (r .left ++ r .right) (rw (rule-items r) at here), rules-in-any-order σ rs ok later)
 
-pub readable-before : (f : RuleFile) → Readable formNumber f → Readable firstForm f
+pub readable-before : (f : RuleFile) → NoZeroWeightUnary (f .signature) → Readable formNumber f → Readable firstForm f
 unfolding itemsIn
-readable-before f r =
+readable-before f heavy r =
     let symbols = flatMap symbolItems (f .signature .symbols) in
     let nodes = all-fit-split symbols (flatMap ruleItems (f .rules)) (r .fits .1 .1 .1 .1) .1 in
     record {
       ok = record {
         someSymbol = r .ok .someSymbol;
         variableWeighs = r .ok .variableWeighs;
-        symbolsOk = r .ok .symbolsOk;
+        symbolsOk = symbols-before (f .signature) heavy (r .ok .symbolsOk);
+        noneOutranked = r .ok .noneOutranked;
         rulesOk = rules-in-any-order (f .signature) (f .rules) (r .ok .rulesOk) nodes;
       };
       fits = (lit< tt, r .fits .1);

@@ -4,19 +4,19 @@
 --     BoundedSource, whole-within          what is asked of a source, and what then holds of reading a file
 --     words-bounded, bits-bounded, bits-within, bits-node     the two sources
 --     bytes-fault, fault-small, words-fault, term-fault, first-fault
-use mathlib.Core.Path.{_≡_}
+use mathlib.Core.Path.{_≡_, ap, _∙_}
 use mathlib.Core.List.{List, [], _∷_, _++_}
 use mathlib.Core.Bool.{Bool, true, false, cond, _||_, not}
 use Prim.Native.Nat.{ℕ, suc, zero, _+_, _*_, _^_, _≤_, _<_}
 use native.Mathlib.Omega.{arith}
 use lib.ListN.{length, getD}
 use lib.Dec.{eqb, ltb, leb}
-use borrow.Author.Tests.{leb-true, ltb-true, lt-leb}
+use borrow.Author.Tests.{eqb-false, leb-true, ltb-true, lt-leb}
 use Rattle.multisets.proofs.Relations.{byTest, byOrder}
 use Rattle.terms.specs.Term.{variableCount}
 use Rattle.terms.specs.Words.{firstVariable}
 use Rattle.terms.specs.FirstUse.{unusedAfter, unusedAfterAll}
-use Rattle.terms.specs.Signature.{Symbol, Signature, leastWeight}
+use Rattle.terms.specs.Signature.{Symbol, Signature}
 use Rattle.format.specs.Errors.{fileTooLong}
 use Rattle.format.specs.Layout.{formWidth, symbolCountWidth, weightWidth, ruleCountWidth, arityWidth}
 use Rattle.format.specs.Layout.{acWidth, rankWidth, tagWidth, symbolWidth, variableWidth, maxNodes, maxBytes}
@@ -24,10 +24,15 @@ use Rattle.format.specs.Layout.{formNumber}
 use Rattle.format.specs.Reading.{Reading, Reader, andThen, require, Node, Source, isPadding}
 use Rattle.format.specs.Reading.{bitField, bitSource, wordBelow, wordSource}
 use Rattle.format.specs.Reading.Reading.{got, fault}
-use Rattle.format.specs.Format.{heldBy, symbolReader, symbolsReader, forestReader, ruleReader, rulesReader}
-use Rattle.format.specs.Format.{allUsed, unusedOf, bodyReader, fileReader}
+use Rattle.format.specs.Symbols.{heldBy, leastWeightIn, firstOutranked, weightOffset}
+use Rattle.format.specs.Symbols.{symbolReader, symbolsReader, symbolTableReader}
+use Rattle.format.specs.Format.{forestReader, ruleReader, rulesReader, allUsed, unusedOf, bodyReader, fileReader}
 use Rattle.format.specs.Files.{wholeReader, readBytesIn, readWords, readFirstTerm, readTerm}
+use Rattle.format.specs.Packing.{Item}
+use Rattle.format.proofs.ReadingLaws.{HoldsOf}
 use Rattle.format.proofs.ForestLaws.{known, argumentCount}
+use Rattle.format.proofs.CodingLaws.{word-coding, bit-coding, length-bitsOf}
+use Rattle.format.proofs.RankLaws.{outranked-le, symbols-placed}
 
 module _ (limit : ℕ) where
   unfoldable pub Within : {A : Type 0} → Reading A → Type 0
@@ -47,6 +52,12 @@ module _ (limit : ℕ) where
   unfolding Within
   within-then (got a at) k h f = f a at h
   within-then (fault code offset) k h f = h
+
+  within-both : {A B : Type 0} (P : A → ℕ → Type 0) (r : Reading A) (k : A → Reader B) → Within r → HoldsOf P r →
+      ((a : A) (next : ℕ) → next ≤ limit → P a next → Within (k a next)) → Within (andThen r k)
+  unfolding Within HoldsOf
+  within-both P (got a at) k h p f = f a at h p
+  within-both P (fault code offset) k h p f = h
 
   within-require : {B : Type 0} (ok : Bool) (code offset at : ℕ) (k : Unit {0} → Reader B) → offset ≤ limit →
       Within (k tt at) → Within (andThen (require ok code offset at) k)
@@ -88,6 +99,7 @@ module _ (limit : ℕ) where
 
   pub record BoundedSource (source : Source) : Type 0 where
     pub field : (width at : ℕ) → at ≤ limit → Within (source .field width at)
+    pub moves : (width at v next : ℕ) → source .field width at ≡ got v next → next ≡ at + source .moves width
     pub node : (at : ℕ) → at ≤ limit → NodeWithin (source .node at)
     pub end : (at : ℕ) → at ≤ limit → Within (source .end at)
 
@@ -123,31 +135,50 @@ module _ (limit : ℕ) where
         within-then (ruleReader source unused σ at) _ (rule-within unused σ at h) λ r mid l.
         within-then (rulesReader source unused σ n mid) _ (rules-within unused σ n mid l) λ rest end e. e
 
-    symbol-within : (w0 : ℕ) (earlier : List Symbol) (at : ℕ) → at ≤ limit → Within (symbolReader source w0 earlier at)
+    symbol-within : (least : ℕ → ℕ) (earlier : List Symbol) (at : ℕ) → at ≤ limit →
+        Within (symbolReader source least earlier at)
     unfolding symbolReader Within
-    symbol-within w0 earlier at h =
+    symbol-within least earlier at h =
         within-then (source .field arityWidth at) _ (b .field arityWidth at h) λ arity at₁ h₁.
         within-then (source .field acWidth at₁) _ (b .field acWidth at₁ h₁) λ ac at₂ h₂.
         within-require (eqb ac 0 || eqb arity 2) _ at at₂ _ h
         (within-then (source .field weightWidth at₂) _ (b .field weightWidth at₂ h₂) λ weight at₃ h₃.
-        within-require (leb (leastWeight w0 arity) weight) _ at₂ at₃ _ h₂
+        within-require (leb (least arity) weight) _ at₂ at₃ _ h₂
         (within-then (source .field rankWidth at₃) _ (b .field rankWidth at₃ h₃) λ rank end h₄.
         within-require (not (heldBy earlier rank)) _ at₃ end _ h₃ h₄))
 
-    pub symbols-within : (w0 n : ℕ) (earlier : List Symbol) (at : ℕ) → at ≤ limit →
-        Within (symbolsReader source w0 n earlier at)
+    pub symbols-within : (least : ℕ → ℕ) (n : ℕ) (earlier : List Symbol) (at : ℕ) → at ≤ limit →
+        Within (symbolsReader source least n earlier at)
     unfolding symbolsReader Within
-    symbols-within w0 zero earlier at h = h
-    symbols-within w0 (suc n) earlier at h =
-        within-then (symbolReader source w0 earlier at) _ (symbol-within w0 earlier at h) λ s mid l.
-        symbols-within w0 n (earlier ++ (s ∷ [])) mid l
+    symbols-within least zero earlier at h = h
+    symbols-within least (suc n) earlier at h =
+        within-then (symbolReader source least earlier at) _ (symbol-within least earlier at h) λ s mid l.
+        symbols-within least n (earlier ++ (s ∷ [])) mid l
 
-    body-within : (unused w0 k n at : ℕ) → at ≤ limit → Within (bodyReader source unused w0 k n at)
+    pub table-within : (least : ℕ → ℕ) (n at : ℕ) → at ≤ limit → Within (symbolTableReader source least n at)
+    unfolding symbolTableReader Within
+    table-within least n at h =
+        within-both _ (symbolsReader source least n [] at) _ (symbols-within least n [] at h)
+        (symbols-placed source (b .moves) least n [] at) λ ss end l (new, same, count, later, weights, placed).
+        byTest (eqb (firstOutranked ss) (length ss)) (λ t. rw t l)
+        λ t. rw t (omega (
+          arith,
+          weights (firstOutranked ss) (omega (
+            arith,
+            outranked-le ss ss,
+            eqb-false (firstOutranked ss) (length ss) t,
+            ap length same,
+          )),
+        ))
+
+    body-within : (form w0 k n at : ℕ) → at ≤ limit → Within (bodyReader source form w0 k n at)
     unfolding bodyReader Within
-    body-within unused w0 k n at h =
-        within-then (symbolsReader source w0 k [] at) _ (symbols-within w0 k [] at h) λ ss mid l.
-        within-then (rulesReader source unused (record { w0 = w0; symbols = ss }) n mid) _
-        (rules-within unused (record { w0 = w0; symbols = ss }) n mid l) λ rs end e. e
+    body-within form w0 k n at h =
+        let least = leastWeightIn form w0 in
+        within-then (symbolTableReader source least k at) _ (table-within least k at h) λ ss mid l.
+        let σ : Signature = record { w0 = w0; symbols = ss } in
+        within-then (rulesReader source (unusedOf form) σ n mid) _ (rules-within (unusedOf form) σ n mid l)
+        λ rs end e. e
 
     file-within : (form at : ℕ) → at ≤ limit → Within (fileReader form source at)
     unfolding fileReader Within
@@ -159,7 +190,7 @@ module _ (limit : ℕ) where
         (within-then (source .field weightWidth at₂) _ (b .field weightWidth at₂ h₂) λ w0 at₃ h₃.
         within-require (ltb 0 w0) _ at₂ at₃ _ h₂
         (within-then (source .field ruleCountWidth at₃) _ (b .field ruleCountWidth at₃ h₃) λ n at₄ h₄.
-        body-within (unusedOf form) w0 k n at₄ h₄)))
+        body-within form w0 k n at₄ h₄)))
 
     pub whole-within : (form at : ℕ) → at ≤ limit → Within (wholeReader form source at)
     unfolding wholeReader Within
@@ -185,9 +216,10 @@ module _ (words : List ℕ) where
       let bound = firstVariable + variableCount in
       node-after (length words) (wordBelow words bound at) _ (below-within bound at h) λ w next l. (h, l)
 
-  words-bounded : BoundedSource (length words) (wordSource words)
+  pub words-bounded : BoundedSource (length words) (wordSource words)
   words-bounded = record {
     field = λ width. below-within (2 ^ width);
+    moves = λ width at v next e. word-coding words .read→code (Item.field width v) at next e .1;
     node = words-node;
     end = λ at. within-end (length words) (eqb at (length words)) _ at;
   }
@@ -233,6 +265,8 @@ module _ (bytes : List ℕ) where
   pub bits-bounded : BoundedSource bitCount (bitSource bytes)
   bits-bounded = record {
     field = bits-within;
+    moves = λ width at v next e.
+        bit-coding bytes .read→code (Item.field width v) at next e .1 ∙ rw (length-bitsOf width v);
     node = bits-node;
     end = λ at. within-end bitCount (isPadding bytes at) _ at;
   }

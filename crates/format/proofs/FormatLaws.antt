@@ -14,7 +14,7 @@ use lib.ListN.{length}
 use lib.Dec.{eqb, ltb, leb}
 use borrow.Author.Tests.{eqb-true}
 use Rattle.multisets.proofs.Relations.{eqb-self}
-use Rattle.terms.specs.Signature.{Symbol, Signature, leastWeight}
+use Rattle.terms.specs.Signature.{Symbol, Signature}
 use Rattle.terms.specs.Words.{firstVariable}
 use Rattle.terms.specs.FirstUse.{unusedAfter, unusedAfterAll, inOrderFrom}
 use Rattle.terms.proofs.FirstUseLaws.{inOrder-append}
@@ -22,9 +22,10 @@ use Rattle.format.specs.Layout.{formWidth, symbolCountWidth, weightWidth
 use Rattle.format.specs.Layout.{acWidth, rankWidth, maxNodes}
 use Rattle.format.specs.Reading.{Source}
 use Rattle.format.specs.Reading.Reading.{got}
-use Rattle.format.specs.Format.{Sides, RuleFile, heldBy, unusedOf}
-use Rattle.format.specs.Format.{symbolReader, symbolsReader, forestReader, ruleReader, rulesReader, bodyReader}
-use Rattle.format.specs.Format.{fileReader}
+use Rattle.format.specs.Symbols.{heldBy, leastWeightIn, firstOutranked}
+use Rattle.format.specs.Symbols.{symbolReader, symbolsReader, weightOffset, symbolTableReader}
+use Rattle.format.specs.Format.{Sides, RuleFile, unusedOf}
+use Rattle.format.specs.Format.{forestReader, ruleReader, rulesReader, bodyReader, fileReader}
 use Rattle.format.specs.Packing.{symbolItems, ruleItems, itemsIn}
 use Rattle.format.specs.Packing.Item.{field, node}
 use Rattle.format.proofs.ReadingLaws.{HoldsOf, holds-got, holds-map, holds-then, holds-require}
@@ -34,16 +35,16 @@ use Rattle.format.proofs.SpellingLaws.Spells.{none, more}
 
 -- ---- what reading tests
 
-pub record SymbolOk (w0 : ℕ) (earlier : List Symbol) (s : Symbol) : Type 0 where
+pub record SymbolOk (least : ℕ → ℕ) (earlier : List Symbol) (s : Symbol) : Type 0 where
   pub acBinary : (eqb (cond (s .ac) 1 0) 0 || eqb (s .arity) 2) ≡ true
-  pub weighs : leb (leastWeight w0 (s .arity)) (s .weight) ≡ true
+  pub weighs : leb (least (s .arity)) (s .weight) ≡ true
   pub fresh : not (heldBy earlier (s .precedence)) ≡ true
 
 -- Each symbol after those before it.
-pub data SymbolsOk (w0 : ℕ) : List Symbol → List Symbol → Type 0 where
-  noSymbol : {earlier : List Symbol} → SymbolsOk w0 earlier []
-  symbol : {earlier : List Symbol} {s : Symbol} {ss : List Symbol} → SymbolOk w0 earlier s →
-      SymbolsOk w0 (earlier ++ (s ∷ [])) ss → SymbolsOk w0 earlier (s ∷ ss)
+pub data SymbolsOk (least : ℕ → ℕ) : List Symbol → List Symbol → Type 0 where
+  noSymbol : {earlier : List Symbol} → SymbolsOk least earlier []
+  symbol : {earlier : List Symbol} {s : Symbol} {ss : List Symbol} → SymbolOk least earlier s →
+      SymbolsOk least (earlier ++ (s ∷ [])) ss → SymbolsOk least earlier (s ∷ ss)
 
 -- As many terms as are owed, with an allowance of nodes.
 pub data Forest (σ : Signature) : ℕ → ℕ → List ℕ → Type 0 where
@@ -60,7 +61,8 @@ RulesOk unused σ (r ∷ rs) =
 pub record FileOk (form : ℕ) (f : RuleFile) : Type 0 where
   pub someSymbol : ltb 0 (length (f .signature .symbols)) ≡ true
   pub variableWeighs : ltb 0 (f .signature .w0) ≡ true
-  pub symbolsOk : SymbolsOk (f .signature .w0) [] (f .signature .symbols)
+  pub symbolsOk : SymbolsOk (leastWeightIn form (f .signature .w0)) [] (f .signature .symbols)
+  pub noneOutranked : eqb (firstOutranked (f .signature .symbols)) (length (f .signature .symbols)) ≡ true
   pub rulesOk : RulesOk (unusedOf form) (f .signature) (f .rules)
 
 ac-back : (ac : ℕ) → ac < 2 ^ acWidth → cond (eqb ac 1) 1 0 ≡ ac
@@ -157,61 +159,71 @@ module _ (source : Source) where
 
   -- ---- symbols
 
-  symbol-reads : {w0 : ℕ} {earlier : List Symbol} {s : Symbol} {at end : ℕ} → SymbolOk w0 earlier s →
-      Spells source (symbolItems s) at end → symbolReader source w0 earlier at ≡ got s end
+  symbol-reads : {least : ℕ → ℕ} {earlier : List Symbol} {s : Symbol} {at end : ℕ} → SymbolOk least earlier s →
+      Spells source (symbolItems s) at end → symbolReader source least earlier at ≡ got s end
   unfolding symbolReader
   symbol-reads {s = s} ok (more e₁ (more e₂ (more e₃ (more e₄ none)))) =
       rw (e₁, e₂, ok .acBinary, e₃, ok .weighs, e₄, ok .fresh, ac-same (s .ac))
 
-  symbols-reads : {w0 : ℕ} {earlier ss : List Symbol} → SymbolsOk w0 earlier ss → (at end : ℕ) →
+  symbols-reads : {least : ℕ → ℕ} {earlier ss : List Symbol} → SymbolsOk least earlier ss → (at end : ℕ) →
       Spells source (flatMap symbolItems ss) at end →
-      symbolsReader source w0 (length ss) earlier at ≡ got (earlier ++ ss) end
+      symbolsReader source least (length ss) earlier at ≡ got (earlier ++ ss) end
   unfolding symbolsReader flatMap
   symbols-reads (noSymbol {earlier}) at end none = rw append-nil
   symbols-reads (symbol {earlier} {s} {ss} ok oks) at end p =
       let (mid, q, r) = spells-split source (symbolItems s) p in
       rw (symbol-reads ok q, symbols-reads oks mid end r, append-assoc earlier (s ∷ []) ss)
 
-  abbrev SymbolRead : ℕ → List Symbol → ℕ → Symbol → ℕ → Type 0
-  SymbolRead w0 earlier at s end = SymbolOk w0 earlier s × Spells source (symbolItems s) at end
+  abbrev SymbolRead : (ℕ → ℕ) → List Symbol → ℕ → Symbol → ℕ → Type 0
+  SymbolRead least earlier at s end = SymbolOk least earlier s × Spells source (symbolItems s) at end
 
   -- So many symbols after the earlier ones.
-  abbrev pub SymbolsRead : ℕ → ℕ → List Symbol → ℕ → List Symbol → ℕ → Type 0
-  SymbolsRead w0 n earlier at all end =
-      (ss : List Symbol) × (all ≡ earlier ++ ss) × (length ss ≡ n) × SymbolsOk w0 earlier ss ×
+  abbrev pub SymbolsRead : (ℕ → ℕ) → ℕ → List Symbol → ℕ → List Symbol → ℕ → Type 0
+  SymbolsRead least n earlier at all end =
+      (ss : List Symbol) × (all ≡ earlier ++ ss) × (length ss ≡ n) × SymbolsOk least earlier ss ×
       Spells source (flatMap symbolItems ss) at end
 
   module _ (fits : (width at v next : ℕ) → source .field width at ≡ got v next → v < 2 ^ width) where
-    symbol-read : (w0 : ℕ) (earlier : List Symbol) (at : ℕ) →
-        HoldsOf (SymbolRead w0 earlier at) (symbolReader source w0 earlier at)
+    symbol-read : (least : ℕ → ℕ) (earlier : List Symbol) (at : ℕ) →
+        HoldsOf (SymbolRead least earlier at) (symbolReader source least earlier at)
     unfolding symbolReader HoldsOf
-    symbol-read w0 earlier at =
+    symbol-read least earlier at =
         holds-then _ (source .field arityWidth at) _ λ arity at₁ e₁.
         holds-then _ (source .field acWidth at₁) _ λ ac at₂ e₂.
         holds-require _ (eqb ac 0 || eqb arity 2) _ at at₂ _ λ binary.
         holds-then _ (source .field weightWidth at₂) _ λ weight at₃ e₃.
-        holds-require _ (leb (leastWeight w0 arity) weight) _ at₂ at₃ _ λ weighs.
+        holds-require _ (leb (least arity) weight) _ at₂ at₃ _ λ weighs.
         holds-then _ (source .field rankWidth at₃) _ λ rank end e₄.
         holds-require _ (not (heldBy earlier rank)) _ at₃ end _ λ fresh.
         let same = ac-back ac (fits acWidth at₁ ac at₂ e₂) in
-        let ok : SymbolOk w0 earlier (record { arity = arity; ac = eqb ac 1; weight = weight; precedence = rank }) =
+        let ok : SymbolOk least earlier (record { arity = arity; ac = eqb ac 1; weight = weight; precedence = rank }) =
         record { acBinary = rw same binary; weighs = weighs; fresh = fresh } in
         (ok, rw same (more e₁ (more e₂ (more e₃ (more e₄ none)))))
 
-    pub symbols-read : (w0 n : ℕ) (earlier : List Symbol) (at : ℕ) →
-        HoldsOf (SymbolsRead w0 n earlier at) (symbolsReader source w0 n earlier at)
+    pub symbols-read : (least : ℕ → ℕ) (n : ℕ) (earlier : List Symbol) (at : ℕ) →
+        HoldsOf (SymbolsRead least n earlier at) (symbolsReader source least n earlier at)
     unfolding symbolsReader HoldsOf flatMap
-    symbols-read w0 zero earlier at = ([], sym (append-nil earlier), refl, noSymbol, none)
-    symbols-read w0 (suc n) earlier at =
-        holds-then _ (symbolReader source w0 earlier at) _ λ s mid e.
-        let (ok, p) = holds-got _ _ s mid (symbol-read w0 earlier at) e in
+    symbols-read least zero earlier at = ([], sym (append-nil earlier), refl, noSymbol, none)
+    symbols-read least (suc n) earlier at =
+        holds-then _ (symbolReader source least earlier at) _ λ s mid e.
+        let (ok, p) = holds-got _ _ s mid (symbol-read least earlier at) e in
         let upTo = earlier ++ (s ∷ []) in
-        holds-map _ _ (symbolsReader source w0 n upTo mid) (symbols-read w0 n upTo mid) λ all end (ss, a, k, oks, q).
+        holds-map _ _ (symbolsReader source least n upTo mid) (symbols-read least n upTo mid)
+        λ all end (ss, a, k, oks, q).
         (s ∷ ss, a ∙ append-assoc earlier (s ∷ []) ss, ap suc k, symbol ok oks, spells-append source p q)
+
+    -- The symbols are read, and none is outranked.
+    pub table-read : (least : ℕ → ℕ) (n at : ℕ) → HoldsOf (λ ss end. (symbolsReader source least n [] at ≡ got ss end) ×
+        (eqb (firstOutranked ss) (length ss) ≡ true)) (symbolTableReader source least n at)
+    unfolding symbolTableReader HoldsOf
+    table-read least n at =
+        holds-then _ (symbolsReader source least n [] at) _ λ ss end e.
+        holds-require _ (eqb (firstOutranked ss) (length ss)) _ (weightOffset source at (firstOutranked ss)) end _ λ t.
+        (e, t)
 
     pub file-read : (form at : ℕ) →
         HoldsOf (λ f end. FileOk form f × Spells source (itemsIn form f) at end) (fileReader form source at)
-    unfolding fileReader bodyReader itemsIn HoldsOf
+    unfolding fileReader bodyReader symbolTableReader itemsIn HoldsOf
     file-read form at =
         let unused = unusedOf form in
         holds-then _ (source .field formWidth at) _ λ read at₁ e₁.
@@ -221,13 +233,15 @@ module _ (source : Source) where
         holds-then _ (source .field weightWidth at₂) _ λ w0 at₃ e₃.
         holds-require _ (ltb 0 w0) _ at₂ at₃ _ λ weighs.
         holds-then _ (source .field ruleCountWidth at₃) _ λ n at₄ e₄.
-        holds-then _ (symbolsReader source w0 k [] at₄) _ λ ss at₅ e₅.
+        let least = leastWeightIn form w0 in
+        holds-then _ (symbolTableReader source least k at₄) _ λ ss at₅ table.
         holds-then _ (rulesReader source unused (record { w0 = w0; symbols = ss }) n at₅) _ λ rs end e₆.
-        let (new, a, length-new, oks, p) = holds-got _ _ ss at₅ (symbols-read w0 k [] at₄) e₅ in
+        let (e₅, noneOutranked) = holds-got _ _ ss at₅ (table-read least k at₄) table in
+        let (new, a, length-new, oks, p) = holds-got _ _ ss at₅ (symbols-read least k [] at₄) e₅ in
         let σ : Signature = record { w0 = w0; symbols = ss } in
         let (length-rs, rulesOk, q) = holds-got _ _ rs end (rules-read unused σ n at₅) e₆ in
         let length-ss : length ss ≡ k = ap length a ∙ length-new in
-        let symbolsOk : SymbolsOk w0 [] ss = rw (← a) at oks in
+        let symbolsOk : SymbolsOk least [] ss = rw (← a) at oks in
         let r₁ : source .field formWidth at ≡ got form at₁ = rw (eqb-true read form isForm) at e₁ in
         let r₂ : source .field symbolCountWidth at₁ ≡ got (length ss) at₂ = rw (← length-ss) at e₂ in
         let r₄ : source .field ruleCountWidth at₃ ≡ got (length rs) at₄ = rw (← length-rs) at e₄ in
@@ -235,15 +249,16 @@ module _ (source : Source) where
           someSymbol = rw length-ss some;
           variableWeighs = weighs;
           symbolsOk = symbolsOk;
+          noneOutranked = noneOutranked;
           rulesOk = rulesOk;
         } in
         (ok, more r₁ (more r₂ (more e₃ (more r₄ (spells-append source (rw (← a) at p) q)))))
 
   pub file-reads : (form : ℕ) (f : RuleFile) (at end : ℕ) → FileOk form f → Spells source (itemsIn form f) at end →
       fileReader form source at ≡ got f end
-  unfolding fileReader bodyReader itemsIn
+  unfolding fileReader bodyReader symbolTableReader itemsIn
   file-reads form f at end ok (more e₁ (more e₂ (more e₃ (more e₄ p)))) =
       let (mid, q, r) = spells-split source (flatMap symbolItems (f .signature .symbols)) p in
       let symbols = symbols-reads (ok .symbolsOk) _ mid q in
       let rules = rules-reads (unusedOf form) (f .signature) (f .rules) mid end (ok .rulesOk) r in
-      rw (e₁, eqb-self form, e₂, ok .someSymbol, e₃, ok .variableWeighs, e₄, symbols, rules)
+      rw (e₁, eqb-self form, e₂, ok .someSymbol, e₃, ok .variableWeighs, e₄, symbols, ok .noneOutranked, rules)

@@ -3,15 +3,15 @@ use mathlib.Core.Path.{_≡_, refl}
 use mathlib.Core.List.{flatMap}
 use Rattle.format.specs.Reading.{bitField, wordBelow}
 use Rattle.format.specs.Reading.Reading.{got}
-use Rattle.format.specs.Format.{symbolReader, symbolsReader, forestReader, ruleReader, rulesReader, bodyReader}
-use Rattle.format.specs.Format.{fileReader}
+use Rattle.format.specs.Symbols.{symbolReader, symbolsReader, symbolTableReader}
+use Rattle.format.specs.Format.{forestReader, ruleReader, rulesReader, bodyReader, fileReader}
 use Rattle.format.specs.Files.{wholeReader, readBytesIn, readBytes, readWords}
 use Rattle.format.specs.Packing.{itemsIn, packedIn, packed, unpacked}
 use Rattle.format.specs.Listing.{listing, listingFile, listingWords}
 
 pub listing-reads : readBytes listing ≡ got listingFile 130
-unfolding readBytesIn wholeReader fileReader bodyReader symbolsReader symbolReader rulesReader ruleReader forestReader
-    bitField
+unfolding readBytesIn wholeReader fileReader bodyReader symbolTableReader symbolsReader symbolReader rulesReader
+    ruleReader forestReader bitField
 listing-reads = refl
 
 pub listing-packs : packed listingFile ≡ listing
@@ -23,6 +23,6 @@ unfolding unpacked itemsIn flatMap
 listing-unpacks = refl
 
 pub listing-words-read : readWords listingWords ≡ got listingFile 16
-unfolding readWords wholeReader fileReader bodyReader symbolsReader symbolReader rulesReader ruleReader forestReader
-    wordBelow
+unfolding readWords wholeReader fileReader bodyReader symbolTableReader symbolsReader symbolReader rulesReader
+    ruleReader forestReader wordBelow
 listing-words-read = refl

@@ -60,7 +60,9 @@ module _ (form : ℕ) (f : RuleFile) (r : Readable form f) where
       let (symbols, nodes) = all-fit-split (flatMap symbolItems (σ .symbols)) (flatMap ruleItems (f .rules)) rest in
       let each = fits-at (σ .symbols) symbols in
       record {
-        admissible = admissible-of-symbols σ (r .ok .symbolsOk) (ltb-true 0 (σ .w0) (r .ok .variableWeighs));
+        admissible =
+            admissible-of-symbols form σ (r .ok .symbolsOk) (r .ok .noneOutranked)
+            (ltb-true 0 (σ .w0) (r .ok .variableWeighs));
         someSymbol = ltb-true 0 (length (σ .symbols)) (r .ok .someSymbol);
         within = record {
           symbolCount = count;

@@ -6,8 +6,8 @@ use Rattle.terms.specs.Words.{words, forestOf}
 use Rattle.terms.specs.Sample.{Case, sample, starred}
 use Rattle.format.specs.Reading.{bitField, wordBelow}
 use Rattle.format.specs.Reading.Reading.{got}
-use Rattle.format.specs.Format.{symbolReader, symbolsReader, forestReader, ruleReader, rulesReader, bodyReader}
-use Rattle.format.specs.Format.{fileReader}
+use Rattle.format.specs.Symbols.{symbolReader, symbolsReader, symbolTableReader}
+use Rattle.format.specs.Format.{forestReader, ruleReader, rulesReader, bodyReader, fileReader}
 use Rattle.format.specs.Format.{RuleFile, systemOf}
 use Rattle.format.specs.Packing.{itemsIn, packedIn, packed, unpacked}
 use Rattle.format.specs.Files.{wholeReader, readBytesIn, readBytes, readWords}
@@ -19,13 +19,13 @@ sampleFile = record {
 }
 
 sample-packs : readBytes (packed sampleFile) ≡ got sampleFile 825
-unfolding readBytesIn wholeReader fileReader bodyReader symbolsReader symbolReader rulesReader ruleReader forestReader
-    bitField packedIn itemsIn flatMap
+unfolding readBytesIn wholeReader fileReader bodyReader symbolTableReader symbolsReader symbolReader rulesReader
+    ruleReader forestReader bitField packedIn itemsIn flatMap
 sample-packs = refl
 
 sample-unpacks : readWords (unpacked sampleFile) ≡ got sampleFile 103
-unfolding readWords wholeReader fileReader bodyReader symbolsReader symbolReader rulesReader ruleReader forestReader
-    wordBelow unpacked itemsIn flatMap
+unfolding readWords wholeReader fileReader bodyReader symbolTableReader symbolsReader symbolReader rulesReader
+    ruleReader forestReader wordBelow unpacked itemsIn flatMap
 sample-unpacks = refl
 
 sample-means : systemOf sampleFile .rules ≡ map (λ (c : Case). record { left = c .left; right = c .right }) starred

@@ -3,41 +3,41 @@
 --     admissible-of-symbols    a signature whose symbols pass is admissible
 --     fits-at                  a symbol's values are within their widths
 --     symbols-of-admissible    the symbols of an admissible signature pass
+--     ranked-of-admissible     and none is outranked
+--     weighs-at, symbols-weigh a symbol weighs enough; symbols that pass with other least weights
 --     fits-of                  symbols whose values are within their widths
 use mathlib.Core.Path.{_≡_, refl, sym, ap, _∙_}
 use mathlib.Core.List.{List, [], _∷_, _++_, flatMap, append-nil, append-assoc}
 use mathlib.Core.Bool.{Bool, true, false, false≢true, cond, _||_, not}
-use Prim.Native.Nat.{ℕ, suc, zero, _<_}
+use Prim.Native.Nat.{ℕ, suc, zero, _≤_, _<_}
 use native.Mathlib.Omega.{arith}
 use lib.ListN.{length, getD, take, List·getD-eq-default}
 use lib.Seq.{getD-take, length-take-le}
 use lib.Dec.{eqb, lit<}
-use borrow.Author.Tests.{eqb-true, leb-true, le-leb, not-true}
+use borrow.Author.Tests.{eqb-true, leb-true, eq-eqb, le-leb, not-true}
 use Rattle.multisets.proofs.Relations.{byOrder, byTest, eqb-self}
-use Rattle.terms.specs.Signature.{Symbol, Signature, symbolOf, Admissible}
-use Rattle.format.specs.Format.{heldBy}
+use Rattle.terms.specs.Signature.{Symbol, Signature, symbolOf, leastWeight, ZeroWeightUnary, Admissible}
+use Rattle.format.specs.Layout.{formNumber}
+use Rattle.format.specs.Symbols.{heldBy, leastWeightIn, firstOutranked}
 use Rattle.format.specs.Packing.{symbolItems}
 use Rattle.format.proofs.SpellingLaws.{AllFit, all-fit-append, all-fit-split}
 use Rattle.format.proofs.FormatLaws.{SymbolOk, SymbolsOk}
 use Rattle.format.proofs.FormatLaws.SymbolsOk.{noSymbol, symbol}
+use Rattle.format.proofs.RankLaws.{absent, outranks-false, outranks-none, ranked-of, of-ranked}
 
--- What a signature says of a number that is no symbol's.
-abbrev absent : Symbol
-absent = record { arity = 0; ac = false; weight = 0; precedence = 0 }
-
-symbols-at : {w0 : ℕ} {earlier ss : List Symbol} → SymbolsOk w0 earlier ss → (f : ℕ) → f < length ss →
-    SymbolOk w0 (earlier ++ take f ss) (getD ss f absent)
+symbols-at : {least : ℕ → ℕ} {earlier ss : List Symbol} → SymbolsOk least earlier ss → (f : ℕ) → f < length ss →
+    SymbolOk least (earlier ++ take f ss) (getD ss f absent)
 symbols-at noSymbol f h = absurd (omega arith)
 symbols-at (symbol {earlier} ok oks) zero h = rw (append-nil earlier) ok
 symbols-at (symbol {earlier} {s} {ss} ok oks) (suc f) h =
     rw (append-assoc earlier (s ∷ []) (take f ss)) at (symbols-at oks f (omega arith))
 
-symbols-of : (w0 : ℕ) (earlier ss : List Symbol) →
-    ((f : ℕ) → f < length ss → SymbolOk w0 (earlier ++ take f ss) (getD ss f absent)) → SymbolsOk w0 earlier ss
-symbols-of w0 earlier [] h = noSymbol
-symbols-of w0 earlier (s ∷ ss) h =
+symbols-of : (least : ℕ → ℕ) (earlier ss : List Symbol) →
+    ((f : ℕ) → f < length ss → SymbolOk least (earlier ++ take f ss) (getD ss f absent)) → SymbolsOk least earlier ss
+symbols-of least earlier [] h = noSymbol
+symbols-of least earlier (s ∷ ss) h =
     symbol (rw (append-nil earlier) at (h 0 (omega arith)))
-    (symbols-of w0 (earlier ++ (s ∷ [])) ss λ f l.
+    (symbols-of least (earlier ++ (s ∷ [])) ss λ f l.
     rw (append-assoc earlier (s ∷ []) (take f ss)) (h (suc f) (omega arith)))
 
 held-at : (ss : List Symbol) (g : ℕ) → g < length ss → heldBy ss (getD ss g absent .precedence) ≡ true
@@ -54,7 +54,26 @@ held-by (s ∷ ss) rank e =
     byTest (eqb rank (s .precedence)) (λ t. (0, omega arith, eqb-true rank (s .precedence) t))
     λ t. let (g, l, h) = held-by ss rank (rw t at e) in (suc g, omega arith, h)
 
-module _ (σ : Signature) (oks : SymbolsOk (σ .w0) [] (σ .symbols)) where
+pub weighs-at : {least : ℕ → ℕ} {ss : List Symbol} → SymbolsOk least [] ss → (f : ℕ) → f < length ss →
+    least (getD ss f absent .arity) ≤ getD ss f absent .weight
+weighs-at oks f l = leb-true _ _ (symbols-at oks f l .weighs)
+
+-- The same symbols where they weigh enough by other least weights.
+pub symbols-weigh : (least least' : ℕ → ℕ) (ss : List Symbol) → SymbolsOk least [] ss →
+    ((f : ℕ) → f < length ss → least' (getD ss f absent .arity) ≤ getD ss f absent .weight) → SymbolsOk least' [] ss
+symbols-weigh least least' ss oks h =
+    symbols-of least' [] ss λ f l.
+    let ok = symbols-at oks f l in
+    record { acBinary = ok .acBinary; weighs = le-leb _ _ (h f l); fresh = ok .fresh }
+
+-- ---- an admissible signature
+
+least-in : (form w0 arity : ℕ) → leastWeight w0 arity ≤ leastWeightIn form w0 arity
+least-in form w0 zero = omega arith
+least-in form w0 (suc n) = omega arith
+
+module _ (form : ℕ) (σ : Signature) (oks : SymbolsOk (leastWeightIn form (σ .w0)) [] (σ .symbols))
+    (ranked : eqb (firstOutranked (σ .symbols)) (length (σ .symbols)) ≡ true) where
   later-differs : (f g : ℕ) → g < f → f < length (σ .symbols) →
       symbolOf σ f .precedence ≡ symbolOf σ g .precedence → ⊥
   later-differs f g h l e =
@@ -76,11 +95,23 @@ module _ (σ : Signature) (oks : SymbolsOk (σ .w0) [] (σ .symbols)) where
       record {
         variableWeighs = positive;
         acBinary = binary-at;
-        weighsEnough = λ f h. leb-true _ _ (symbols-at oks f h .weighs);
+        weighsEnough = λ f h. omega (
+          arith,
+          weighs-at oks f h,
+          least-in form (σ .w0) (symbolOf σ f .arity),
+        );
         precedencesDiffer = λ f g hf hg e.
             byOrder f g (λ h. absurd (later-differs g f h hg (sym e)))
             λ h. byOrder g f (λ k. absurd (later-differs f g k hf e)) λ k. omega arith;
+        zeroWeightHighest = λ f g hf hg z.
+            outranks-false (σ .symbols) (symbolOf σ f .precedence)
+            (ranked-of (σ .symbols) (σ .symbols) (eqb-true _ _ ranked) f hf (z .unary) (z .weightless)) g hg;
       }
+
+least-now : (w0 arity weight : ℕ) → leastWeight w0 arity ≤ weight → leastWeightIn formNumber w0 arity ≤ weight
+least-now w0 zero weight h = h
+least-now w0 (suc zero) weight h = h
+least-now w0 (suc (suc n)) weight h = h
 
 binary-test : (ac : Bool) (arity : ℕ) → (ac ≡ true → arity ≡ 2) → (eqb (cond ac 1 0) 0 || eqb arity 2) ≡ true
 binary-test false arity h = refl
@@ -99,13 +130,20 @@ module _ (σ : Signature) (A : Admissible σ) where
       absurd (omega (arith, A .precedencesDiffer f g l (omega arith) (h ∙ same))))
       λ e. rw e
 
-  pub symbols-of-admissible : SymbolsOk (σ .w0) [] (σ .symbols)
+  -- In the form that is read now.
+  pub symbols-of-admissible : SymbolsOk (leastWeightIn formNumber (σ .w0)) [] (σ .symbols)
   symbols-of-admissible =
-      symbols-of (σ .w0) [] (σ .symbols) λ f l. record {
+      symbols-of (leastWeightIn formNumber (σ .w0)) [] (σ .symbols) λ f l. record {
         acBinary = binary-test _ _ (A .acBinary f);
-        weighs = le-leb _ _ (A .weighsEnough f l);
+        weighs = le-leb _ _ (least-now (σ .w0) (symbolOf σ f .arity) (symbolOf σ f .weight) (A .weighsEnough f l));
         fresh = fresh-at f l;
       }
+
+  pub ranked-of-admissible : eqb (firstOutranked (σ .symbols)) (length (σ .symbols)) ≡ true
+  ranked-of-admissible =
+      eq-eqb _ _ (of-ranked (σ .symbols) (σ .symbols) λ f l u z.
+      outranks-none (σ .symbols) (symbolOf σ f .precedence) λ g k.
+      A .zeroWeightHighest f g l k (record { unary = u; weightless = z }))
 
 -- ---- the widths
 

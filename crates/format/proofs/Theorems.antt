@@ -1,18 +1,28 @@
 -- The theorems of specs/Statements.antt.
+use mathlib.Core.Path.{_≡_, ap}
+use mathlib.Core.List.{List, []}
+use Prim.Native.Nat.{ℕ, _+_, _<_}
+use native.Mathlib.Omega.{arith}
 use lib.ListN.{length}
-use lib.Dec.{lit<}
-use Rattle.format.specs.Layout.{formNumber}
+use Rattle.terms.specs.Signature.{Symbol, symbolOf}
+use Rattle.format.specs.Layout.{formNumber, weightWidth}
+use Rattle.format.specs.Reading.{Source, bitSource, wordSource}
+use Rattle.format.specs.Reading.Reading.{got}
+use Rattle.format.specs.Symbols.{symbolsReader, weightOffset}
 use Rattle.format.specs.Format.{RuleFile}
 use Rattle.format.specs.Statements.{IsRead, ReadableWellFormed, WellFormedFilesRead, ReadTermWellFormed}
-use Rattle.format.specs.Statements.{WellFormedReads, FaultsWithin}
+use Rattle.format.specs.Statements.{WellFormedReads, WeightsPlaced, FaultsWithin}
 use Rattle.format.specs.Statements.IsRead.{fromBytes, fromWords}
+use Rattle.format.proofs.ReadingLaws.{holds-got}
+use Rattle.format.proofs.RankLaws.{symbols-placed}
 use Rattle.format.proofs.FileLaws.{Readable, bytes-readable, words-readable, fileBits, packed-reads}
 use Rattle.format.proofs.FileLaws.{unpacked-reads}
 use Rattle.format.proofs.PromiseLaws.{readable-formed, readable-system}
 use Rattle.format.proofs.PromiseLaws.{first-term, whole-term}
 use Rattle.format.proofs.TermReading.{first-reads, term-reads, term-refused}
 use Rattle.format.proofs.WellFormedLaws.{well-formed-readable}
-use Rattle.format.proofs.FaultLaws.{bytes-fault, words-fault, term-fault, first-fault}
+use Rattle.format.proofs.FaultLaws.{bits-bounded, words-bounded, bytes-fault, words-fault, term-fault}
+use Rattle.format.proofs.FaultLaws.{first-fault}
 
 readable : (file : RuleFile) → IsRead file → Readable formNumber file
 readable file (fromBytes bytes end e) = bytes-readable formNumber bytes file end e
@@ -24,7 +34,7 @@ readable-well-formed file h =
 
 pub well-formed-files-read : WellFormedFilesRead
 well-formed-files-read file w =
-    let r = well-formed-readable formNumber (lit< tt) file w in
+    let r = well-formed-readable file w in
     (λ short. (length (fileBits file), packed-reads formNumber file r short), unpacked-reads file r)
 
 pub read-term-well-formed : ReadTermWellFormed
@@ -33,6 +43,22 @@ read-term-well-formed σ input nodes end = (first-term σ input nodes end, whole
 pub well-formed-reads : WellFormedReads
 well-formed-reads σ few t h =
     (λ l. (term-reads σ few t h l, first-reads σ few t h l), term-refused σ few t h)
+
+placed : (source : Source) → ((width at v next : ℕ) → source .field width at ≡ got v next →
+    next ≡ at + source .moves width) → (least : ℕ → ℕ) (n start : ℕ) (symbols : List Symbol) (end : ℕ) →
+    symbolsReader source least n [] start ≡ got symbols end → (f w0 : ℕ) → f < length symbols →
+    (next : ℕ) × (source .field weightWidth (weightOffset source start f)
+    ≡ got (symbolOf (record { w0 = w0; symbols = symbols }) f .weight) next)
+placed source moves least n start symbols end e f w0 h =
+    let (ss, same, count, later, weights, stand) =
+    holds-got _ _ symbols end (symbols-placed source moves least n [] start) e in
+    rw same (stand f (omega (arith, ap length same)))
+
+pub weights-placed : WeightsPlaced
+weights-placed least n start symbols end f h w0 = (
+  λ bytes e. placed (bitSource bytes) (bits-bounded bytes .moves) least n start symbols end e f w0 h,
+  λ words e. placed (wordSource words) (words-bounded words .moves) least n start symbols end e f w0 h,
+)
 
 pub faults-within : FaultsWithin
 faults-within input code offset = (

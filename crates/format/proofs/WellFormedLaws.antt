@@ -15,15 +15,15 @@ use Rattle.terms.specs.Term.{size}
 use Rattle.terms.specs.Words.{firstVariable, termOf}
 use Rattle.terms.specs.FirstUse.{inOrderFrom}
 use Rattle.terms.proofs.WordsLaws.{length-words}
-use Rattle.format.specs.Layout.{formWidth, acWidth, maxNodes}
+use Rattle.format.specs.Layout.{formNumber, acWidth, maxNodes}
 use Rattle.format.specs.Format.{Sides, RuleFile, unusedOf}
 use Rattle.format.specs.Packing.{symbolItems, ruleItems, itemsIn}
 use Rattle.format.specs.Packing.Item.{node}
-use Rattle.format.specs.Statements.{IsTerm, WellFormedIn}
+use Rattle.format.specs.Statements.{IsTerm, WellFormedFile}
 use Rattle.format.proofs.SpellingLaws.{AllFit, all-fit-append}
 use Rattle.format.proofs.FormatLaws.{Forest, RulesOk}
 use Rattle.format.proofs.FileLaws.{Readable}
-use Rattle.format.proofs.SymbolLaws.{symbols-of-admissible, fits-of}
+use Rattle.format.proofs.SymbolLaws.{symbols-of-admissible, ranked-of-admissible, fits-of}
 use Rattle.format.proofs.TermReading.{words-fit, nodes-form}
 
 module _ (σ : Signature) (few : length (σ .symbols) ≤ firstVariable) where
@@ -53,14 +53,13 @@ bit-fits : (b : Bool) → cond b 1 0 < 2 ^ acWidth
 bit-fits true = lit< tt
 bit-fits false = lit< tt
 
-pub well-formed-readable : (form : ℕ) → form < 2 ^ formWidth → (file : RuleFile) → WellFormedIn form file →
-    Readable form file
+pub well-formed-readable : (file : RuleFile) → WellFormedFile file → Readable formNumber file
 unfolding itemsIn
-well-formed-readable form formFits file w =
+well-formed-readable file w =
     let σ = file .signature in
     let within = w .within in
     let few : length (σ .symbols) ≤ firstVariable = omega (arith, within .symbolCount) in
-    let (ok, rules) = rules-of σ few (unusedOf form) (file .rules) (w .sides) (w .inTurn) in
+    let (ok, rules) = rules-of σ few (unusedOf formNumber) (file .rules) (w .sides) (w .inTurn) in
     let symbols = fits-of (σ .symbols) (λ f. (
       within .arity f,
       (bit-fits (symbolOf σ f .ac), (within .weight f, (within .precedence f, tt))),
@@ -71,7 +70,8 @@ well-formed-readable form formFits file w =
         someSymbol = lt-ltb 0 (length (σ .symbols)) (w .someSymbol);
         variableWeighs = lt-ltb 0 (σ .w0) (w .admissible .variableWeighs);
         symbolsOk = symbols-of-admissible σ (w .admissible);
+        noneOutranked = ranked-of-admissible σ (w .admissible);
         rulesOk = ok;
       };
-      fits = (formFits, (within .symbolCount, (within .w0, (within .ruleCount, rest))));
+      fits = (lit< tt, (within .symbolCount, (within .w0, (within .ruleCount, rest))));
     }

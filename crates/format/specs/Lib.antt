@@ -2,6 +2,7 @@
 pub mod Errors
 pub mod Layout
 pub mod Reading
+pub mod Symbols
 pub mod Format
 pub mod Files
 pub mod Packing

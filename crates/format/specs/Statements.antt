@@ -3,12 +3,12 @@
 -- "All ranks differ", "Admissible", "A side has at most 128 nodes, a book at most 32,768 bytes"; 02, order 4: "within a
 -- rule a variable's first appearance, left side first, must take the lowest unused number".
 -- Reading is total and has one outcome: `readBytes`, `readWords` and `readTerm` are functions into `Reading`.
-use mathlib.Core.List.{List, _++_, List·Memᴰ}
+use mathlib.Core.List.{List, [], _++_, List·Memᴰ}
 use mathlib.Core.Path.{_≡_}
 use mathlib.Core.Bool.{true}
 use Prim.Native.Nat.{ℕ, _*_, _^_, _≤_, _<_}
 use lib.ListN.{length, take}
-use Rattle.terms.specs.Signature.{Signature, symbolOf, Admissible}
+use Rattle.terms.specs.Signature.{Symbol, Signature, symbolOf, Admissible}
 use Rattle.terms.specs.Term.{Term, size, WellFormed}
 use Rattle.terms.specs.Words.{firstVariable, words, termOf}
 use Rattle.terms.specs.FirstUse.{inOrderFrom}
@@ -16,7 +16,9 @@ use Rattle.terms.specs.Rewriting.{WellFormedRules}
 use Rattle.format.specs.Errors.{tooManyNodes}
 use Rattle.format.specs.Layout.{symbolCountWidth, weightWidth, ruleCountWidth, arityWidth, rankWidth, maxNodes}
 use Rattle.format.specs.Layout.{formNumber, maxBytes}
+use Rattle.format.specs.Reading.{bitSource, wordSource}
 use Rattle.format.specs.Reading.Reading.{got, fault}
+use Rattle.format.specs.Symbols.{symbolsReader, weightOffset}
 use Rattle.format.specs.Format.{Sides, RuleFile, unusedOf, systemOf}
 use Rattle.format.specs.Packing.{packed, unpacked}
 use Rattle.format.specs.Files.{readBytes, readWords, readFirstTerm, readTerm}
@@ -81,6 +83,15 @@ WellFormedReads = (σ : Signature) → length (σ .symbols) ≤ firstVariable �
     (size t ≤ maxNodes → (readTerm σ (words t) ≡ got (words t) (size t))
     × ((rest : List ℕ) → readFirstTerm σ (words t ++ rest) ≡ got (words t) (size t)))
     × (maxNodes < size t → readTerm σ (words t) ≡ fault tooManyNodes maxNodes)
+
+-- 02, order 8: "at its weight": where symbols are read, the field at a symbol's offset is its weight.
+abbrev pub WeightsPlaced : Type 0
+WeightsPlaced = (least : ℕ → ℕ) (n start : ℕ) (symbols : List Symbol) (end f : ℕ) → f < length symbols → (w0 : ℕ) →
+    let weight = symbolOf (record { w0 = w0; symbols = symbols }) f .weight in
+    ((bytes : List ℕ) → symbolsReader (bitSource bytes) least n [] start ≡ got symbols end →
+    (next : ℕ) × (bitSource bytes .field weightWidth (weightOffset (bitSource bytes) start f) ≡ got weight next))
+    × ((words : List ℕ) → symbolsReader (wordSource words) least n [] start ≡ got symbols end →
+    (next : ℕ) × (wordSource words .field weightWidth (weightOffset (wordSource words) start f) ≡ got weight next))
 
 -- A fault lies within the input, or at its end.
 abbrev pub FaultsWithin : Type 0

@@ -78,3 +78,11 @@ pub const OLD_FORM: u8 = 17;
 pub const VARIABLE_OUT_OF_TURN: u8 = 18;
 
 pub const PAGE_TOO_SHORT: u8 = 19;
+
+pub const SIZE_OUT_OF_RANGE: u8 = 22;
+
+pub const NO_ROOM_FOR_TERMS: u8 = 23;
+
+pub const NO_SUCH_JOB: u8 = 24;
+
+pub const BAD_JOB: u8 = 25;

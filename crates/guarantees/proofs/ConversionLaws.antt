@@ -14,7 +14,7 @@ use lib.ListN.{length, getD}
 use lib.Dec.{eqb, leb}
 use borrow.Author.Tests.{le-leb, eqb-true}
 use Rattle.multisets.proofs.Relations.{byTest}
-use Rattle.terms.specs.Signature.{Signature}
+use Rattle.terms.specs.Signature.{Signature, NoZeroWeightUnary}
 use Rattle.terms.specs.Term.{Term, WellFormed}
 use Rattle.terms.specs.Words.{firstVariable, words, termOf}
 use Rattle.terms.specs.Rewriting.{Rule}
@@ -212,8 +212,9 @@ small-first (b ∷ bytes) small zero = omega arith
 small-first (b ∷ bytes) small (suc i) = small (suc i)
 
 pub new-kept : (bytes output : List ℕ) (file : RuleFile) → ((i : ℕ) → getD bytes i 0 < 256) → Holds bytes file →
-    length bytes ≤ length output → Wrote (converted (inFirstForm bytes) output) bytes
-new-kept bytes output file small (at, e) room =
+    NoZeroWeightUnary (file .signature) → length bytes ≤ length output →
+    Wrote (converted (inFirstForm bytes) output) bytes
+new-kept bytes output file small (at, e) heavy room =
     let r = bytes-readable formNumber bytes file at e in
     let now = bytes-packed formNumber bytes file at e small in
     let before : inFirstForm bytes ≡ packedIn firstForm file = ap inFirstForm (sym now) ∙ first-byte file in
@@ -221,7 +222,7 @@ new-kept bytes output file small (at, e) room =
     let short : length (packedIn firstForm file) ≤ maxBytes =
     omega (arith, bytes-short formNumber bytes file at e, ap length before) in
     let held : HeldBefore (inFirstForm bytes) file = rw before
-    (length (fileBitsIn firstForm file), packed-reads firstForm file (readable-before file r) short) in
+    (length (fileBitsIn firstForm file), packed-reads firstForm file (readable-before file heavy r) short) in
     rw (converted-same file r, now) at
     (converted-wrote (inFirstForm bytes) file held (small-first bytes small) output (omega arith))
 

@@ -2,8 +2,11 @@
 pub mod MarkedLaws
 pub mod LikeLaws
 mod PickLaws
+mod TurnLaws
+mod CourseLaws
 mod PrintLaws
 mod ScoreLaws
+mod EnumerationLaws
 mod RelationLaws
 pub mod RoundTrip
 mod ConvertedBits

@@ -3,10 +3,10 @@
 --     all-decreasing, counted-all     the falling count is the count of rules exactly where every rule is decreasing
 use mathlib.Core.List.{List, [], _∷_, _++_, map, List·Memᴰ, List·Memᴰ·head, List·Memᴰ·tail, List·Memᴰ·not-nil}
 use mathlib.Core.List.{List·Memᴰ·cases-cons, Memᴰ·map}
-use mathlib.Core.Logic.{⊎-elim}
+use mathlib.Core.Logic.{⊎-elim, inl, inr}
 use mathlib.Core.Path.{_≡_, refl, sym, ap, _∙_}
-use mathlib.Core.Bool.{Bool, true, false, false≢true, and-eq-true-iff}
-use borrow.Author.Tests.{leb-true, le-leb}
+use mathlib.Core.Bool.{Bool, true, false, false≢true, _&&_, and-eq-true-iff}
+use borrow.Author.Tests.{eqb-true, leb-true, le-leb}
 use Prim.Native.Nat.{ℕ, suc, zero, _≤_, _<_}
 use native.Mathlib.Omega.{arith}
 use lib.ListN.{length, getD, take, drop, length-map, List·getD-append}
@@ -17,6 +17,7 @@ use Rattle.multisets.proofs.MultisetMaps.{choose-length}
 use Rattle.multisets.proofs.Relations.{byTest}
 use Rattle.terms.specs.Order.{mark}
 use Rattle.terms.specs.Rewriting.{Rule}
+use Rattle.theory.specs.Statements.{IsDecreasing}
 use Rattle.format.specs.Reading.Reading.{got}
 use Rattle.format.specs.Format.{RuleFile, systemOf}
 use Rattle.format.specs.Files.{readBytes}
@@ -56,16 +57,20 @@ chosen-all f p (a ∷ l) h = rw (h a (List·Memᴰ·head refl)) (ap suc (chosen-
 
 -- ---- marking
 
-pub test-of-marks : (m : ℕ) → (1 ≤ m) × (m ≤ 6) → isDecreasing m ≡ true
-test-of-marks m (a, b) = rw (le-leb 1 m a, le-leb m 6 b)
+pub test-of-marks : (m : ℕ) → IsDecreasing m → isDecreasing m ≡ true
+test-of-marks m (inl (a, b)) = rw (le-leb 1 m a, le-leb m 6 b)
+test-of-marks m (inr e) = rw e
 
-pub marks-of-test : (m : ℕ) → isDecreasing m ≡ true → (1 ≤ m) × (m ≤ 6)
-marks-of-test m e = let (a, b) = and-eq-true-iff (leb 1 m) (leb m 6) .0 e in (leb-true 1 m a, leb-true m 6 b)
+pub marks-of-test : (m : ℕ) → isDecreasing m ≡ true → IsDecreasing m
+marks-of-test m e =
+    byTest (leb 1 m && leb m 6)
+    (λ t. let (a, b) = and-eq-true-iff (leb 1 m) (leb m 6) .0 t in inl (leb-true 1 m a, leb-true m 6 b))
+    λ t. inr (eqb-true m 11 (rw t at e))
 
 pub length-rules : (file : RuleFile) → length (systemOf file .rules) ≡ length (file .rules)
 length-rules file = length-map (file .rules) _
 
-length-marks : (file : RuleFile) → length (marksOf (systemOf file)) ≡ length (file .rules)
+pub length-marks : (file : RuleFile) → length (marksOf (systemOf file)) ≡ length (file .rules)
 length-marks file = length-map (systemOf file .rules) _ ∙ length-rules file
 
 -- The value of an accepted reply, and that a refusal is none.
@@ -117,7 +122,7 @@ module _ (bytes marks : List ℕ) (file : RuleFile) (at : ℕ) (reads : readByte
       let s = marked-both .0 in
       (ap (λ (s : Summary). s .rules) s ∙ n, rw front (ap (λ (s : Summary). s .decreasing) s))
 
-  -- Where the falling count is the count of rules, every rule's mark is one of 1 to 6.
+  -- Where the falling count is the count of rules, every rule's mark is one of the order's.
   pub all-decreasing : summary .decreasing ≡ summary .rules → (r : Rule) → List·Memᴰ r (systemOf file .rules) →
       isDecreasing (mark (file .signature) (r .left) (r .right)) ≡ true
   all-decreasing e r m =
@@ -125,7 +130,7 @@ module _ (bytes marks : List ℕ) (file : RuleFile) (at : ℕ) (reads : readByte
       all-chosen isDecreasing ruleMarks
       (ap (λ (s : Summary). s .decreasing) (sym s) ∙ e ∙ ap (λ (s : Summary). s .rules) s) _ (Memᴰ·map _ m)
 
--- Lent as many bytes as there are rules, marking counts them all where every rule's mark is one of 1 to 6.
+-- Lent as many bytes as there are rules, marking counts them all where every rule's mark is one of the order's.
 module _ (bytes : List ℕ) (file : RuleFile) (at : ℕ) (reads : readBytes bytes ≡ got file at) where
   pub marks-accepted : marked bytes (marksOf (systemOf file)) .reply ≡ accepted (summaryOf (marksOf (systemOf file)))
   unfolding marked

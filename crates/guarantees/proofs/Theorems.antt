@@ -13,7 +13,7 @@ use Rattle.terms.specs.Oftener.{firstOftener}
 use Rattle.terms.specs.Rewriting.{Rule, WellFormedRules, AllDecreasing}
 use Rattle.terms.specs.Steinbach.{SteinbachGreater}
 use Rattle.theory.proofs.Theorems.{greater-irreflexive, greater-transitive, closed-under-contexts, derivations-descend}
-use Rattle.theory.proofs.Theorems.{step-ceiling}
+use Rattle.theory.proofs.Theorems.{steps-decrease, step-ceiling, no-endless-steps}
 use Rattle.theory.proofs.Theorems.{exactly-one-mark, decreasing-marks, test-decides-article}
 use Rattle.theory.proofs.Theorems.{agrees-with-steinbach, test-decides-steinbach}
 use Rattle.format.specs.Reading.{Reading}
@@ -34,7 +34,9 @@ use Rattle.operations.specs.Picking.{picked}
 use Rattle.operations.specs.Hashing.{fingerprintedTerm, fingerprinted}
 use Rattle.operations.specs.Variables.{oftener}
 use Rattle.operations.specs.Converting.{converted}
-use Rattle.guarantees.specs.Guarantees.{Holds, ReadableOrder, FilesDescend, FilesBounded, CountedAll, CountTells}
+use Rattle.guarantees.specs.Guarantees.{Holds, ReadableOrder, StepsFall, FilesDescend, FilesTerminate}
+use Rattle.guarantees.specs.Guarantees.{FilesBounded}
+use Rattle.guarantees.specs.Guarantees.{CountedAll, CountTells}
 use Rattle.guarantees.specs.Guarantees.{Like, LikeComparisonsAgree, LikeFingerprintsAgree, MarksExact}
 use Rattle.guarantees.specs.Guarantees.{FallingCounted}
 use Rattle.guarantees.specs.Guarantees.{LikeVariableTestsAgree}
@@ -57,7 +59,16 @@ use Rattle.guarantees.specs.Pages.{PagesTellApart, LinesEven, MarginsFit
 use Rattle.guarantees.proofs.PrintLaws.{line-even}
 use Rattle.guarantees.specs.Scores.{ScoreNearest, FullScore}
 use Rattle.guarantees.proofs.ScoreLaws.{score-is-nearest, nearest-unique, full-score}
+use Rattle.terms.specs.Enumeration.{groundTerms}
+use Rattle.terms.proofs.Theorems.{enumerates-expressions, enumerates-in-order}
+use Rattle.guarantees.specs.Enumerations.{SmallExpressionsEnumerated}
+use Rattle.guarantees.proofs.EnumerationLaws.{counts-number, counts-more, lists-terms}
 use Rattle.guarantees.specs.Steinbach.{RelationAsSteinbach, ComparesAsSteinbach}
+use Rattle.operations.proofs.RoundLaws.{distance, distance-lt, onward-distance}
+use Rattle.guarantees.specs.Turns.{TurnServesOnly, OthersKeepAll, IdleExactly}
+use Rattle.guarantees.specs.Courses.{ServedWithin, MarksAsAlone}
+use Rattle.guarantees.proofs.TurnLaws.{serves-only, keeps-all, none-of-idle, idle-of-none, last-listed}
+use Rattle.guarantees.proofs.CourseLaws.{served-by, marks-alone}
 use Rattle.guarantees.proofs.RelationLaws.{relation-exact, relation-accepted}
 use Rattle.guarantees.specs.RoundTrips.{DecodeThenEncode, EncodeThenDecode}
 use Rattle.guarantees.proofs.RoundTrip.{decode-encode, encode-decode}
@@ -100,8 +111,16 @@ pub files-descend : FilesDescend
 files-descend bytes file h a s t d x =
     derivations-descend (systemOf file) (admissible bytes file h) (rules-formed bytes file h) a s t d
 
+pub steps-fall : StepsFall
+steps-fall bytes file h a s t p =
+    steps-decrease (systemOf file) (admissible bytes file h) (rules-formed bytes file h) s t p (a (p .rule) (p .isRule))
+
+pub files-terminate : FilesTerminate
+files-terminate bytes file h = no-endless-steps (systemOf file) (admissible bytes file h) (rules-formed bytes file h)
+
 pub files-bounded : FilesBounded
-files-bounded bytes file h a = step-ceiling (systemOf file) (admissible bytes file h) (rules-formed bytes file h) a
+files-bounded bytes file h heavy a =
+    step-ceiling (systemOf file) (admissible bytes file h) heavy (rules-formed bytes file h) a
 
 pub count-tells : CountTells
 count-tells bytes file h = (
@@ -244,8 +263,8 @@ pub renamed-books-agree : RenamedBooksAgree
 renamed-books-agree = books-agree
 
 pub new-books-kept : NewBooksKept
-new-books-kept bytes output file small h room =
-    let w = new-kept bytes output file small h room in (w .reply, w .output)
+new-books-kept bytes output file small h heavy room =
+    let w = new-kept bytes output file small h heavy room in (w .reply, w .output)
 
 -- ---- pages
 
@@ -283,3 +302,39 @@ score-nearest falling rules some score = (
 
 pub full-scores : FullScore
 full-scores = full-score
+
+-- ---- small expressions
+
+pub small-expressions-enumerated : SmallExpressionsEnumerated
+small-expressions-enumerated bytes file h n some few = record {
+  terms = groundTerms (file .signature) n;
+  exactly = enumerates-expressions (file .signature) n;
+  sorted = enumerates-in-order (file .signature) n;
+  number = counts-number bytes file (h .0) (h .1) n some few;
+  more = counts-more bytes file (h .0) (h .1) n some few;
+  written = lists-terms bytes file (h .0) (h .1) n some few;
+}
+
+-- ---- turns over a list of jobs
+
+pub turn-serves-only : TurnServesOnly
+turn-serves-only = serves-only
+
+pub others-keep-all : OthersKeepAll
+others-keep-all = keeps-all
+
+pub idle-exactly : IdleExactly
+idle-exactly c t e = (λ i. none-of-idle c (e ∙ ap (λ u. accepted u) i), idle-of-none c t e)
+
+pub served-within : ServedWithin
+served-within calls d h l replied kept =
+    let n = length (calls 0 .jobs) in
+    let last = last-listed (calls 0) (replied 0 (omega arith) .0) (replied 0 (omega arith) .1) in
+    let near = distance-lt n (calls 0 .last) last d h in
+    let (k, o, e) =
+    served-by n calls n d (distance n (calls 0 .last) last d) near refl near l
+    (onward-distance n (calls 0 .last) last d h) (λ k o. replied k (omega arith)) (λ k o. kept k (omega arith)) in
+    (k, omega arith, e)
+
+pub marks-as-alone : MarksAsAlone
+marks-as-alone calls d m begun kept alone s reply all = marks-alone m calls d alone s begun kept reply all

@@ -8,6 +8,7 @@ use mathlib.Core.Bool.{Bool, true, false, cond}
 use Prim.Native.Nat.{ℕ, _+_, _*_, _%_, _≤_, _<_}
 use lib.ListN.{length, getD, take, drop, replicate}
 use lib.Dec.{ltb}
+use Rattle.terms.specs.Signature.{NoZeroWeightUnary}
 use Rattle.terms.specs.Words.{firstVariable}
 use Rattle.terms.specs.Rewriting.{Rule}
 use Rattle.terms.specs.Renaming.{OneToOneOn}
@@ -97,9 +98,10 @@ abbrev pub inFirstForm : List ℕ → List ℕ
 inFirstForm [] = []
 inFirstForm (b ∷ bytes) = (16 * firstForm + b % 16) ∷ bytes
 
--- A book that reads now converts to itself, once its first byte says form 1.
+-- A book that reads now converts to itself, once its first byte says form 1, unless a unary symbol of it weighs 0,
+-- which document 01 refused.
 abbrev pub NewBooksKept : Type 0
 NewBooksKept = (bytes output : List ℕ) (file : RuleFile) → ((i : ℕ) → getD bytes i 0 < 256) → Holds bytes file →
-    length bytes ≤ length output →
+    NoZeroWeightUnary (file .signature) → length bytes ≤ length output →
     (converted (inFirstForm bytes) output .reply ≡ accepted (length bytes)) ×
     (take (length bytes) (converted (inFirstForm bytes) output .output) ≡ bytes)

@@ -1,13 +1,14 @@
 -- What a reader may rely on, over the definitions that the operations' contracts cite. Proofs: proofs/Theorems.antt.
 -- Renders: demand 3, with 01's "Rewrite steps and like comparisons"; demand 2, "Each mark is given exactly when its own
--- condition holds", 'falls' being Definition 5.1 of 000; 02, orders 2 and 3.
+-- condition holds", 'falls' being Definition 5.1 of 000; 02, orders 2, 3 and 8: "For a book with a wrapper, users rely
+-- on the strict fall of every step; the ceiling on steps is kept for books without one."
 use mathlib.Core.List.{List}
 use mathlib.Core.Logic.{_↔_}
 use mathlib.Core.Path.{_≡_}
 use mathlib.Core.Bool.{true, false}
-use Prim.Native.Nat.{ℕ, suc, _-_, _*_, _^_, _≤_, _<_}
+use Prim.Native.Nat.{ℕ, suc, _-_, _*_, _^_, _<_}
 use lib.ListN.{length, getD, take}
-use Rattle.terms.specs.Signature.{Signature}
+use Rattle.terms.specs.Signature.{Signature, NoZeroWeightUnary}
 use Rattle.terms.specs.Term.{Term, weight, WellFormed, Expression}
 use Rattle.terms.specs.Term.Term.{var}
 use Rattle.terms.specs.Words.{words}
@@ -15,8 +16,9 @@ use Rattle.terms.specs.Equivalence.{Equivalent}
 use Rattle.terms.specs.Order.{isGreater}
 use Rattle.terms.specs.Marks.{Marked}
 use Rattle.terms.specs.Article.{Greater}
-use Rattle.terms.specs.Rewriting.{Rule, Context, fill, ExpressionContext, Derivation, stepCount, along, StronglySorted}
-use Rattle.terms.specs.Rewriting.{AllDecreasing}
+use Rattle.terms.specs.Rewriting.{Rule, Context, fill, ExpressionContext, Step, Derivation, stepCount, along}
+use Rattle.terms.specs.Rewriting.{StronglySorted, AllDecreasing}
+use Rattle.theory.specs.Statements.{IsDecreasing}
 use Rattle.format.specs.Reading.Reading.{got}
 use Rattle.format.specs.Format.{RuleFile, systemOf}
 use Rattle.format.specs.Files.{readBytes}
@@ -58,12 +60,24 @@ module _ (file : RuleFile) where
   Bounded = (s t : Term) (d : Derivation (systemOf file) s t) → Expression (file .signature) s →
       stepCount (systemOf file) d < suc (length (file .signature .symbols)) ^ (2 * weight (file .signature) s - 1)
 
--- 01: for any readable book all of whose rules fall.
+-- 01: for any readable book all of whose rules fall. 02, order 8: also for one with a wrapper, of every step, and so of
+-- every list of steps.
+abbrev pub StepsFall : Type 0
+StepsFall = (bytes : List ℕ) (file : RuleFile) → Holds bytes file → AllDecreasing (systemOf file) →
+    (s t : Term) → Step (systemOf file) s t → isGreater (file .signature) s t ≡ true
+
 abbrev pub FilesDescend : Type 0
 FilesDescend = (bytes : List ℕ) (file : RuleFile) → Holds bytes file → AllDecreasing (systemOf file) → Descends file
 
+-- Of any such book, with a wrapper or without: no list of steps goes on for ever.
+abbrev pub FilesTerminate : Type 0
+FilesTerminate = (bytes : List ℕ) (file : RuleFile) → Holds bytes file → AllDecreasing (systemOf file) →
+    (s : ℕ → Term) → ((n : ℕ) → Step (systemOf file) (s n) (s (suc n))) → ⊥
+
+-- The ceiling is for books without a wrapper.
 abbrev pub FilesBounded : Type 0
-FilesBounded = (bytes : List ℕ) (file : RuleFile) → Holds bytes file → AllDecreasing (systemOf file) → Bounded file
+FilesBounded = (bytes : List ℕ) (file : RuleFile) → Holds bytes file → NoZeroWeightUnary (file .signature) →
+    AllDecreasing (systemOf file) → Bounded file
 
 -- The count of falling rules that marking gives is the count of rules.
 pub record CountedAll (bytes : List ℕ) : Type 0 where
@@ -104,11 +118,11 @@ LikeVariableTestsAgree = (bytes left left' right right' : List ℕ) →
 
 -- ---- (e) marks
 
--- The mark's own condition holds, no other's does, and it is one of 1 to 6 exactly if the left side is greater by the
--- article.
+-- The mark's own condition holds, no other's does, and it is one of those that count as falling exactly if the left
+-- side is greater by the article.
 pub record ExactMark (σ : Signature) (r : Rule) (m : ℕ) : Type 0 where
   pub holds : (k : ℕ) → Marked σ k (r .left) (r .right) ↔ (m ≡ k)
-  pub decreasing : ((1 ≤ m) × (m ≤ 6)) ↔ Greater σ (r .left) (r .right)
+  pub decreasing : IsDecreasing m ↔ Greater σ (r .left) (r .right)
 
 abbrev pub MarksExact : Type 0
 MarksExact = (bytes marks : List ℕ) (file : RuleFile) (summary : Summary) → Holds bytes file →
@@ -116,7 +130,7 @@ MarksExact = (bytes marks : List ℕ) (file : RuleFile) (summary : Summary) → 
     ExactMark (file .signature) (getD (systemOf file .rules) i (record { left = var 0; right = var 0 }))
     (getD (marked bytes marks .output) i 0)
 
--- The falling count counts the marks 1 to 6 that were written, one for each rule.
+-- The falling count counts the marks 1 to 6 and 11 that were written, one for each rule.
 abbrev pub FallingCounted : Type 0
 FallingCounted = (bytes marks : List ℕ) (file : RuleFile) (summary : Summary) → Holds bytes file →
     marked bytes marks .reply ≡ accepted summary →

@@ -4,5 +4,8 @@ pub mod Picks
 pub mod Conversions
 pub mod Pages
 pub mod Scores
+pub mod Enumerations
 pub mod RoundTrips
 pub mod Steinbach
+pub mod Turns
+pub mod Courses

@@ -1,5 +1,6 @@
 -- What the code of marking cites.
 pub mod WalkLaws
+pub mod OneLaws
 pub mod FoundLaws
 pub mod SideLaws
 pub mod MarkLaws

@@ -1,15 +1,15 @@
 -- The walk over the rules of a file: what a loop has read, counted and stored, and what that says of the file.
---     decreasing-below, -above, -within, -append            how many marks are those of the order
+--     decreasing-one, -none, -append                        how many marks are those of the order
 --     ListedSoFar, listed-none, listed-fault, listed-more, listed-all     the loop
---     stored-front, marked-as                               what was stored first; a file whose rules are listed
+--     stored-front, marks-sides, marked-as                  what was stored first; a file whose rules are listed
 use mathlib.Core.List.{List, [], _∷_, _++_, map, map-append}
 use mathlib.Core.Path.{_≡_, refl, sym, ap, _∙_}
+use mathlib.Core.Bool.{true, false}
 use Prim.Native.Nat.{ℕ, _+_, _≤_, _<_}
 use native.Mathlib.Omega.{arith}
 use lib.IntN.{ℤ}
 use lib.ListN.{length, take, drop, length-append, length-map, set}
 use lib.Seq.{sets, sets-eq, take-append-seam}
-use borrow.Author.Tests.{le-leb, lt-leb}
 use Rattle.multisets.specs.Multiset.{choose}
 use Rattle.multisets.proofs.MultisetMaps.{choose-append}
 use Rattle.multisets.proofs.ListLaws.{sets-append}
@@ -29,14 +29,11 @@ sidesThemselves sides = sides
 
 -- ---- how many marks are those of the order
 
-pub decreasing-below : (m : ℕ) → m < 1 → decreasingCount (m ∷ []) ≡ 0
-decreasing-below m h = rw (lt-leb 1 m h)
+pub decreasing-one : (m : ℕ) → isDecreasing m ≡ true → decreasingCount (m ∷ []) ≡ 1
+decreasing-one m e = rw e
 
-pub decreasing-above : (m : ℕ) → 1 ≤ m → 6 < m → decreasingCount (m ∷ []) ≡ 0
-decreasing-above m h k = rw (le-leb 1 m h, lt-leb m 6 k)
-
-pub decreasing-within : (m : ℕ) → 1 ≤ m → m ≤ 6 → decreasingCount (m ∷ []) ≡ 1
-decreasing-within m h k = rw (le-leb 1 m h, le-leb m 6 k)
+pub decreasing-none : (m : ℕ) → isDecreasing m ≡ false → decreasingCount (m ∷ []) ≡ 0
+decreasing-none m e = rw e
 
 decreasing-append : (l m : List ℕ) → decreasingCount (l ++ m) ≡ decreasingCount l + decreasingCount m
 decreasing-append l m = ap length (choose-append isDecreasing l m) ∙ length-append (choose isDecreasing l)
@@ -108,20 +105,22 @@ sides-map g f [] = refl
 sides-map g f (a ∷ l) = ap (_∷_ (g (f a))) (sides-map g f l)
 
 module _ (σ : Signature) (rs : List Sides) where
-  abbrev listedFile : RuleFile
+  abbrev pub listedFile : RuleFile
   listedFile = record { signature = σ; rules = rs }
+
+  pub marks-sides : marksOf (systemOf listedFile) ≡ map (sidesMark σ) rs
+  marks-sides = sides-map _ _ rs
 
   pub marked-as : (count decreasing : ℕ) (marks₀ marks : List ℕ) (margins₀ margins : List ℤ) → length rs ≡ count →
       count < 1024 → decreasing ≤ count → Listed σ rs decreasing marks₀ marks margins₀ margins →
       MarkedAs listedFile count decreasing marks₀ marks margins₀ margins
   marked-as count decreasing marks₀ marks margins₀ margins n few most l =
-      let same : marksOf (systemOf listedFile) ≡ map (sidesMark σ) rs = sides-map _ _ rs in
       let margin : marginsOf (systemOf listedFile) ≡ map (sidesMargin σ) rs = sides-map _ _ rs in
       record {
         count = sym n;
         few = few;
         most = most;
-        falling = l .falling ∙ ap decreasingCount (sym same);
-        marks = l .marks ∙ ap (sets marks₀ 0) (sym same);
+        falling = l .falling ∙ ap decreasingCount (sym marks-sides);
+        marks = l .marks ∙ ap (sets marks₀ 0) (sym marks-sides);
         margins = l .margins ∙ ap (sets margins₀ 0) (sym margin);
       }

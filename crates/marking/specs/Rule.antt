@@ -77,3 +77,8 @@ abbrev pub WholeMarked : Reading RuleFile → FileMarked → List ℕ → List �
 WholeMarked reading (file.Marked rules decreasing) marks₀ marks margins₀ margins =
     (f : RuleFile) × (end : ℕ) × (reading ≡ got f end) × MarkedAs f rules decreasing marks₀ marks margins₀ margins
 WholeMarked reading (file.Fault code offset) marks₀ marks margins₀ margins = reading ≡ fault code offset
+
+-- What was read of rules of which the end alone is told, and the answer.
+abbrev pub RulesRead : Reading (List Sides) → Answer → Type 0
+RulesRead reading (Got value next) = (rules : List Sides) × (reading ≡ got rules next)
+RulesRead reading (Fault offset code) = reading ≡ fault code offset

@@ -1,6 +1,7 @@
 // Marking the rules of a rule file, and the text that `marker` prints.
 pub mod lines;
 pub mod mark;
+pub mod one;
 pub mod report;
 mod rule;
 pub mod walk;

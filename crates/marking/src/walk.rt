@@ -29,13 +29,11 @@ fn decreases(mark: u8) -> usize
     ensures { λ r. ⌜ r ≡ decreasingCount (mark ∷ []) ⌝ }
     ensures { λ r. ⌜ r ≤ 1 ⌝ }
 {
-    if mark < 1 {
-        return 0;
+    if order::mark::is_decreasing(mark) {
+        1
+    } else {
+        0
     }
-    if 6 < mark {
-        return 0;
-    }
-    1
 }
 
 // Stores the mark of a rule.

@@ -8,6 +8,7 @@ pub mod Totality
 pub mod MultisetMaps
 pub mod MapLaws
 pub mod SumLaws
+pub mod Accessibility
 pub mod MultisetImages
 pub mod Agreement
 pub mod Restriction

@@ -92,7 +92,7 @@ module _ {A : Type 0} where
   takes-within (later x) (List·Memᴰ·head e) = List·Memᴰ·head e
   takes-within (later x) (List·Memᴰ·tail i) = List·Memᴰ·tail (takes-within x i)
 
-  takes-sum : (w : A → ℕ) {a : A} {l m : List A} → Takes a l m → sum w l ≡ w a + sum w m
+  pub takes-sum : (w : A → ℕ) {a : A} {l m : List A} → Takes a l m → sum w l ≡ w a + sum w m
   takes-sum w here = refl
   takes-sum w (later x) = omega (arith, takes-sum w x)
 

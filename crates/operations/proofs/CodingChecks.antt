@@ -10,8 +10,8 @@ use Rattle.format.specs.Errors.{wordsTooShort, wordTooWide, wordsLeftOver, byte
 use Rattle.format.specs.Layout.{formWidth, symbolCountWidth, weightWidth, ruleCountWidth, arityWidth, acWidth}
 use Rattle.format.specs.Layout.{rankWidth, formNumber}
 use Rattle.format.specs.Reading.{bitField, wordBelow}
-use Rattle.format.specs.Format.{symbolReader, symbolsReader, forestReader, ruleReader, rulesReader, bodyReader}
-use Rattle.format.specs.Format.{fileReader}
+use Rattle.format.specs.Symbols.{symbolReader, symbolsReader, symbolTableReader}
+use Rattle.format.specs.Format.{forestReader, ruleReader, rulesReader, bodyReader, fileReader}
 use Rattle.format.specs.Files.{wholeReader, readBytesIn, readWords}
 use Rattle.format.specs.Packing.{Item, itemBits, itemWord, bytesOf, itemsIn, packedIn, unpacked}
 use Rattle.format.specs.Packing.Item.{field, node}
@@ -91,7 +91,11 @@ decodeCases =
     gives (bits (header 1 0 0)) variableWeightless 12 ∷
     gives (bits (header 1 1 0 ++ symbol 3 1 1 0)) acNotBinary 38 ∷
     gives (bits (header 1 2 0 ++ symbol 0 0 1 0)) weightInadmissible 42 ∷
-    gives (bits (header 1 1 0 ++ symbol 1 0 0 0)) weightInadmissible 42 ∷
+    gives (bits (header 2 1 1 ++ symbol 1 0 0 0 ++ symbol 0 0 1 5)) weightInadmissible 42 ∷
+    gives (bits (header 2 1 1 ++ symbol 0 0 1 5 ++ symbol 1 0 0 0)) weightInadmissible 70 ∷
+    gives (bits (header 2 1 0 ++ symbol 1 0 0 5 ++ symbol 1 0 0 3)) weightInadmissible 70 ∷
+    gives (bits (header 2 1 0 ++ symbol 1 0 0 0 ++ symbol 0 0 0 5)) weightInadmissible 70 ∷
+    gives (bits (header 2 1 0 ++ symbol 1 0 0 0 ++ symbol 0 0 1 0)) rankTaken 86 ∷
     gives (bits (header 2 1 0 ++ symbol 0 0 1 5 ++ symbol 0 0 1 5)) rankTaken 86 ∷
     gives (bits (constant ++ (node 1 ∷ []))) noSuchSymbol 67 ∷
     gives (bits (constant ++ (node 257 ∷ []))) variableOutOfTurn 67 ∷
@@ -104,8 +108,8 @@ decodeCases =
     []
 
 decode-errors : map (λ (c : ErrorCase). decoded (c .read) (c .lent)) decodeCases ≡ map refusal decodeCases
-unfolding decoded readBytesIn wholeReader fileReader bodyReader symbolsReader symbolReader rulesReader ruleReader
-    forestReader bitField unpacked itemsIn flatMap
+unfolding decoded readBytesIn wholeReader fileReader bodyReader symbolTableReader symbolsReader symbolReader rulesReader
+    ruleReader forestReader bitField unpacked itemsIn flatMap
 decode-errors = refl
 
 abbrev encodeCases : List ErrorCase
@@ -119,7 +123,11 @@ encodeCases =
     gives (sheet (header 1 0 0)) variableWeightless 2 ∷
     gives (sheet (header 1 1 0 ++ symbol 3 1 1 0)) acNotBinary 4 ∷
     gives (sheet (header 1 2 0 ++ symbol 0 0 1 0)) weightInadmissible 6 ∷
-    gives (sheet (header 1 1 0 ++ symbol 1 0 0 0)) weightInadmissible 6 ∷
+    gives (sheet (header 2 1 1 ++ symbol 1 0 0 0 ++ symbol 0 0 1 5)) weightInadmissible 6 ∷
+    gives (sheet (header 2 1 1 ++ symbol 0 0 1 5 ++ symbol 1 0 0 0)) weightInadmissible 10 ∷
+    gives (sheet (header 2 1 0 ++ symbol 1 0 0 5 ++ symbol 1 0 0 3)) weightInadmissible 10 ∷
+    gives (sheet (header 2 1 0 ++ symbol 1 0 0 0 ++ symbol 0 0 0 5)) weightInadmissible 10 ∷
+    gives (sheet (header 2 1 0 ++ symbol 1 0 0 0 ++ symbol 0 0 1 0)) rankTaken 11 ∷
     gives (sheet (header 2 1 0 ++ symbol 0 0 1 5 ++ symbol 0 0 1 5)) rankTaken 11 ∷
     gives (sheet (constant ++ (node 1 ∷ []))) noSuchSymbol 8 ∷
     gives (sheet (constant ++ (node 257 ∷ []))) variableOutOfTurn 8 ∷
@@ -135,6 +143,6 @@ encodeCases =
     []
 
 encode-errors : map (λ (c : ErrorCase). encoded (c .read) (c .lent)) encodeCases ≡ map refusal encodeCases
-unfolding encoded readWords wholeReader fileReader bodyReader symbolsReader symbolReader rulesReader ruleReader
-    forestReader wordBelow packedIn itemsIn flatMap
+unfolding encoded readWords wholeReader fileReader bodyReader symbolTableReader symbolsReader symbolReader rulesReader
+    ruleReader forestReader wordBelow packedIn itemsIn flatMap
 encode-errors = refl

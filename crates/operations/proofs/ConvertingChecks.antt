@@ -5,13 +5,14 @@ use mathlib.Core.List.{List, [], _∷_, _++_, map, flatMap}
 use Prim.Native.Nat.{ℕ}
 use lib.ListN.{take, drop, replicate}
 use Rattle.terms.specs.FirstUse.{see, seeAll, placeIn, renameWord}
-use Rattle.format.specs.Errors.{fileTooLong, fieldMissing, wrongForm, noSuchSymbol, badPadding, bytesTooShort}
+use Rattle.format.specs.Errors.{fileTooLong, fieldMissing, wrongForm, weightInadmissible, noSuchSymbol, badPadding}
+use Rattle.format.specs.Errors.{bytesTooShort}
 use Rattle.format.specs.Reading.{bitField}
-use Rattle.format.specs.Format.{symbolReader, symbolsReader, forestReader, ruleReader, rulesReader, bodyReader}
-use Rattle.format.specs.Format.{fileReader}
+use Rattle.format.specs.Symbols.{symbolReader, symbolsReader, symbolTableReader}
+use Rattle.format.specs.Format.{forestReader, ruleReader, rulesReader, bodyReader, fileReader}
 use Rattle.format.specs.Files.{wholeReader, readBytesIn}
 use Rattle.format.specs.Packing.{itemsIn, packedIn}
-use Rattle.format.specs.Listing.{listing}
+use Rattle.format.specs.Listing.{listing, wrapping}
 use Rattle.operations.specs.Replies.{Outcome}
 use Rattle.operations.specs.Replies.Reply.{accepted, refused}
 use Rattle.operations.specs.Converting.{converted}
@@ -31,13 +32,13 @@ abbrev oldListing : List ℕ
 oldListing = 0x10 ∷ drop 1 listing
 
 converts : converted outOfTurn (replicate 18 7) ≡ record { reply = accepted 16; output = inTurn ++ (7 ∷ 7 ∷ []) }
-unfolding converted readBytesIn wholeReader fileReader bodyReader symbolsReader symbolReader rulesReader ruleReader
-    forestReader bitField seeAll see placeIn renameWord packedIn itemsIn flatMap
+unfolding converted readBytesIn wholeReader fileReader bodyReader symbolTableReader symbolsReader symbolReader
+    rulesReader ruleReader forestReader bitField seeAll see placeIn renameWord packedIn itemsIn flatMap
 converts = refl
 
 listing-converts : converted oldListing (replicate 17 7) ≡ record { reply = accepted 17; output = listing }
-unfolding converted readBytesIn wholeReader fileReader bodyReader symbolsReader symbolReader rulesReader ruleReader
-    forestReader bitField seeAll see placeIn renameWord packedIn itemsIn flatMap
+unfolding converted readBytesIn wholeReader fileReader bodyReader symbolTableReader symbolsReader symbolReader
+    rulesReader ruleReader forestReader bitField seeAll see placeIn renameWord packedIn itemsIn flatMap
 listing-converts = refl
 
 -- What is read, and the error's code, input and offset.
@@ -66,6 +67,7 @@ cases =
     gives (take 16 oldListing ++ (0x80 ∷ [])) noSuchSymbol 122 ∷
     gives (take 16 oldListing ++ (0x01 ∷ [])) badPadding 130 ∷
     gives (oldListing ++ (0x00 ∷ [])) badPadding 130 ∷
+    gives (0x10 ∷ drop 1 wrapping) weightInadmissible 42 ∷
     record { read = oldListing; code = bytesTooShort; input = 1; offset = 0 } ∷
     []
 
@@ -76,6 +78,6 @@ refusal c = record {
 }
 
 errors : map (λ (c : ErrorCase). converted (c .read) lent) cases ≡ map refusal cases
-unfolding converted readBytesIn wholeReader fileReader bodyReader symbolsReader symbolReader rulesReader ruleReader
-    forestReader bitField
+unfolding converted readBytesIn wholeReader fileReader bodyReader symbolTableReader symbolsReader symbolReader
+    rulesReader ruleReader forestReader bitField
 errors = refl

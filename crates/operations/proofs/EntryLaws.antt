@@ -1,11 +1,11 @@
 -- The marks and margins of rules, and that they fit on a page.
---     mark-within      a mark is one of 1 to 10
+--     mark-within      a mark is one of 1 to 11
 --     margin-fits      a margin below 10 to the 11 either way has its columns
 --     weight-most      a side of 128 nodes weighs at most 128 times 65,535
 --     book-fits        what a readable book's rules have fits
 use mathlib.Core.List.{List, Memᴰ·of-map}
 use mathlib.Core.Path.{ap}
-use mathlib.Core.Bool.{Bool, true, false, cond, _&&_, not}
+use mathlib.Core.Bool.{Bool, true, false, cond, _&&_, not, and-eq-true-iff as both}
 use Prim.Native.Nat.{ℕ, _+_, _*_, _^_, _≤_, _<_}
 use native.Mathlib.Omega.{arith}
 use lib.Dec.{eqb, ltb}
@@ -13,15 +13,13 @@ use lib.IntN.{ℤ, natAbs, subℕ}
 use lib.ListN.{length}
 use borrow.Author.Tests.{ltb-true}
 use Rattle.multisets.proofs.Relations.{byTest}
-use Rattle.multisets.specs.Multiset.{rowGreater}
 use Rattle.terms.specs.Signature.{Signature, symbolOf}
-use Rattle.terms.specs.Term.{Term, Terms, size, sizes, row, weight, measures, variableCount, flattenings}
+use Rattle.terms.specs.Term.{Term, Terms, size, sizes, weight, measures, variableCount}
 use Rattle.terms.specs.Term.Term.{var, app}
 use Rattle.terms.specs.Term.Terms.{nil, cons}
 use Rattle.terms.specs.Words.{termOf}
 use Rattle.terms.specs.Equivalence.{isEquivalent}
-use Rattle.terms.specs.Order.{highGreater, highEqual, lowGreater}
-use Rattle.terms.specs.Order.{noneOftener, flattenedMark, rootMark, decreasingMark, isGreater, mark, margin}
+use Rattle.terms.specs.Order.{noneOftener, decreasingMark, isGreater, mark, margin}
 use Rattle.terms.proofs.Theorems.{word-for-each-node}
 use Rattle.format.specs.Format.{Sides, RuleFile, systemOf}
 use Rattle.format.specs.Statements.{IsRead, IsTerm}
@@ -33,59 +31,24 @@ use Rattle.operations.proofs.DecimalLaws.{signed-few, spelled}
 
 -- ---- marks
 
-flattened-most : (a b c d : Bool) → cond a 4 (cond b (cond c 5 (cond d 6 0)) 0) ≤ 6
-flattened-most true b c d = omega arith
-flattened-most false false c d = omega arith
-flattened-most false true true d = omega arith
-flattened-most false true false true = omega arith
-flattened-most false true false false = omega arith
-
-arguments-most : (a b c d : Bool) (m : ℕ) → m ≤ 6 → cond a 2 (cond b (cond c m (cond d 3 0)) 0) ≤ 6
-arguments-most true b c d m h = omega arith
-arguments-most false false c d m h = omega arith
-arguments-most false true true d m h = h
-arguments-most false true false true m h = omega arith
-arguments-most false true false false m h = omega arith
-
-weighed-most : (a b c : Bool) (m : ℕ) → m ≤ 6 → cond a (cond b 1 (cond c m 0)) 0 ≤ 6
-weighed-most false b c m h = omega arith
-weighed-most true true c m h = omega arith
-weighed-most true false true m h = h
-weighed-most true false false m h = omega arith
-
-other-within : (a b c : Bool) → let m : ℕ = cond a 7 (cond b 8 (cond c 9 10)) in (1 ≤ m) × (m ≤ 10)
-other-within true b c = omega arith
-other-within false true c = omega arith
-other-within false false true = omega arith
-other-within false false false = omega arith
+other-within : (a b c d : Bool) → let m : ℕ = cond a 7 (cond b 8 (cond c 9 (cond d 11 10))) in (1 ≤ m) × (m ≤ 11)
+other-within true b c d = omega arith
+other-within false true c d = omega arith
+other-within false false true d = omega arith
+other-within false false false true = omega arith
+other-within false false false false = omega arith
 
 module _ (σ : Signature) where
-  root-most : (like greater : Term → Term → Bool) (s t : Term) → rootMark σ like greater s t ≤ 6
-  unfolding rootMark flattenedMark
-  root-most like greater (var x) t = omega arith
-  root-most like greater (app f ss) (var y) = omega arith
-  root-most like greater (app f ss) (app g ts) =
-      let qs = flattenings f ss in
-      let us = flattenings f ts in
-      arguments-most (ltb (symbolOf σ g .precedence) (symbolOf σ f .precedence)) (eqb f g) (symbolOf σ f .ac)
-      (rowGreater like greater (row ss) (row ts)) (flattenedMark σ like greater f qs us)
-      (flattened-most (highGreater σ like greater f qs us) (highEqual σ like f qs us) (ltb (length us) (length qs))
-      (eqb (length us) (length qs) && lowGreater σ like greater f qs us))
-
-  decreasing-most : (like greater : Term → Term → Bool) (s t : Term) → decreasingMark σ like greater s t ≤ 6
-  unfolding decreasingMark
-  decreasing-most like greater s t =
-      weighed-most (noneOftener variableCount s t) (ltb (weight σ t) (weight σ s)) (eqb (weight σ t) (weight σ s))
-      (rootMark σ like greater s t) (root-most like greater s t)
-
-  pub mark-within : (s t : Term) → (1 ≤ mark σ s t) × (mark σ s t ≤ 10)
+  pub mark-within : (s t : Term) → (1 ≤ mark σ s t) × (mark σ s t ≤ 11)
   unfolding mark
   mark-within s t =
       let m = decreasingMark σ (isEquivalent σ) (isGreater σ) s t in
-      byTest (ltb 0 m)
-      (λ e. rw e (omega (arith, ltb-true 0 m e), omega (arith, decreasing-most (isEquivalent σ) (isGreater σ) s t)))
+      byTest (ltb 0 m && ltb m 7)
+      (λ e.
+      let (a, b) = both (ltb 0 m) _ .0 e in
+      rw e (omega (arith, ltb-true 0 m a), omega (arith, ltb-true m 7 b)))
       λ e. rw e (other-within (not (noneOftener variableCount s t)) (ltb (weight σ s) (weight σ t))
-      (isEquivalent σ s t))
+      (isEquivalent σ s t) (eqb m 11))
 
 -- ---- margins
 

@@ -6,6 +6,7 @@ pub mod EntryLaws
 pub mod PageLaws
 pub mod PickingLaws
 pub mod ScoreLaws
+pub mod RoundLaws
 mod CodingChecks
 mod LongFileChecks
 mod ConvertingChecks
@@ -13,6 +14,8 @@ mod ComparingChecks
 mod PickingChecks
 mod VariablesChecks
 mod HashingChecks
+mod EnumeratingChecks
 mod MarkingChecks
 mod PageChecks
 mod ScoreChecks
+mod TurnsChecks

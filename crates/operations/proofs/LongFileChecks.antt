@@ -10,8 +10,8 @@ use Rattle.format.specs.Errors.{fileTooLong}
 use Rattle.format.specs.Layout.{maxBytes}
 use Rattle.format.specs.Reading.{wordBelow}
 use Rattle.format.specs.Reading.Reading.{got}
-use Rattle.format.specs.Format.{RuleFile, symbolReader, symbolsReader, forestReader, ruleReader, rulesReader}
-use Rattle.format.specs.Format.{bodyReader, fileReader}
+use Rattle.format.specs.Symbols.{symbolReader, symbolsReader, symbolTableReader}
+use Rattle.format.specs.Format.{RuleFile, forestReader, ruleReader, rulesReader, bodyReader, fileReader}
 use Rattle.format.specs.Files.{wholeReader, readWords}
 use Rattle.format.specs.Packing.{itemsIn, packedIn, packed, unpacked}
 use Rattle.format.specs.Statements.{WellFormedFile}
@@ -35,8 +35,8 @@ file n = record {
 }
 
 one-reads : readWords (unpacked (file 1)) ≡ got (file 1) 268
-unfolding readWords wholeReader fileReader bodyReader symbolsReader symbolReader rulesReader ruleReader forestReader
-    wordBelow unpacked itemsIn flatMap
+unfolding readWords wholeReader fileReader bodyReader symbolTableReader symbolsReader symbolReader rulesReader
+    ruleReader forestReader wordBelow unpacked itemsIn flatMap
 one-reads = refl
 
 one-formed : WellFormedFile (file 1)

@@ -1,4 +1,5 @@
--- What marking gives back for the listing, and what the program prints for it and for the empty input.
+-- What marking gives back for the listing and for a file with a unary symbol of weight 0, and what the program prints
+-- for them and for the empty input.
 use mathlib.Core.Path.{_≡_, refl}
 use mathlib.Core.List.{List, [], _∷_}
 use Prim.Native.Nat.{ℕ}
@@ -9,12 +10,12 @@ use Rattle.terms.specs.Order.{noneOftener, flattenedMark, rootMark, decreasingM
 use Rattle.operations.specs.Text.{ascii, digits}
 use Rattle.format.specs.Errors.{fieldMissing, marksTooShort}
 use Rattle.format.specs.Reading.{bitField}
-use Rattle.format.specs.Format.{symbolReader, symbolsReader, forestReader, ruleReader, rulesReader, bodyReader}
-use Rattle.format.specs.Format.{fileReader}
+use Rattle.format.specs.Symbols.{symbolReader, symbolsReader, symbolTableReader}
+use Rattle.format.specs.Format.{forestReader, ruleReader, rulesReader, bodyReader, fileReader}
 use Rattle.format.specs.Files.{wholeReader, readBytesIn}
 use Rattle.operations.specs.Replies.{Outcome}
 use Rattle.operations.specs.Replies.Reply.{accepted, refused}
-use Rattle.format.specs.Listing.{listing}
+use Rattle.format.specs.Listing.{listing, wrapping}
 use Rattle.operations.specs.declared.Summary.{Summary}
 use Rattle.operations.specs.Score.{nearest, scoreOf}
 use Rattle.operations.specs.Marking.{marked}
@@ -22,18 +23,25 @@ use Rattle.operations.specs.Report.{report}
 
 listing-marked : marked listing (7 ∷ 7 ∷ 7 ∷ []) ≡
     record { reply = accepted (record { rules = 2; decreasing = 1; score = 50 }); output = 2 ∷ 10 ∷ 7 ∷ [] }
-unfolding marked scoreOf nearest readBytesIn wholeReader fileReader bodyReader symbolsReader symbolReader rulesReader
-    ruleReader forestReader bitField forestOf mark isGreater isGreaterTo decreasingMark rootMark flattenedMark
-    noneOftener isEquivalent isEquivalentTo rowEqual rowGreater multisetEqual multisetGreater
+unfolding marked scoreOf nearest readBytesIn wholeReader fileReader bodyReader symbolTableReader symbolsReader
+    symbolReader rulesReader ruleReader forestReader bitField forestOf mark isGreater isGreaterTo decreasingMark
+    rootMark flattenedMark noneOftener isEquivalent isEquivalentTo rowEqual rowGreater multisetEqual multisetGreater
 listing-marked = refl
+
+wrapping-marked : marked wrapping (7 ∷ 7 ∷ []) ≡
+    record { reply = accepted (record { rules = 2; decreasing = 1; score = 50 }); output = 11 ∷ 10 ∷ [] }
+unfolding marked scoreOf nearest readBytesIn wholeReader fileReader bodyReader symbolTableReader symbolsReader
+    symbolReader rulesReader ruleReader forestReader bitField forestOf mark isGreater isGreaterTo decreasingMark
+    rootMark flattenedMark noneOftener isEquivalent isEquivalentTo rowEqual rowGreater multisetEqual multisetGreater
+wrapping-marked = refl
 
 abbrev refusal : ℕ → ℕ → ℕ → List ℕ → Outcome Summary
 refusal code input offset marks =
     record { reply = refused (record { code = code; input = input; offset = offset }); output = marks }
 
 too-short-refused : marked listing (7 ∷ []) ≡ refusal marksTooShort 1 0 (7 ∷ [])
-unfolding marked readBytesIn wholeReader fileReader bodyReader symbolsReader symbolReader rulesReader ruleReader
-    forestReader bitField
+unfolding marked readBytesIn wholeReader fileReader bodyReader symbolTableReader symbolsReader symbolReader rulesReader
+    ruleReader forestReader bitField
 too-short-refused = refl
 
 empty-refused : marked [] (7 ∷ []) ≡ refusal fieldMissing 0 0 (7 ∷ [])
@@ -42,9 +50,9 @@ empty-refused = refl
 
 -- 01's own text.
 listing-prints : report listing ≡ ascii "rules 2\n0 2 0\n1 10 0\nscore 50\nreturned\n"
-unfolding report scoreOf nearest digits readBytesIn wholeReader fileReader bodyReader symbolsReader symbolReader
-    rulesReader ruleReader forestReader bitField forestOf mark isGreater isGreaterTo decreasingMark rootMark
-    flattenedMark noneOftener isEquivalent isEquivalentTo rowEqual rowGreater multisetEqual multisetGreater
+unfolding report scoreOf nearest digits readBytesIn wholeReader fileReader bodyReader symbolTableReader symbolsReader
+    symbolReader rulesReader ruleReader forestReader bitField forestOf mark isGreater isGreaterTo decreasingMark
+    rootMark flattenedMark noneOftener isEquivalent isEquivalentTo rowEqual rowGreater multisetEqual multisetGreater
 listing-prints = refl
 
 empty-prints : report [] ≡ ascii "refusal 2 0\n"

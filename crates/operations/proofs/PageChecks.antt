@@ -10,8 +10,8 @@ use Rattle.terms.specs.Equivalence.{isEquivalentTo, isEquivalent}
 use Rattle.terms.specs.Order.{noneOftener, flattenedMark, rootMark, decreasingMark, isGreaterTo, isGreater, mark}
 use Rattle.format.specs.Errors.{fieldMissing, pageTooShort}
 use Rattle.format.specs.Reading.{bitField}
-use Rattle.format.specs.Format.{symbolReader, symbolsReader, forestReader, ruleReader, rulesReader, bodyReader}
-use Rattle.format.specs.Format.{fileReader}
+use Rattle.format.specs.Symbols.{symbolReader, symbolsReader, symbolTableReader}
+use Rattle.format.specs.Format.{forestReader, ruleReader, rulesReader, bodyReader, fileReader}
 use Rattle.format.specs.Files.{wholeReader, readBytesIn}
 use Rattle.format.specs.Listing.{listing}
 use Rattle.operations.specs.Replies.{Outcome}
@@ -28,15 +28,15 @@ secondLine = ascii "   1 no case                                             0  
 
 listing-paged : paged listing (replicate 131 7) ≡
     record { reply = accepted 130; output = firstLine ++ (secondLine ++ (7 ∷ [])) }
-unfolding paged pageLine digits readBytesIn wholeReader fileReader bodyReader symbolsReader symbolReader rulesReader
-    ruleReader forestReader bitField forestOf mark isGreater isGreaterTo decreasingMark rootMark flattenedMark
-    noneOftener isEquivalent isEquivalentTo rowEqual rowGreater multisetEqual multisetGreater
+unfolding paged pageLine digits readBytesIn wholeReader fileReader bodyReader symbolTableReader symbolsReader
+    symbolReader rulesReader ruleReader forestReader bitField forestOf mark isGreater isGreaterTo decreasingMark
+    rootMark flattenedMark noneOftener isEquivalent isEquivalentTo rowEqual rowGreater multisetEqual multisetGreater
 listing-paged = refl
 
 listing-put-up : board listing ≡ firstLine ++ secondLine
-unfolding board pageLine digits readBytesIn wholeReader fileReader bodyReader symbolsReader symbolReader rulesReader
-    ruleReader forestReader bitField forestOf mark isGreater isGreaterTo decreasingMark rootMark flattenedMark
-    noneOftener isEquivalent isEquivalentTo rowEqual rowGreater multisetEqual multisetGreater
+unfolding board pageLine digits readBytesIn wholeReader fileReader bodyReader symbolTableReader symbolsReader
+    symbolReader rulesReader ruleReader forestReader bitField forestOf mark isGreater isGreaterTo decreasingMark
+    rootMark flattenedMark noneOftener isEquivalent isEquivalentTo rowEqual rowGreater multisetEqual multisetGreater
 listing-put-up = refl
 
 abbrev refusal : ℕ → ℕ → ℕ → List ℕ → Outcome ℕ
@@ -44,8 +44,8 @@ refusal code input offset output =
     record { reply = refused (record { code = code; input = input; offset = offset }); output = output }
 
 too-short-refused : paged listing (replicate 129 7) ≡ refusal pageTooShort 1 0 (replicate 129 7)
-unfolding paged readBytesIn wholeReader fileReader bodyReader symbolsReader symbolReader rulesReader ruleReader
-    forestReader bitField
+unfolding paged readBytesIn wholeReader fileReader bodyReader symbolTableReader symbolsReader symbolReader rulesReader
+    ruleReader forestReader bitField
 too-short-refused = refl
 
 empty-refused : paged [] (7 ∷ []) ≡ refusal fieldMissing 0 0 (7 ∷ [])
@@ -65,6 +65,11 @@ tenth-line : pageLine 9 (record { mark = 7; margin = pos 65 }) ≡
     ascii "   9 variable added                                     65      \n"
 unfolding pageLine digits
 tenth-line = refl
+
+wrapping-line : pageLine 0 (record { mark = 11; margin = pos 0 }) ≡
+    ascii "   0 falls by wrapping                                   0      \n"
+unfolding pageLine digits
+wrapping-line = refl
 
 no-rules : page [] ≡ []
 no-rules = refl

@@ -10,8 +10,8 @@ use Rattle.terms.specs.Equivalence.{isEquivalentTo, isEquivalent}
 use Rattle.terms.specs.Order.{noneOftener, flattenedMark, rootMark, decreasingMark, isGreaterTo, isGreater}
 use Rattle.format.specs.Errors.{fieldMissing, noSuchSymbol, tooManyNodes, wordTooWide}
 use Rattle.format.specs.Reading.{bitField, wordBelow}
-use Rattle.format.specs.Format.{symbolReader, symbolsReader, forestReader, ruleReader, rulesReader, bodyReader}
-use Rattle.format.specs.Format.{fileReader}
+use Rattle.format.specs.Symbols.{symbolReader, symbolsReader, symbolTableReader}
+use Rattle.format.specs.Format.{forestReader, ruleReader, rulesReader, bodyReader, fileReader}
 use Rattle.format.specs.Files.{wholeReader, readBytesIn, readFirstTerm}
 use Rattle.operations.specs.Replies.{Reply}
 use Rattle.operations.specs.Replies.Reply.{accepted, refused}
@@ -57,16 +57,16 @@ cases =
 
 replies-hold : map (λ (c : Case). picked book (c .left) (c .right)) cases ≡ map (λ (c : Case). c .reply) cases
 unfolding picked readInputs readTerms relation readBytesIn readFirstTerm wholeReader fileReader bodyReader
-    symbolsReader symbolReader rulesReader ruleReader forestReader bitField wordBelow forestOf isGreater isGreaterTo
-    decreasingMark rootMark flattenedMark noneOftener isEquivalent isEquivalentTo rowEqual rowGreater multisetEqual
-    multisetGreater
+    symbolTableReader symbolsReader symbolReader rulesReader ruleReader forestReader bitField wordBelow forestOf
+    isGreater isGreaterTo decreasingMark rootMark flattenedMark noneOftener isEquivalent isEquivalentTo rowEqual
+    rowGreater multisetEqual multisetGreater
 replies-hold = refl
 
 parts-hold : map (λ (c : Case). greaterPart book (c .left) (c .right)) cases ≡ map (λ (c : Case). c .part) cases
 unfolding greaterPart picked readInputs readTerms relation readBytesIn readFirstTerm wholeReader fileReader bodyReader
-    symbolsReader symbolReader rulesReader ruleReader forestReader bitField wordBelow forestOf isGreater isGreaterTo
-    decreasingMark rootMark flattenedMark noneOftener isEquivalent isEquivalentTo rowEqual rowGreater multisetEqual
-    multisetGreater
+    symbolTableReader symbolsReader symbolReader rulesReader ruleReader forestReader bitField wordBelow forestOf
+    isGreater isGreaterTo decreasingMark rootMark flattenedMark noneOftener isEquivalent isEquivalentTo rowEqual
+    rowGreater multisetEqual multisetGreater
 parts-hold = refl
 
 faulty-book : picked (0x10 ∷ []) [] [] ≡ refused (record { code = 17; input = 0; offset = 0 })

@@ -11,7 +11,11 @@ use Rattle.operations.specs.declared.Relation.the-variants.{Greater, Les
 use Rattle.operations.specs.declared.Comparison.{Comparison}
 use Rattle.operations.specs.declared.GreaterSide.{GreaterSide}
 use Rattle.operations.specs.declared.GreaterSide.the-variants as side
+use Rattle.operations.specs.declared.TermCount.{TermCount}
+use Rattle.operations.specs.declared.TermCount.the-variants as counted
 use Rattle.operations.specs.declared.Summary.{Summary}
+use Rattle.operations.specs.declared.Turn.{Turn}
+use Rattle.operations.specs.declared.Turn.the-variants as turn
 
 module _ {A : Type 0} where
   -- 0, or the error's code.
@@ -42,5 +46,13 @@ sideValues (side.Right n) = pos 2 ∷ pos n ∷ pos 0 ∷ []
 sideValues side.Equivalent = pos 3 ∷ pos 0 ∷ pos 0 ∷ []
 sideValues side.Unrelated = pos 4 ∷ pos 0 ∷ pos 0 ∷ []
 
+abbrev pub countValues : TermCount → List ℤ
+countValues (counted.Exactly n) = pos 1 ∷ pos n ∷ pos 0 ∷ []
+countValues counted.More = pos 2 ∷ pos 0 ∷ pos 0 ∷ []
+
 abbrev pub summaryValues : Summary → List ℤ
 summaryValues s = pos (s .rules) ∷ pos (s .decreasing) ∷ pos (s .score) ∷ []
+
+abbrev pub turnValues : Turn → List ℤ
+turnValues (turn.Served i) = pos 1 ∷ pos i ∷ pos 0 ∷ []
+turnValues turn.Idle = pos 2 ∷ pos 0 ∷ pos 0 ∷ []

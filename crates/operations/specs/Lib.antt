@@ -7,11 +7,14 @@ pub mod Comparing
 pub mod Picking
 pub mod Variables
 pub mod Hashing
+pub mod Enumerating
 pub mod Score
 pub mod Marking
 pub mod Text
 pub mod Report
 pub mod Page
 pub mod Paging
+pub mod Jobs
+pub mod Turns
 pub mod Enums
 pub mod Boundary

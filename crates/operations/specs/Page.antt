@@ -1,6 +1,7 @@
 -- The page of a list of marks and margins, as bytes: a line for each, of 64 characters and byte 10.
 -- Renders: 02, order 5: "one line a rule, 64 characters and byte 10. Columns 1-4 hold the rule number and 47-58 the
--- margin, both right-set; 6-45 hold words, left-set; the rest are spaces", and "The words for marks 1 to 10".
+-- margin, both right-set; 6-45 hold words, left-set; the rest are spaces", and "The words for marks 1 to 10"; order 8:
+-- of mark 11, "its words are "falls by wrapping"".
 use mathlib.Core.List.{List, [], _∷_, _++_, List·Memᴰ}
 use Prim.Native.Nat.{ℕ, suc, _-_, _≤_}
 use Prim.Native.String.{String}
@@ -17,7 +18,8 @@ pub record Entry : Type 0 where
 abbrev pub markWords : List String
 markWords =
     "falls by weight" ∷ "falls by rank" ∷ "falls by arguments" ∷ "falls by high terms" ∷ "falls by count" ∷
-    "falls by low terms" ∷ "variable added" ∷ "left lighter" ∷ "sides equal" ∷ "no case" ∷ []
+    "falls by low terms" ∷ "variable added" ∷ "left lighter" ∷ "sides equal" ∷ "no case" ∷
+    "falls by wrapping" ∷ []
 
 abbrev pub wordsFor : ℕ → List ℕ
 wordsFor mark = ascii (getD markWords (mark - 1) "")

@@ -59,3 +59,35 @@ pub enum MarkReply {
     Accepted(Summary),
     Refused(Error),
 }
+
+// How many terms there are: a number up to 65,535, or more.
+pub enum TermCount {
+    Exactly { terms: usize },
+    More,
+}
+
+// How many terms there are, or why they were not counted.
+pub enum CountReply {
+    Accepted(TermCount),
+    Refused(Error),
+}
+
+// A rule file in a buffer, by its start and length there, and how many of its rules are marked. 02: a desk.
+#[repr(C)]
+pub struct Job {
+    pub start: usize,
+    pub length: usize,
+    pub marked: usize,
+}
+
+// The job of which a rule was marked, by its index, or that none has rules left.
+pub enum Turn {
+    Served { index: usize },
+    Idle,
+}
+
+// Whose turn it was, or why nothing was marked.
+pub enum TurnReply {
+    Accepted(Turn),
+    Refused(Error),
+}

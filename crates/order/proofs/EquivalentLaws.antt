@@ -91,7 +91,7 @@ module _ (σ : Signature) where
   root-level : (greater : Term → Term → Bool) (s t : Term) → like s t ≡ true → rootMark σ like greater s t ≡ 0
   unfolding rootMark
   root-level greater (var x) t e = refl
-  root-level greater (app f ss) (var y) e = refl
+  root-level greater (app f ss) (var y) e = absurd (false≢true (sym (app-var σ f ss y) ∙ e))
   root-level greater (app f ss) (app g ts) e =
       let a = arguments-of-isEquivalent σ f g ss ts e in
       rw (

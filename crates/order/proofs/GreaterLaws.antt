@@ -6,7 +6,7 @@ use mathlib.Core.Path.{_≡_, sym, ap, _∙_}
 use mathlib.Core.Bool.{Bool, true, false, cond}
 use Prim.Native.Nat.{ℕ, _+_, _≤_, _<_}
 use native.Mathlib.Omega.{arith}
-use lib.Dec.{ltb, eqb}
+use lib.Dec.{ltb, leb, eqb}
 use lib.ListN.{length, getD}
 use borrow.Author.Tests.{le-ltb, eq-eqb, ne-eqb}
 use Rattle.multisets.proofs.Relations.{byTest}
@@ -18,9 +18,10 @@ use Rattle.terms.specs.Oftener.{firstOftener}
 use Rattle.terms.proofs.OrderLaws.{isGreater-unfolds}
 use Rattle.terms.proofs.OftenerLaws.{oftener-some}
 use Rattle.symbols.specs.Table.{signatureOf}
+use Rattle.symbols.proofs.TableLaws.{few-at}
 use Rattle.equivalence.specs.Parts.{partAt}
 use Rattle.measures.specs.Sums.{Scale}
-use Rattle.order.specs.Compared.{weightAt, noneOftenerAt, isHigher, greaterAt, rootAt, rowsGreater}
+use Rattle.order.specs.Compared.{weightAt, noneOftenerAt, higherMark, isHigher, greaterAt, rootAt, rowsGreater}
 use Rattle.order.specs.Compared.{flattenedAt}
 use Rattle.order.proofs.RootLaws.{positive, root-variable, root-differing, root-elements, root-rows}
 
@@ -31,7 +32,7 @@ module _ (σ : Signature) (s t : Term) where
   abbrev pub root : ℕ
   root = rootMark σ (isEquivalent σ) (isGreater σ) s t
 
-  unfolds : isGreater σ s t ≡ ltb 0 (byNone (noneOftener variableCount s t) (weight σ s) (weight σ t) root)
+  pub unfolds : isGreater σ s t ≡ ltb 0 (byNone (noneOftener variableCount s t) (weight σ s) (weight σ t) root)
   unfolding decreasingMark
   unfolds = isGreater-unfolds σ s t
 
@@ -49,6 +50,9 @@ module _ (σ : Signature) (s t : Term) where
 
 -- ---- the terms at two offsets
 
+higher-mark : (g : ℕ) → 0 < higherMark g
+higher-mark g = byTest (leb 256 g) (λ e. rw e (omega arith)) λ e. rw e (omega arith)
+
 module _ {table s skeys ssums t tkeys tsums : List ℕ}
     (S : Scale table s skeys ssums t tkeys tsums) (i j : ℕ)
     (few : true ≡ noneOftenerAt table s i t j) {x y : ℕ} (p : x ≡ weightAt table s i) (q : y ≡ weightAt table t j) where
@@ -62,7 +66,12 @@ module _ {table s skeys ssums t tkeys tsums : List ℕ}
   module _ (l : x ≡ y) (h : i < length s) (k : j < length t) where
     pub at-differing : (getD s i 0 ≡ getD t j 0 → ⊥) → {r : Bool} → r ≡ isHigher table (getD s i 0) (getD t j 0) →
         r ≡ greaterAt table s i t j
-    at-differing d {r} e = level l (positive 2 (omega arith) r ∙ ap (ltb 0) (root-differing table s i t j h k d e))
+    at-differing d {r} e =
+        let few' = few-at table (S .sides .small) in
+        let same : weightAt table s i ≡ weightAt table t j = sym p ∙ l ∙ q in
+        level l (positive (higherMark (getD t j 0)) (higher-mark (getD t j 0)) r ∙ ap (ltb 0)
+        (root-differing table s i t j h k (S .admissible) few' (S .sides .left .complete) (S .sides .right .complete)
+        few same d e))
 
     pub at-variable : 256 ≤ getD s i 0 → false ≡ greaterAt table s i t j
     at-variable v = level l (ap (ltb 0) (root-variable table s i t j h k v))

@@ -1,30 +1,35 @@
 -- The comparison of two terms by their roots and rows of arguments.
 --     lex-none, lex-here, lex-more                                    rows of arguments
---     root-variable, -differing, -elements, -rows, -row               the mark by the roots
+--     root-variable, -wrapped, -differing, -elements, -rows, -row     the mark by the roots
 use mathlib.Core.List.{List}
-use mathlib.Core.Path.{_≡_, ap, ap₂, _∙_}
+use mathlib.Core.Path.{_≡_, sym, ap, ap₂, _∙_}
 use mathlib.Core.Bool.{Bool, true, false, cond}
 use Prim.Native.Nat.{ℕ, _+_, _-_, _≤_, _<_}
 use native.Mathlib.Omega.{arith}
 use lib.Dec.{ltb}
 use lib.ListN.{length, getD, List·getD-eq-default}
-use borrow.Author.Tests.{lt-ltb, le-ltb, ne-eqb}
+use borrow.Author.Tests.{lt-ltb, le-ltb, le-leb, lt-leb, ne-eqb}
 use Rattle.multisets.specs.Multiset.{rowGreater}
 use Rattle.multisets.proofs.Relations.{byTest, byOrder, eqb-self}
-use Rattle.terms.specs.Signature.{Symbol, Signature, symbolOf}
-use Rattle.terms.specs.Term.{size, arguments}
-use Rattle.terms.specs.Term.Term.{app}
+use Rattle.terms.specs.Signature.{Symbol, Signature, symbolOf, Admissible}
+use Rattle.terms.specs.Term.{size, arguments, variableCount}
+use Rattle.terms.specs.Term.Term.{var, app}
 use Rattle.terms.specs.Equivalence.{isEquivalent}
-use Rattle.terms.specs.Order.{rootMark, isGreater}
+use Rattle.terms.specs.Order.{noneOftener, rootMark, isGreater}
+use Rattle.terms.specs.Marks.{Balanced}
 use Rattle.terms.proofs.TermLaws.{row-arguments}
+use Rattle.terms.proofs.OrderLaws.{noneOftener-facts}
+use Rattle.terms.proofs.IteratedLaws.{power-of-balanced}
 use Rattle.symbols.specs.Table.{signatureOf}
-use Rattle.equivalence.specs.Parts.{partAt, partsAt, Stands}
+use Rattle.equivalence.specs.Parts.{partAt, partsAt, Complete, Stands}
 use Rattle.equivalence.specs.Keys.{BothPrepared, sizeIn}
 use Rattle.equivalence.specs.Offsets.{alikeAt}
 use Rattle.equivalence.proofs.PartLaws.{variable, symbol}
+use Rattle.equivalence.proofs.FormedLaws.{part-formed}
 use Rattle.equivalence.proofs.StepLaws.{row-next, prepared-size}
 use Rattle.order.proofs.MeasureLaws.{rowNodes}
-use Rattle.order.specs.Compared.{isHigher, greaterAt, rootAt, rowsGreater, flattenedAt}
+use Rattle.order.specs.Compared.{weightAt, noneOftenerAt, higherMark, isHigher, greaterAt, rootAt, rowsGreater}
+use Rattle.order.specs.Compared.{flattenedAt}
 
 -- ---- rows
 
@@ -82,15 +87,35 @@ module _ (table s : List ℕ) (i : ℕ) (t : List ℕ) (j : ℕ) (h : i < length
   unfolding rootMark
   root-variable v = rw (variable σ s i h v)
 
-  pub root-differing : (getD s i 0 ≡ getD t j 0 → ⊥) → {r : Bool} → r ≡ isHigher table (getD s i 0) (getD t j 0) →
-      cond r 2 0 ≡ rootAt table s i t j
-  unfolding rootMark isHigher
-  root-differing d q =
-      rw q (byOrder (getD s i 0) 256
-      (λ v. byOrder (getD t j 0) 256
-      (λ u. rw (both-symbols v u, lt-ltb (getD s i 0) 256 v, lt-ltb (getD t j 0) 256 u, ne-eqb _ _ d))
-      λ u. rw (symbol σ s i h v, variable σ t j k u, lt-ltb (getD s i 0) 256 v, le-ltb (getD t j 0) 256 u))
-      λ v. rw (variable σ s i h v, le-ltb (getD s i 0) 256 v))
+  module _ (A : Admissible σ) (few : length (σ .symbols) ≤ 256) (a : Complete σ s) (b : Complete σ t)
+      (none : true ≡ noneOftenerAt table s i t j) (l : weightAt table s i ≡ weightAt table t j) where
+    -- A variable, and as heavy a term above it.
+    root-wrapped : getD s i 0 < 256 → 256 ≤ getD t j 0 → rootAt table s i t j ≡ 11
+    unfolding rootMark
+    root-wrapped v u =
+        let f = getD s i 0 in
+        let ss = arguments (partsAt σ s (i + 1) (symbolOf σ f .arity)) in
+        let x = getD t j 0 - 256 in
+        let left : partAt σ s i ≡ app f ss = symbol σ s i h v in
+        let right : partAt σ t j ≡ var x = variable σ t j k u in
+        let none' : noneOftener variableCount (app f ss) (var x) ≡ true = rw (left, right) at (sym none) in
+        let balanced : Balanced σ (app f ss) (var x) = record {
+          none = noneOftener-facts variableCount (app f ss) (var x) .0 none';
+          weights = rw (left, right) at (sym l);
+        } in
+        let power = power-of-balanced σ A x f ss (rw left at (part-formed σ few s i a))
+        (rw right at (part-formed σ few t j b)) balanced in
+        rw (left, right, power)
+
+    pub root-differing : (getD s i 0 ≡ getD t j 0 → ⊥) → {r : Bool} →
+        r ≡ isHigher table (getD s i 0) (getD t j 0) → cond r (higherMark (getD t j 0)) 0 ≡ rootAt table s i t j
+    unfolding rootMark isHigher
+    root-differing d q =
+        rw q (byOrder (getD s i 0) 256
+        (λ v. byOrder (getD t j 0) 256
+        (λ u. rw (both-symbols v u, lt-ltb (getD s i 0) 256 v, lt-leb 256 (getD t j 0) u, ne-eqb _ _ d))
+        λ u. rw (lt-ltb (getD s i 0) 256 v, le-leb 256 (getD t j 0) u) (sym (root-wrapped v u)))
+        λ v. rw (variable σ s i h v, le-ltb (getD s i 0) 256 v))
 
   module _ (e : getD s i 0 ≡ getD t j 0) where
     module _ (v : getD s i 0 < 256) {n : ℕ} (d : n ≡ symbolOf σ (getD s i 0) .arity) where

@@ -1,7 +1,8 @@
 -- Two whole terms: what is known of their words, and what is prepared of them.
 --     whole-terms                              two terms, as they are read, under a table
 --     left-some, left-complete, turned, ..     their words, and the two turned round
---     whole-sides, level-turned, scales-turned both sides, prepared; the two turned round
+--     whole-sides, whole-scale                 both sides, prepared, with their sums
+--     level-turned, scales-turned              the two turned round
 use mathlib.Core.List.{List}
 use mathlib.Core.Path.{sym}
 use Prim.Native.Nat.{ℕ, _≤_, _<_}
@@ -15,12 +16,12 @@ use Rattle.equivalence.specs.Parts.{Complete}
 use Rattle.equivalence.specs.Keys.{Prepared, BothPrepared}
 use Rattle.equivalence.proofs.FormedLaws.{term-some, term-complete}
 use Rattle.measures.specs.declared.totals.Totals.{Totals}
-use Rattle.measures.specs.Sums.{Scale}
+use Rattle.measures.specs.Sums.{SummedUp, Scale}
 use Rattle.order.specs.Whole.{Whole, Level}
 
 pub whole-terms : {table s t : List ℕ} → length table ≤ maxTableWords → Admissible (signatureOf table) →
     IsTerm (signatureOf table) s → IsTerm (signatureOf table) t → Whole table s t
-whole-terms h a p q = record { small = omega arith; binary = a .acBinary; left = p; right = q }
+whole-terms h a p q = record { small = omega arith; admissible = a; left = p; right = q }
 
 module _ {table s t : List ℕ} (S : Whole table s t) where
   pub left-some : 0 < length s
@@ -36,12 +37,18 @@ module _ {table s t : List ℕ} (S : Whole table s t) where
   right-complete = term-complete (signatureOf table) (few-at table (S .small)) (S .right)
 
   pub turned : Whole table t s
-  turned = record { small = S .small; binary = S .binary; left = S .right; right = S .left }
+  turned = record { small = S .small; admissible = S .admissible; left = S .right; right = S .left }
 
   module _ {skeys tkeys : List ℕ} (P : Prepared (signatureOf table) s skeys)
       (Q : Prepared (signatureOf table) t tkeys) where
     pub whole-sides : BothPrepared table s skeys t tkeys
-    whole-sides = record { small = S .small; binary = S .binary; left = P; right = Q }
+    whole-sides = record { small = S .small; binary = S .admissible .acBinary; left = P; right = Q }
+
+-- Both sides prepared, with their sums.
+pub whole-scale : {table s skeys ssums t tkeys tsums : List ℕ} → Whole table s t →
+    BothPrepared table s skeys t tkeys → SummedUp (signatureOf table) s ssums → SummedUp (signatureOf table) t tsums →
+    Scale table s skeys ssums t tkeys tsums
+whole-scale S P x y = record { admissible = S .admissible; sides = P; left = x; right = y }
 
 pub level-turned : {table s t : List ℕ} {a b : Totals} → Level table s a t b → Level table t b s a
 level-turned L = record {
@@ -57,6 +64,7 @@ pub scales-turned : {table s skeys ssums t tkeys tsums : List ℕ} →
 scales-turned W =
     let S = W .sides in
     record {
+      admissible = W .admissible;
       sides = record { small = S .small; binary = S .binary; left = S .right; right = S .left };
       left = W .right;
       right = W .left;

@@ -1,9 +1,9 @@
 -- What the functions of the comparison answer of the terms at two offsets, of the n terms there, and of two lists.
 use mathlib.Core.List.{List}
-use mathlib.Core.Bool.{Bool, cond, _&&_}
+use mathlib.Core.Bool.{Bool, cond, _&&_, _||_}
 use mathlib.Core.Path.{_≡_}
 use Prim.Native.Nat.{ℕ}
-use lib.Dec.{ltb}
+use lib.Dec.{leb, ltb}
 use lib.ListN.{length}
 use Rattle.multisets.specs.Multiset.{every, some, multisetEqual, multisetGreater, rowGreater}
 use Rattle.terms.specs.Signature.{Signature, symbolOf}
@@ -24,6 +24,10 @@ pub record Parted (σ : Signature) (f : ℕ) (ws : List ℕ) (ts : List Term) (a
   pub vars : Offsets σ ws variables v (variablesOf ts)
   pub whole : all ≡ length ts
 
+-- The mark of terms of equal weight, of which the left has the higher root, by the right one's word.
+abbrev pub higherMark : ℕ → ℕ
+higherMark g = cond (leb firstVariable g) 11 2
+
 module _ (table : List ℕ) where
   abbrev σ : Signature
   σ = signatureOf table
@@ -34,11 +38,11 @@ module _ (table : List ℕ) where
   abbrev pub noneOftenerAt : List ℕ → ℕ → List ℕ → ℕ → Bool
   noneOftenerAt s i t j = noneOftener variableCount (partAt σ s i) (partAt σ t j)
 
-  -- Both words are symbols, and the first is higher in the precedence.
+  -- The first word is a symbol, and the second a variable or lower in the precedence.
   unfoldable pub isHigher : ℕ → ℕ → Bool
   isHigher f g =
       ltb f firstVariable
-      && (ltb g firstVariable && ltb (symbolOf σ g .precedence) (symbolOf σ f .precedence))
+      && (leb firstVariable g || ltb (symbolOf σ g .precedence) (symbolOf σ f .precedence))
 
   abbrev pub greaterAt : List ℕ → ℕ → List ℕ → ℕ → Bool
   greaterAt s i t j = isGreater σ (partAt σ s i) (partAt σ t j)

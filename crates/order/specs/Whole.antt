@@ -4,7 +4,7 @@ use mathlib.Core.Bool.{true}
 use mathlib.Core.Path.{_≡_}
 use Prim.Native.Nat.{ℕ, _≤_}
 use lib.ListN.{length, getD}
-use Rattle.terms.specs.Signature.{Signature, AcBinary}
+use Rattle.terms.specs.Signature.{Signature, Admissible}
 use Rattle.terms.specs.Words.{termOf}
 use Rattle.terms.specs.Order.{mark}
 use Rattle.format.specs.Statements.{IsTerm}
@@ -15,10 +15,10 @@ use Rattle.measures.specs.declared.totals.Totals.{Totals}
 use Rattle.measures.specs.Totals.{Totalled}
 use Rattle.order.specs.Compared.{weightAt, noneOftenerAt}
 
--- Both are well formed, under a table of which the order has what it asks.
+-- Both are well formed, under a table that is admissible.
 pub record Whole (table s t : List ℕ) : Type 0 where
   pub small : length table ≤ 1025
-  pub binary : AcBinary (signatureOf table)
+  pub admissible : Admissible (signatureOf table)
   pub left : IsTerm (signatureOf table) s
   pub right : IsTerm (signatureOf table) t
 

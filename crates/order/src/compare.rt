@@ -23,7 +23,9 @@ ghost use Rattle.measures.specs.Sums.{Scale};
 ghost use Rattle.order.specs.Compared.{noneOftenerAt, isHigher, greaterAt, rowsGreater};
 ghost use Rattle.order.specs.Compared.{BothStand, flattenedAt, covered, multisetOutcome};
 
-// Are both words symbols, and the first higher in the precedence?
+// Is the first word a symbol, and the second a variable or lower in the precedence? Of terms of equal weight, where no
+// variable occurs oftener on the right, one that is no variable is, beside a variable, that variable under copies of
+// the unary symbol of weight 0.
 pub fn higher(table: &[u16], f: u16, g: u16) -> bool
     ensures { λ r. ⌜ r ≡ isHigher (now (table .entry)) f g ⌝ }
 {
@@ -31,7 +33,7 @@ pub fn higher(table: &[u16], f: u16, g: u16) -> bool
         return false;
     }
     if g >= FIRST_VARIABLE {
-        return false;
+        return true;
     }
     precedence(table, g) < precedence(table, f)
 }

@@ -14,13 +14,14 @@ use measures::totals::first_oftener;
 ghost use mathlib.Core.Path.{_≡_};
 ghost use Prim.Native.Nat.{_<_};
 ghost use lib.ListN.{length, getD};
+ghost use Rattle.operations.specs.Marking.{isDecreasing};
 ghost use Rattle.symbols.specs.Table.{signatureOf};
 ghost use Rattle.equivalence.specs.Keys.{BothPrepared};
 ghost use Rattle.equivalence.specs.Offsets.{alikeAt};
 ghost use Rattle.measures.specs.Nodes.{NodeSums};
 ghost use Rattle.measures.specs.Totals.{Totalled};
 ghost use Rattle.measures.specs.Sums.{Scale};
-ghost use Rattle.order.specs.Compared.{rootAt};
+ghost use Rattle.order.specs.Compared.{higherMark, rootAt};
 ghost use Rattle.order.specs.Whole.{Whole, SameRoot, markOf};
 
 // The mark by the arguments of two whole terms with the same root: 3 to 6, or 0.
@@ -90,7 +91,27 @@ fn mark_prepared(table: &[u16], adds: &[u64; NODE_SUMS], s: &[u16], t: &[u16]) -
     if m > 0 { m } else { 10 }
 }
 
-// The mark of two terms with these totals, 1 to 10.
+// The mark where the left of two terms of equal weight has the higher root, by the right one's word.
+fn higher_mark(g: u16) -> u8
+    ensures { λ r. ⌜ r ≡ higherMark g ⌝ }
+{
+    if g >= format::FIRST_VARIABLE { 11 } else { 2 }
+}
+
+// Is it a mark of the order?
+pub fn is_decreasing(mark: u8) -> bool
+    ensures { λ r. ⌜ r ≡ isDecreasing mark ⌝ }
+{
+    if mark == 0 {
+        return false;
+    }
+    if mark <= 6 {
+        return true;
+    }
+    mark == 11
+}
+
+// The mark of two terms with these totals, 1 to 11.
 pub fn mark(
     table: &[u16],
     adds: &[u64; NODE_SUMS],
@@ -123,5 +144,8 @@ pub fn mark(
     if f == g {
         return mark_prepared(table, adds, s, t);
     }
-    if higher(table, f, g) { 2 } else { 10 }
+    if higher(table, f, g) {
+        return higher_mark(g);
+    }
+    10
 }

@@ -1,5 +1,6 @@
 // The relation of two whole terms.
 use crate::mark::arguments_mark;
+use crate::mark::is_decreasing;
 use crate::mark::mark;
 use crate::mark::prepare_both;
 use format::MAX_NODES;
@@ -99,14 +100,14 @@ pub fn relation(
         }
     }
     let m = mark(table, adds, s, stotal, t, ttotal);
-    if m <= 6 {
+    if is_decreasing(m) {
         return Relation::Greater;
     }
     if m == 9 {
         return Relation::Equivalent;
     }
     let n = mark(table, adds, t, ttotal, s, stotal);
-    if n <= 6 {
+    if is_decreasing(n) {
         return Relation::Less;
     }
     Relation::Unrelated

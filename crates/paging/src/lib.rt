@@ -31,7 +31,7 @@ pub const PAGE_BYTES: usize = 66495;
 
 // The words for a mark, in their columns.
 fn put_words(out: &mut [u8], at: usize, mark: u8) -> usize
-    requires { ⌜ (at < 2 ^ 30) × (1 ≤ mark) × (mark ≤ 10) ⌝ }
+    requires { ⌜ (at < 2 ^ 30) × (1 ≤ mark) × (mark ≤ 11) ⌝ }
     ensures { λ r. ⌜ Put (now (out .entry)) at (leftSet (columns 6 45) (wordsFor mark)) r (now (out .exit)) ⌝ }
     ensures { λ r. ⌜ r ≡ at + 40 ⌝ }
 {
@@ -45,7 +45,8 @@ fn put_words(out: &mut [u8], at: usize, mark: u8) -> usize
         7 => put_left_set(out, at, WORDS_WIDTH, b"variable added"),
         8 => put_left_set(out, at, WORDS_WIDTH, b"left lighter"),
         9 => put_left_set(out, at, WORDS_WIDTH, b"sides equal"),
-        _ => put_left_set(out, at, WORDS_WIDTH, b"no case"),
+        10 => put_left_set(out, at, WORDS_WIDTH, b"no case"),
+        _ => put_left_set(out, at, WORDS_WIDTH, b"falls by wrapping"),
     }
 }
 

@@ -5,7 +5,7 @@
 use mathlib.Core.Path.{_≡_, refl, sym, ap, _∙_}
 use mathlib.Core.List.{List, [], _∷_}
 use mathlib.Core.Bool.{Bool, true, false, false≢true}
-use Prim.Native.Nat.{ℕ, _≤_, _<_}
+use Prim.Native.Nat.{ℕ, _+_, _*_, _≤_, _<_}
 use native.Mathlib.Omega.{arith}
 use lib.Dec.{eqb, leb}
 use lib.ListN.{length, take}
@@ -15,11 +15,11 @@ use Rattle.format.specs.Errors.{noSymbols, variableWeightless}
 use Rattle.format.specs.Layout.{formNumber, formWidth, symbolCountWidth, weightWidth, ruleCountWidth, maxBytes}
 use Rattle.format.specs.Reading.{Reading, Reader, andThen, give, require, Source}
 use Rattle.format.specs.Reading.Reading.{got, fault}
-use Rattle.format.specs.Format.{Sides, RuleFile, unusedOf, formError, symbolsReader, rulesReader, bodyReader}
-use Rattle.format.specs.Format.{fileReader}
+use Rattle.format.specs.Symbols.{leastWeightIn, symbolTableReader}
+use Rattle.format.specs.Format.{Sides, RuleFile, unusedOf, formError, rulesReader, bodyReader, fileReader}
 use Rattle.format.specs.Files.{wholeReader}
 use Rattle.format.proofs.ReadingLaws.{andThen-assoc, andThen-same, holds-got}
-use Rattle.format.proofs.FormatLaws.{symbols-read}
+use Rattle.format.proofs.FormatLaws.{symbols-read, table-read}
 use Rattle.format.proofs.SymbolLaws.{admissible-of-symbols}
 use Rattle.symbols.specs.Table.{symbolsAt, signatureOf, weightOf, tableWords, maxTableWords, symbolsWords, frontWords}
 use Rattle.symbols.proofs.TableLaws.{length-symbols}
@@ -41,16 +41,16 @@ module _ (form : ℕ) (packed : Bool) (bytes words : List ℕ) where
   abbrev ends : RuleFile → Reader RuleFile
   ends f at = andThen (S .end at) (λ u. give f)
 
-  body-parts : (w0 symbols rules at : ℕ) → andThen (bodyReader S (unusedOf form) w0 symbols rules at) ends ≡
+  body-parts : (w0 symbols rules at : ℕ) → andThen (bodyReader S form w0 symbols rules at) ends ≡
       tableReader form packed bytes words w0 symbols rules at
   unfolding bodyReader tableReader restReader
   body-parts w0 symbols rules at =
-      andThen-assoc (symbolsReader S w0 symbols [] at) _ ends
-      ∙ andThen-same (symbolsReader S w0 symbols [] at) _ _
+      andThen-assoc (symbolTableReader S (leastWeightIn form w0) symbols at) _ ends
+      ∙ andThen-same (symbolTableReader S (leastWeightIn form w0) symbols at) _ _
       (λ ss next. andThen-assoc (rulesReader S (unusedOf form) (record { w0 = w0; symbols = ss }) rules next) _ ends)
 
   abbrev afterW0 : ℕ → ℕ → Reader RuleFile
-  afterW0 symbols w0 at = andThen (S .field ruleCountWidth at) (bodyReader S (unusedOf form) w0 symbols)
+  afterW0 symbols w0 at = andThen (S .field ruleCountWidth at) (bodyReader S form w0 symbols)
 
   w0-parts : (symbols at : ℕ) →
       andThen (andThen (tested S weightWidth (leb 1) variableWeightless at) (afterW0 symbols)) ends
@@ -59,7 +59,7 @@ module _ (form : ℕ) (packed : Bool) (bytes words : List ℕ) where
   w0-parts symbols at =
       andThen-assoc (tested S weightWidth (leb 1) variableWeightless at) (afterW0 symbols) ends
       ∙ andThen-same (tested S weightWidth (leb 1) variableWeightless at) _ _ λ w0 next.
-      andThen-assoc (S .field ruleCountWidth next) (bodyReader S (unusedOf form) w0 symbols) ends
+      andThen-assoc (S .field ruleCountWidth next) (bodyReader S form w0 symbols) ends
       ∙ andThen-same (S .field ruleCountWidth next) _ _ (body-parts w0 symbols)
 
   abbrev afterCount : ℕ → Reader RuleFile
@@ -91,14 +91,20 @@ module _ (form : ℕ) (packed : Bool) (bytes words : List ℕ) where
 
 -- ---- after the header
 
--- Symbols that were read are admissible.
-symbols-admissible : (packed : Bool) (bytes words : List ℕ) (w0 n at : ℕ) (ss : List Symbol) (end : ℕ) →
-    symbolsReader (sourceOf packed bytes words) w0 n [] at ≡ got ss end → 0 < w0 →
-    Admissible (record { w0 = w0; symbols = ss })
-symbols-admissible packed bytes words w0 n at ss end e positive =
-    let (all, same, count, oks, spelt) =
-    holds-got _ _ ss end (symbols-read (sourceOf packed bytes words) (field-fits packed bytes words) w0 n [] at) e in
-    admissible-of-symbols (record { w0 = w0; symbols = ss }) (rw (sym same) at oks) positive
+-- Symbols that were read are admissible, and where they end.
+symbols-admissible : (packed : Bool) (bytes words : List ℕ) (form w0 n at : ℕ) (ss : List Symbol) (end : ℕ) →
+    symbolTableReader (sourceOf packed bytes words) (leastWeightIn form w0) n at ≡ got ss end → 0 < w0 →
+    Reached packed bytes words 4 at →
+    Admissible (record { w0 = w0; symbols = ss }) × Reached packed bytes words (4 + 4 * n) end
+symbols-admissible packed bytes words form w0 n at ss end e positive start =
+    let source = sourceOf packed bytes words in
+    let fits = field-fits packed bytes words in
+    let least = leastWeightIn form w0 in
+    let (read, ranked) = holds-got _ _ ss end (table-read source fits least n at) e in
+    let (all, same, count, oks, spelt) = holds-got _ _ ss end (symbols-read source fits least n [] at) read in (
+      admissible-of-symbols form (record { w0 = w0; symbols = ss }) (rw (sym same) at oks) ranked positive,
+      reached-symbols packed bytes words 4 least n at ss end start read,
+    )
 
 -- The words that were stored before the rules of a packed file, and w0.
 front-of : (w0 symbols rules : ℕ) (before words table : List ℕ) (packed : Bool) →
@@ -121,7 +127,7 @@ front-of w0 symbols rules before words table false stored room stands = (stands 
 
 module _ (form : ℕ) (packed : Bool) (bytes words : List ℕ) (w0 symbols rules at : ℕ) where
   pub symbols-fault : (code offset : ℕ) →
-      symbolsReader (sourceOf packed bytes words) w0 symbols [] at ≡ fault code offset →
+      symbolTableReader (sourceOf packed bytes words) (leastWeightIn form w0) symbols at ≡ fault code offset →
       tableReader form packed bytes words w0 symbols rules at ≡ fault code offset
   unfolding tableReader
   symbols-fault code offset e = rw e
@@ -133,7 +139,8 @@ module _ (form : ℕ) (packed : Bool) (bytes words : List ℕ) (w0 symbols rules
     abbrev σ : Signature
     σ = record { w0 = w0; symbols = symbolsAt T 0 symbols }
 
-    pub head-read : (next : ℕ) → symbolsReader (sourceOf packed bytes words) w0 symbols [] at ≡ got (σ .symbols) next →
+    pub head-read : (next : ℕ) →
+        symbolTableReader (sourceOf packed bytes words) (leastWeightIn form w0) symbols at ≡ got (σ .symbols) next →
         Stored packed 0 (formNumber ∷ symbols ∷ w0 ∷ rules ∷ symbolsWords (σ .symbols)) before table →
         (packed ≡ false → weightOf words ≡ w0) → length table ≡ length before →
         Room packed (tableWords symbols) before → Reached packed bytes words 4 at → length bytes ≤ maxBytes →
@@ -142,8 +149,9 @@ module _ (form : ℕ) (packed : Bool) (bytes words : List ℕ) (w0 symbols rules
         table rules
     unfolding tableReader
     head-read next read stored stands same room start short few some positive =
-        let within = rw (← table-entries symbols) at
-        (reached-symbols packed bytes words 4 w0 symbols at (σ .symbols) next start read) in
+        let (admissible, reached) =
+        symbols-admissible packed bytes words form w0 symbols at (σ .symbols) next read positive start in
+        let within = rw (← table-entries symbols) at reached in
         let long = room-table packed bytes words table (tableWords symbols) next
         (room-same packed _ before table same room) within in
         let (weight, front) = front-of w0 symbols rules before words table packed stored room stands in
@@ -154,7 +162,7 @@ module _ (form : ℕ) (packed : Bool) (bytes words : List ℕ) (w0 symbols rules
             short = short;
             fewSymbols = few;
             fewRules = some;
-            admissible = rw e (symbols-admissible packed bytes words w0 symbols at (σ .symbols) next read positive);
+            admissible = rw e admissible;
             within = within;
             front = rw e front;
           },
@@ -162,7 +170,7 @@ module _ (form : ℕ) (packed : Bool) (bytes words : List ℕ) (w0 symbols rules
 
     -- What the answer to the symbols makes of the head.
     pub head-answer : (r : Answer) →
-        SymbolsRead (symbolsReader (sourceOf packed bytes words) w0 symbols [] at)
+        SymbolsRead (symbolTableReader (sourceOf packed bytes words) (leastWeightIn form w0) symbols at)
         (λ (ss : List Symbol). Stored packed 0 (formNumber ∷ symbols ∷ w0 ∷ rules ∷ symbolsWords ss) before table) r
         (σ .symbols) →
         (packed ≡ false → weightOf words ≡ w0) → length table ≡ length before →

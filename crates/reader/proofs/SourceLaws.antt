@@ -3,6 +3,7 @@
 --     tested-fault, tested-less, tested-got, tested-field, tested-then     a field that is tested
 --     field-fits                 a field that is read is within its width
 --     reached-start, reached-field, reached-entry, reached-symbols     where fields, and symbols, end
+--     reached-le                 an offset of one of the first fields is no further than a file's bits
 --     entry-stands, w0-stands    what was read among words stands there
 --     room-le, room-same, room-table    room for a table
 use mathlib.Core.Path.{_≡_, refl}
@@ -13,10 +14,10 @@ use native.Mathlib.Omega.{arith}
 use lib.Dec.{eqb}
 use lib.ListN.{length, getD}
 use Rattle.terms.specs.Signature.{Symbol}
-use Rattle.format.specs.Layout.{formNumber, arityWidth, acWidth, weightWidth, rankWidth}
+use Rattle.format.specs.Layout.{formNumber, arityWidth, acWidth, weightWidth, rankWidth, maxBytes}
 use Rattle.format.specs.Reading.{Reading, Reader, Source, andThen, require, bitSource, wordSource}
 use Rattle.format.specs.Reading.Reading.{got, fault}
-use Rattle.format.specs.Format.{symbolsReader}
+use Rattle.format.specs.Symbols.{symbolsReader}
 use Rattle.format.specs.Files.{readBytesIn, readWords}
 use Rattle.format.specs.Packing.{itemWord, symbolItems}
 use Rattle.format.specs.Packing.Item.{field}
@@ -98,6 +99,12 @@ pub reached-start : (packed : Bool) (bytes words : List ℕ) → Reached packed 
 unfolding Reached
 reached-start true bytes words = omega arith
 reached-start false bytes words = (refl, omega arith)
+
+pub reached-le : (packed : Bool) (bytes words : List ℕ) (fields at : ℕ) → fields ≤ 8 * maxBytes →
+    length bytes ≤ maxBytes → Reached packed bytes words fields at → at ≤ 8 * maxBytes
+unfolding Reached
+reached-le true bytes words fields at few short h = omega arith
+reached-le false bytes words fields at few short h = omega arith
 
 pub reached-field : (packed : Bool) (bytes words : List ℕ) (fields width at v next : ℕ) →
     Reached packed bytes words fields at → sourceOf packed bytes words .field width at ≡ got v next →
@@ -188,16 +195,17 @@ unfolding flatMap
 length-coded [] = refl
 length-coded (s ∷ ss) = omega (arith, length-coded ss)
 
-pub reached-symbols : (packed : Bool) (bytes words : List ℕ) (fields w0 n at : ℕ) (ss : List Symbol) (next : ℕ) →
-    Reached packed bytes words fields at → symbolsReader (sourceOf packed bytes words) w0 n [] at ≡ got ss next →
+pub reached-symbols : (packed : Bool) (bytes words : List ℕ) (fields : ℕ) (least : ℕ → ℕ) (n at : ℕ) (ss : List Symbol)
+    (next : ℕ) → Reached packed bytes words fields at →
+    symbolsReader (sourceOf packed bytes words) least n [] at ≡ got ss next →
     Reached packed bytes words (fields + 4 * n) next
 unfolding sourceOf Reached
-reached-symbols true bytes words fields w0 n at ss next h e =
+reached-symbols true bytes words fields least n at ss next h e =
     let (all, same, count, oks, spelt) =
-    holds-got _ _ ss next (symbols-read (bitSource bytes) (field-fits true bytes words) w0 n [] at) e in
+    holds-got _ _ ss next (symbols-read (bitSource bytes) (field-fits true bytes words) least n [] at) e in
     spells→coded (bit-coding bytes) spelt h .2
-reached-symbols false bytes words fields w0 n at ss next h e =
+reached-symbols false bytes words fields least n at ss next h e =
     let (all, same, count, oks, spelt) =
-    holds-got _ _ ss next (symbols-read (wordSource words) (field-fits false bytes words) w0 n [] at) e in
+    holds-got _ _ ss next (symbols-read (wordSource words) (field-fits false bytes words) least n [] at) e in
     let (fit, ends, last, agree) = spells→coded (word-coding words) spelt (h .1) in
     (omega (arith, length-coded all), last)

@@ -5,26 +5,28 @@
 --                                          to its fields
 --     symbols-fault, symbols-past          reading some symbols by reading one
 --     symbols-done, symbols-headed         reading so many by a loop, and the header
+--     table-unread, table-outranked, table-ranked     all symbols, by the first that is outranked
 --     stored-same, stored-more, stored-none   what is stored of a packed file
 use mathlib.Core.Path.{_≡_, refl, sym, _∙_}
 use mathlib.Core.List.{List, [], _∷_, _++_, map}
 use mathlib.Core.Bool.{Bool, true, false, _||_, not}
-use Prim.Native.Nat.{ℕ, suc, _+_, _-_, _<_}
+use Prim.Native.Nat.{ℕ, suc, _+_, _-_, _≤_, _<_}
 use native.Mathlib.Omega.{arith}
 use lib.ListN.{length, set, replicate, getD-replicate}
 use lib.Seq.{sets, getD-set-same, getD-set-other}
 use lib.Dec.{eqb, leb}
-use borrow.Author.Tests.{eqb-true, eqb-false}
+use borrow.Author.Tests.{eqb-true, eqb-false, eq-eqb, ne-eqb}
 use Rattle.multisets.proofs.Relations.{byTest}
 use Rattle.multisets.proofs.ListLaws.{sets-append}
-use Rattle.terms.specs.Signature.{Symbol, leastWeight}
+use Rattle.terms.specs.Signature.{Symbol}
 use Rattle.format.specs.Errors.{acNotBinary, weightInadmissible, rankTaken}
 use Rattle.format.specs.Layout.{formNumber, arityWidth, acWidth, weightWidth, rankWidth}
 use Rattle.format.specs.Reading.{Reading, Reader, _>>=_, _>>_, give, here, require, Source}
 use Rattle.format.specs.Reading.Reading.{got, fault}
-use Rattle.format.specs.Format.{heldBy, symbolReader, symbolsReader}
+use Rattle.format.specs.Symbols.{heldBy, firstOutranked, weightOffset, symbolReader, symbolsReader, symbolTableReader}
 use Rattle.format.specs.Packing.{itemWord, symbolItems}
 use Rattle.format.proofs.ReadingLaws.{andThen-same}
+use Rattle.format.proofs.RankLaws.{outranked-le}
 use Rattle.reader.specs.Source.{Stored, tested}
 use Rattle.symbols.specs.Table.{tableWords, symbolsWords}
 use Rattle.symbols.proofs.EntryLaws.{entries-more}
@@ -86,49 +88,68 @@ taken-put ss s taken n small h rank b =
 
 -- ---- reading
 
-module _ (source : Source) (w0 : ℕ) (earlier : List Symbol) where
+module _ (source : Source) (least : ℕ → ℕ) (earlier : List Symbol) where
   abbrev pub partsReader : Reader Symbol
   partsReader = do
     arityOffset ← here
     arity ← source .field arityWidth
     ac ← source .field acWidth
     require (eqb ac 0 || eqb arity 2) acNotBinary arityOffset
-    weight ← tested source weightWidth (leb (leastWeight w0 arity)) weightInadmissible
+    weight ← tested source weightWidth (leb (least arity)) weightInadmissible
     rank ← tested source rankWidth (λ (rank : ℕ). not (heldBy earlier rank)) rankTaken
     give (record { arity = arity; ac = eqb ac 1; weight = weight; precedence = rank })
 
-  pub symbol-parts : (at : ℕ) → symbolReader source w0 earlier at ≡ partsReader at
+  pub symbol-parts : (at : ℕ) → symbolReader source least earlier at ≡ partsReader at
   unfolding symbolReader
   symbol-parts at =
       andThen-same (source .field arityWidth at) _ _ λ arity n₁.
       andThen-same (source .field acWidth n₁) _ _ λ ac n₂.
       andThen-same (require (eqb ac 0 || eqb arity 2) acNotBinary at n₂) _ _ λ u n.
-      tested-then source weightWidth (leb (leastWeight w0 arity)) weightInadmissible n _
-      ∙ andThen-same (tested source weightWidth (leb (leastWeight w0 arity)) weightInadmissible n) _ _ λ weight n₃.
+      tested-then source weightWidth (leb (least arity)) weightInadmissible n _
+      ∙ andThen-same (tested source weightWidth (leb (least arity)) weightInadmissible n) _ _ λ weight n₃.
       tested-then source rankWidth (λ (rank : ℕ). not (heldBy earlier rank)) rankTaken n₃ _
 
-module _ (source : Source) (w0 count number : ℕ) (more : number < count) (earlier : List Symbol) (at : ℕ) where
+module _ (source : Source) (least : ℕ → ℕ) (count number : ℕ) (more : number < count) (earlier : List Symbol)
+    (at : ℕ) where
   abbrev whole : Reading (List Symbol)
-  whole = symbolsReader source w0 (count - number) earlier at
+  whole = symbolsReader source least (count - number) earlier at
 
-  pub symbols-fault : (code offset : ℕ) → symbolReader source w0 earlier at ≡ fault code offset →
+  pub symbols-fault : (code offset : ℕ) → symbolReader source least earlier at ≡ fault code offset →
       whole ≡ fault code offset
   unfolding symbolsReader
   symbols-fault code offset e =
       let n : count - number ≡ suc (count - (number + 1)) = omega arith in
       rw (n, e)
 
-  pub symbols-past : (s : Symbol) (next : ℕ) → symbolReader source w0 earlier at ≡ got s next →
-      whole ≡ symbolsReader source w0 (count - (number + 1)) (earlier ++ (s ∷ [])) next
+  pub symbols-past : (s : Symbol) (next : ℕ) → symbolReader source least earlier at ≡ got s next →
+      whole ≡ symbolsReader source least (count - (number + 1)) (earlier ++ (s ∷ [])) next
   unfolding symbolsReader
   symbols-past s next e =
       let n : count - number ≡ suc (count - (number + 1)) = omega arith in
       rw (n, e)
 
-pub symbols-done : (source : Source) (w0 n : ℕ) (ss : List Symbol) (at : ℕ) → n ≡ 0 → symbolsReader source w0 n ss at ≡
-    got ss at
+pub symbols-done : (source : Source) (least : ℕ → ℕ) (n : ℕ) (ss : List Symbol) (at : ℕ) → n ≡ 0 →
+    symbolsReader source least n ss at ≡ got ss at
 unfolding symbolsReader
-symbols-done source w0 n ss at e = rw e
+symbols-done source least n ss at e = rw e
+
+module _ (source : Source) (least : ℕ → ℕ) (count at : ℕ) where
+  pub table-unread : (code offset : ℕ) → symbolsReader source least count [] at ≡ fault code offset →
+      symbolTableReader source least count at ≡ fault code offset
+  unfolding symbolTableReader
+  table-unread code offset e = rw e
+
+  module _ (ss : List Symbol) (next : ℕ) (e : symbolsReader source least count [] at ≡ got ss next) (low : ℕ)
+      (first : low ≡ firstOutranked ss) where
+    pub table-outranked : low < length ss → (offset : ℕ) → offset ≡ weightOffset source at low →
+        symbolTableReader source least count at ≡ fault weightInadmissible offset
+    unfolding symbolTableReader
+    table-outranked h offset o =
+        rw (e, ← first, ne-eqb low (length ss) (λ p. omega arith), o)
+
+    pub table-ranked : length ss ≤ low → symbolTableReader source least count at ≡ got ss next
+    unfolding symbolTableReader
+    table-ranked h = rw (e, eq-eqb (firstOutranked ss) (length ss) (omega (arith, outranked-le ss ss)))
 
 -- The symbols are stored after the header.
 pub symbols-headed : (count w0 rules : ℕ) (reading : Reading (List Symbol)) (r : Answer) (ss : List Symbol)
@@ -159,44 +180,44 @@ stored-none false table = tt
 
 -- ---- a symbol, by the answers to its fields
 
-module _ (source : Source) (w0 : ℕ) (earlier : List Symbol) (at : ℕ) where
+module _ (source : Source) (least : ℕ → ℕ) (earlier : List Symbol) (at : ℕ) where
   abbrev symbol : Reading Symbol
-  symbol = symbolReader source w0 earlier at
+  symbol = symbolReader source least earlier at
 
   abbrev Fielded : Answer → ℕ → ℕ → Type 0
   Fielded x width offset = readingOf (λ (v : ℕ). v) x ≡ source .field width offset
 
   pub arity-unread : (x : Answer) (code offset : ℕ) → x ≡ Fault offset code → Fielded x arityWidth at →
       symbol ≡ fault code offset
-  arity-unread x code offset e f = symbol-parts source w0 earlier at ∙ rw (sym (rw e at f))
+  arity-unread x code offset e f = symbol-parts source least earlier at ∙ rw (sym (rw e at f))
 
   module _ (x : Answer) (arity n : ℕ) (e : x ≡ Got arity n) (f : Fielded x arityWidth at) where
     pub mark-unread : (y : Answer) (code offset : ℕ) → y ≡ Fault offset code → Fielded y acWidth n →
         symbol ≡ fault code offset
-    mark-unread y code offset g h = symbol-parts source w0 earlier at ∙ rw (sym (rw e at f), sym (rw g at h))
+    mark-unread y code offset g h = symbol-parts source least earlier at ∙ rw (sym (rw e at f), sym (rw g at h))
 
     module _ (y : Answer) (ac m : ℕ) (g : y ≡ Got ac m) (h : Fielded y acWidth n) (b : Bool)
         (binary : b ≡ (eqb ac 0 || eqb arity 2)) where
       pub mark-refused : not b ≡ true → symbol ≡ fault acNotBinary at
       mark-refused wrong =
-          symbol-parts source w0 earlier at
+          symbol-parts source least earlier at
           ∙ rw (sym (rw e at f), sym (rw g at h), sym binary ∙ not-true b wrong)
 
-      pub weight-unread : not b ≡ false → (l k : ℕ) → l ≡ k → k ≡ leastWeight w0 arity → (z : Answer)
+      pub weight-unread : not b ≡ false → (l k : ℕ) → l ≡ k → k ≡ least arity → (z : Answer)
           (code offset : ℕ) → z ≡ Fault offset code →
           readingOf (λ (v : ℕ). v) z ≡ tested source weightWidth (leb l) weightInadmissible m →
           symbol ≡ fault code offset
       weight-unread right l k p q z code offset i j =
-          symbol-parts source w0 earlier at
+          symbol-parts source least earlier at
           ∙ rw (sym (rw e at f), sym (rw g at h), sym binary ∙ not-false b right, sym (rw (i, p ∙ q) at j))
 
-      pub rank-unread : not b ≡ false → (l k : ℕ) → l ≡ k → k ≡ leastWeight w0 arity → (z : Answer) (weight o : ℕ) →
+      pub rank-unread : not b ≡ false → (l k : ℕ) → l ≡ k → k ≡ least arity → (z : Answer) (weight o : ℕ) →
           z ≡ Got weight o → readingOf (λ (v : ℕ). v) z ≡ tested source weightWidth (leb l) weightInadmissible m →
           (taken : List Bool) → TakenBy earlier taken → (r : Answer) (code offset : ℕ) → r ≡ Fault offset code →
           ((es : List Symbol) → TakenBy es taken → readingOf (λ (v : ℕ). v) r
           ≡ tested source rankWidth (λ (rank : ℕ). not (heldBy es rank)) rankTaken o) → symbol ≡ fault code offset
       rank-unread right l k p q z weight o i j taken t r code offset u v =
-          symbol-parts source w0 earlier at
+          symbol-parts source least earlier at
           ∙ rw (
             sym (rw e at f),
             sym (rw g at h),

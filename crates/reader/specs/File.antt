@@ -1,6 +1,6 @@
 -- What the answers of reading a whole file stand for.
 use mathlib.Core.Path.{_≡_}
-use mathlib.Core.List.{List, [], map}
+use mathlib.Core.List.{List, map}
 use mathlib.Core.Bool.{Bool, true, cond}
 use Prim.Native.Nat.{ℕ, _*_, _≤_, _<_}
 use lib.ListN.{length, take}
@@ -11,7 +11,8 @@ use Rattle.format.specs.Errors.{noSymbols, variableWeightless}
 use Rattle.format.specs.Layout.{firstForm, symbolCountWidth, weightWidth, ruleCountWidth, maxBytes}
 use Rattle.format.specs.Reading.{Reading, Reader, _>>=_, _>>_, give}
 use Rattle.format.specs.Reading.Reading.{got, fault}
-use Rattle.format.specs.Format.{Sides, RuleFile, unusedOf, symbolsReader, rulesReader}
+use Rattle.format.specs.Symbols.{leastWeightIn, symbolTableReader}
+use Rattle.format.specs.Format.{Sides, RuleFile, unusedOf, rulesReader}
 use Rattle.format.specs.Conversion.{convertedSides}
 use Rattle.symbols.specs.Table.{signatureOf, tableWords, maxTableWords, frontWords}
 use Rattle.answers.specs.declared.Answer.{Answer}
@@ -30,7 +31,7 @@ module _ (form : ℕ) (packed : Bool) (bytes words : List ℕ) where
   -- What follows the header.
   unfoldable pub tableReader : ℕ → ℕ → ℕ → Reader RuleFile
   tableReader w0 symbolCount ruleCount = do
-    symbols ← symbolsReader (sourceOf packed bytes words) w0 symbolCount []
+    symbols ← symbolTableReader (sourceOf packed bytes words) (leastWeightIn form w0) symbolCount
     restReader (record { w0 = w0; symbols = symbols }) ruleCount
 
   -- What follows the form.

@@ -7,7 +7,7 @@ use lib.ListN.{length, getD}
 use Rattle.terms.specs.Signature.{Symbol}
 use Rattle.format.specs.Reading.{Reading}
 use Rattle.format.specs.Reading.Reading.{got, fault}
-use Rattle.format.specs.Format.{heldBy}
+use Rattle.format.specs.Symbols.{heldBy}
 use Rattle.answers.specs.declared.Answer.{Answer}
 use Rattle.answers.specs.declared.Answer.the-variants.{Got, Fault}
 

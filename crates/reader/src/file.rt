@@ -1,6 +1,6 @@
 // Reading a whole file, packed or a sheet: what stands before its rules, and its rules, or its first fault.
 ghost use mathlib.Core.Path.{_≡_};
-ghost use Prim.Native.Nat.{ℕ, _≤_};
+ghost use Prim.Native.Nat.{_≤_};
 ghost use lib.ListN.{length};
 ghost use Rattle.format.specs.Layout.{maxBytes};
 ghost use Rattle.format.specs.Format.{formError};
@@ -21,6 +21,7 @@ fn read_counts(
     book: &[u8],
     sheet: &[u16],
     packed: bool,
+    form: u16,
     table: &mut [u16],
     rules: &mut usize,
     at: usize,
@@ -28,9 +29,8 @@ fn read_counts(
     requires { ⌜ (length (now book) ≤ maxBytes) × Reached packed (now book) (now sheet) 1 at ⌝ }
     requires { ⌜ Room packed maxTableWords (now table) ⌝ }
     ensures { λ r. ⌜
-        ((form : ℕ) → HeadRead form packed (now (book .entry)) (now (sheet .entry))
-        (countsReader form packed (now (book .entry)) (now (sheet .entry)) at) r
-        (now (table .exit)) (now (rules .exit)))
+        HeadRead form packed (now (book .entry)) (now (sheet .entry))
+        (countsReader form packed (now (book .entry)) (now (sheet .entry)) at) r (now (table .exit)) (now (rules .exit))
         ⌝ }
 {
     let read = field_at_least(book, sheet, packed, at, SYMBOL_COUNT_WIDTH, 1, NO_SYMBOLS);
@@ -49,7 +49,7 @@ fn read_counts(
         return read;
     };
     *rules = value;
-    crate::symbol::read_symbols(book, sheet, packed, table, w0, symbols, value, next)
+    crate::table::read_table(book, sheet, packed, table, form, w0, symbols, value, next)
 }
 
 // The error of a form that is not the one that is read.
@@ -90,7 +90,7 @@ pub fn read_head(
         let code = form_error(value);
         return Answer::Fault { code, offset: 0 };
     }
-    read_counts(book, sheet, packed, table, rules, next)
+    read_counts(book, sheet, packed, form, table, rules, next)
 }
 
 // Reads a packed file of that form, the words before its rules into the table and those of its rules to the front of

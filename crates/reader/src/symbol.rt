@@ -8,7 +8,7 @@ ghost use lib.ListN.{length};
 ghost use Rattle.terms.specs.Signature.{Symbol};
 ghost use Rattle.format.specs.Errors.{rankTaken};
 ghost use Rattle.format.specs.Layout.{formNumber, maxBytes, rankWidth};
-ghost use Rattle.format.specs.Format.{heldBy, symbolReader, symbolsReader};
+ghost use Rattle.format.specs.Symbols.{heldBy, leastWeightIn, symbolReader, symbolsReader};
 ghost use Rattle.format.specs.Packing.{itemWord, symbolItems};
 ghost use Rattle.symbols.specs.Table.{symbolAt, symbolsAt, tableWords, symbolsWords};
 ghost use Rattle.answers.specs.Answer.{readingOf, Below};
@@ -74,6 +74,7 @@ fn read_symbol(
     packed: bool,
     table: &mut [u16],
     taken: &mut [bool; RANKS],
+    form: u16,
     w0: u16,
     number: usize,
     at: usize,
@@ -85,7 +86,7 @@ fn read_symbol(
         ⌝ }
     ensures { λ r. ⌜
         SymbolPut
-        (symbolReader (sourceOf packed (now (book .entry)) (now (sheet .entry))) w0
+        (symbolReader (sourceOf packed (now (book .entry)) (now (sheet .entry))) (leastWeightIn form w0)
         (symbolsAt (tableOf packed (now (sheet .entry)) (now (table .entry))) 0 number) at)
         (symbolsAt (tableOf packed (now (sheet .entry)) (now (table .entry))) 0 number)
         (Reached packed (now (book .entry)) (now (sheet .entry)) (tableWords (number + 1)))
@@ -109,7 +110,7 @@ fn read_symbol(
         let code = format::AC_NOT_BINARY;
         return Answer::Fault { code, offset: at };
     }
-    let least = symbols::wide(symbols::least_weight(w0, arity));
+    let least = symbols::wide(symbols::least_weight(form, w0, arity));
     let read = crate::field::field_at_least(
         book,
         sheet,
@@ -138,6 +139,7 @@ fn read_symbols_from(
     sheet: &[u16],
     packed: bool,
     table: &mut [u16],
+    form: u16,
     w0: u16,
     count: usize,
     at: usize,
@@ -145,7 +147,8 @@ fn read_symbols_from(
     requires { ⌜ (length (now book) ≤ maxBytes) × (count < 256) × Room packed (tableWords count) (now table) ⌝ }
     requires { ⌜ Reached packed (now book) (now sheet) 4 at ⌝ }
     ensures { λ r. ⌜
-        SymbolsRead (symbolsReader (sourceOf packed (now (book .entry)) (now (sheet .entry))) w0 count [] at)
+        SymbolsRead
+        (symbolsReader (sourceOf packed (now (book .entry)) (now (sheet .entry))) (leastWeightIn form w0) count [] at)
         (λ (ss : List Symbol). Stored packed 4 (symbolsWords ss) (now (table .entry)) (now (table .exit))) r
         (symbolsAt (tableOf packed (now (sheet .entry)) (now (table .exit))) 0 count)
         ⌝ }
@@ -154,7 +157,17 @@ fn read_symbols_from(
     let mut here = at;
     let mut number = 0;
     while number < count {
-        match read_symbol(book, sheet, packed, table, &mut taken, w0, number, here) {
+        match read_symbol(
+            book,
+            sheet,
+            packed,
+            table,
+            &mut taken,
+            form,
+            w0,
+            number,
+            here,
+        ) {
             Answer::Fault { code, offset } => return Answer::Fault { code, offset },
             Answer::Got { value, next } => here = next,
         }
@@ -173,6 +186,7 @@ pub fn read_symbols(
     sheet: &[u16],
     packed: bool,
     table: &mut [u16],
+    form: u16,
     w0: u16,
     count: usize,
     rules: usize,
@@ -181,7 +195,8 @@ pub fn read_symbols(
     requires { ⌜ (length (now book) ≤ maxBytes) × (count < 256) × Room packed (tableWords count) (now table) ⌝ }
     requires { ⌜ Reached packed (now book) (now sheet) 4 at × (rules < 1024) ⌝ }
     ensures { λ r. ⌜
-        SymbolsRead (symbolsReader (sourceOf packed (now (book .entry)) (now (sheet .entry))) w0 count [] at)
+        SymbolsRead
+        (symbolsReader (sourceOf packed (now (book .entry)) (now (sheet .entry))) (leastWeightIn form w0) count [] at)
         (λ (ss : List Symbol). Stored packed 0 (formNumber ∷ count ∷ w0 ∷ rules ∷ symbolsWords ss)
         (now (table .entry)) (now (table .exit))) r
         (symbolsAt (tableOf packed (now (sheet .entry)) (now (table .exit))) 0 count)
@@ -189,7 +204,7 @@ pub fn read_symbols(
 {
     if packed {
         symbols::put_header(table, count as u16, w0, rules as u16);
-        return read_symbols_from(book, sheet, true, table, w0, count, at);
+        return read_symbols_from(book, sheet, true, table, form, w0, count, at);
     }
-    read_symbols_from(book, sheet, false, table, w0, count, at)
+    read_symbols_from(book, sheet, false, table, form, w0, count, at)
 }

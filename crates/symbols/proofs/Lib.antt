@@ -2,3 +2,4 @@
 pub mod TableLaws
 pub mod ArityLaws
 pub mod EntryLaws
+pub mod RankLaws

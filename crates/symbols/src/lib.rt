@@ -1,22 +1,27 @@
 // The decoded symbol table: access to a symbol by its number. Only these functions know how the words lie.
 ghost use mathlib.Core.Path.{_≡_};
-ghost use mathlib.Core.Bool.{_||_};
+ghost use mathlib.Core.Bool.{cond, _||_};
 ghost use Prim.Native.Nat.{_+_, _*_, _^_, _≤_, _<_};
 ghost use lib.Dec.{eqb};
 ghost use lib.ListN.{length, getD};
-ghost use Rattle.terms.specs.Signature.{Signature, symbolOf, leastWeight};
+ghost use Rattle.terms.specs.Signature.{Signature, symbolOf};
+ghost use Rattle.format.specs.Layout.{firstForm};
+ghost use Rattle.format.specs.Symbols.{leastWeightIn};
 ghost use Rattle.symbols.specs.Table.{signatureOf, maxTableWords};
 ghost use Rattle.symbols.specs.Arities.{Arities, Between};
+use format::FIRST_FORM;
 use format::FIRST_VARIABLE;
 use format::NODE_WORDS;
 
 mod entries;
+mod ranks;
 
 pub use crate::entries::TABLE_WORDS;
 pub use crate::entries::count;
 pub use crate::entries::front;
 pub use crate::entries::put_header;
 pub use crate::entries::put_symbol;
+pub use crate::ranks::first_outranked;
 
 // The word as an index.
 pub fn wide(word: u16) -> usize
@@ -79,12 +84,19 @@ pub fn binary_if_ac(arity: u16, ac: u16) -> bool
     ac <= (4u16 >> arity) % 2
 }
 
-// The least weight of a symbol of that arity, without a branch.
-pub fn least_weight(w0: u16, arity: u16) -> u16
-    requires { ⌜ arity < 8 ⌝ }
-    ensures { λ r. ⌜ r ≡ leastWeight w0 arity ⌝ }
+// The least weight of a symbol of arity 1 in a file of that form.
+fn least_unary(form: u16) -> u16
+    ensures { λ r. ⌜ r ≡ cond (eqb form firstForm) 1 0 ⌝ }
 {
-    let least = [w0, 1, 0, 0, 0, 0, 0, 0];
+    if form == FIRST_FORM { 1 } else { 0 }
+}
+
+// The least weight of a symbol of that arity in a file of that form, without a branch on the arity.
+pub fn least_weight(form: u16, w0: u16, arity: u16) -> u16
+    requires { ⌜ arity < 8 ⌝ }
+    ensures { λ r. ⌜ r ≡ leastWeightIn form w0 arity ⌝ }
+{
+    let least = [w0, least_unary(form), 0, 0, 0, 0, 0, 0];
     least[wide(arity)]
 }
 

@@ -7,13 +7,13 @@ pub mod EquivalenceComplete
 pub mod EquivalenceMeasures
 pub mod EquivalenceSound
 pub mod OrderLaws
-pub mod IteratedLaws
-pub mod SteinbachLaws
 pub mod OftenerLaws
 pub mod WordsLaws
 pub mod RewritingLaws
 pub mod VariableLaws
 pub mod WeightLaws
+pub mod IteratedLaws
+pub mod SteinbachLaws
 pub mod SubstitutionLaws
 pub mod RenamingLaws
 pub mod FirstUseLaws
@@ -21,7 +21,9 @@ pub mod FirstUseCount
 pub mod FirstUseRenamed
 pub mod RuleRenumbering
 pub mod FingerprintLaws
+pub mod EnumerationLaws
 pub mod Theorems
 mod TrapChecks
 mod FirstUseChecks
 mod FingerprintChecks
+mod EnumerationChecks

@@ -4,6 +4,7 @@
 --     row-renames, flattenings-rename                 arguments and flattenings, one by one
 --     Over, over-parts                                the variables of a term are among some numbers
 --     occurrences-rename, occurrences-renamed         occurrences, before and after
+--     isPower-rename                                  the test for a variable under copies of one symbol
 --     isEquivalent-rename                             the test of AC-equivalence
 use mathlib.Core.List.{_∷_, _++_, map, map-append}
 use mathlib.Core.Path.{_≡_, refl, sym, ap, ap₂, _∙_}
@@ -19,6 +20,7 @@ use Rattle.terms.specs.Term.{flattenings, variableCount, weight, WellFor
 use Rattle.terms.specs.Term.Term.{var, app}
 use Rattle.terms.specs.Term.Terms.{nil, cons}
 use Rattle.terms.specs.Equivalence.{argumentsAlike, isEquivalentTo, isEquivalent}
+use Rattle.terms.specs.Iterated.{isPower, isOnePower}
 use Rattle.terms.specs.Order.{rootAbove, rootBelow}
 use Rattle.terms.specs.Renaming.{rename, renames}
 use Rattle.multisets.proofs.Relations.{byTest, byOrder, sameTest, eqb-self}
@@ -102,7 +104,7 @@ module _ (Among : ℕ → Type 0) where
     λ g a. flattenings-each overs a ts g λ x o. h x (omega arith),
   )
 
-  over-var : (x : ℕ) → Over (var x) → Among x
+  pub over-var : (x : ℕ) → Over (var x) → Among x
   over-var x h = h x (rw eqb-self (omega arith))
 
   module _ (σ : Signature) (ρ : ℕ → ℕ) (within : (x : ℕ) → Among x → ρ x < variableCount) where
@@ -159,6 +161,17 @@ module _ (ρ : ℕ → ℕ) (Among : ℕ → Type 0) (one : (x y : ℕ) → Amon
     occurrencesIn-renames x v (cons t ts) h =
         ap₂ _+_ (occurrences-rename x v t λ y o. h y (omega arith))
         (occurrencesIn-renames x v ts λ y o. h y (omega arith))
+
+  module _ (f y : ℕ) (v : Among y) where
+    mutual
+      pub isPower-rename : (s : Term) → Over Among s → isPower f (ρ y) (rename ρ s) ≡ isPower f y s
+      isPower-rename (var x) h = eqb-rename y x v (over-var Among x h)
+      isPower-rename (app g ts) h = ap (_&&_ (eqb f g)) (isOnePower-renames ts λ x o. h x (omega arith))
+
+      isOnePower-renames : (ts : Terms) → OverRow Among ts → isOnePower f (ρ y) (renames ρ ts) ≡ isOnePower f y ts
+      isOnePower-renames nil h = refl
+      isOnePower-renames (cons t nil) h = isPower-rename t λ x o. h x (omega arith)
+      isOnePower-renames (cons t (cons u us)) h = refl
 
   -- ---- AC-equivalence
 

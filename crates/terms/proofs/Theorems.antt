@@ -1,4 +1,4 @@
--- The theorems of specs/Statements.antt and specs/FirstUseStatements.antt.
+-- The theorems of specs/Statements.antt, specs/FirstUseStatements.antt and specs/EnumerationStatements.antt.
 use mathlib.Core.List.{[]}
 use mathlib.Core.Path.{refl}
 use lib.Dec.{eqb}
@@ -15,6 +15,7 @@ use Rattle.terms.specs.FirstUse.{firstUses, placeIn, renumbered, ruleWor
 use Rattle.terms.specs.FirstUseStatements.{NumbersApart, RenumberedInOrder, InOrderUnchanged, RenumberedAgain}
 use Rattle.terms.specs.FirstUseStatements.{RenamingsAgree, WordsRenamed, RuleWordsRenumbered}
 use Rattle.terms.specs.FirstUseStatements.{RuleRenumberedAgain, RuleRenamingsAgree, RuleInOrderUnchanged}
+use Rattle.terms.specs.EnumerationStatements.{EnumeratesExpressions, EnumeratesInOrder, BeforeIrreflexive}
 use Rattle.terms.proofs.EquivalenceComplete.{Equivalent→isEquivalent}
 use Rattle.terms.proofs.EquivalenceMeasures.{measure-resp-equivalent, root-resp-equivalent}
 use Rattle.terms.proofs.EquivalenceSound.{isEquivalent→Equivalent}
@@ -26,6 +27,7 @@ use Rattle.terms.proofs.FirstUseLaws.{place-lt, place-injective, seen-w
 use Rattle.terms.proofs.FirstUseLaws.{inOrder-renumbered}
 use Rattle.terms.proofs.FirstUseRenamed.{renumbered-renamed}
 use Rattle.terms.proofs.RuleRenumbering.{inOrder-renumberedRule, words-rename, ruleWords-rename}
+use Rattle.terms.proofs.EnumerationLaws.{before-irrefl, spelled-term, term-enumerated, rows-sorted}
 use Rattle.terms.proofs.RuleRenumbering.{renumberedRule-inOrder, renumberedRule-renamed}
 
 pub starred-cases-hold : StarredCasesHold
@@ -102,3 +104,15 @@ module _ (σ : Signature) where
 
 pub rule-in-order-unchanged : RuleInOrderUnchanged
 rule-in-order-unchanged = inOrder-renumberedRule
+
+-- ---- the enumeration of ground terms
+
+module _ (σ : Signature) where
+  pub enumerates-expressions : EnumeratesExpressions σ
+  enumerates-expressions n ws = (spelled-term σ n ws, term-enumerated σ n ws)
+
+  pub enumerates-in-order : EnumeratesInOrder σ
+  enumerates-in-order n = rows-sorted σ n 1
+
+pub before-irreflexive : BeforeIrreflexive
+before-irreflexive = before-irrefl

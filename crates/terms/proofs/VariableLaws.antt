@@ -1,25 +1,23 @@
 -- The variables of a term: where none occurs, and which terms are expressions.
 --     occurrences-past                   no variable past the last occurs in a well-formed term
---     occurrences-argument, oftener-fill no variable occurs oftener in an argument, or in what fills a context
+--     occurrences-argument               no variable occurs oftener in an argument
 --     not-ground, isVar-ground           a variable is no expression
 --     noneOftener-ground, -everywhere    no variable occurs oftener in an expression; past the last, in any term
 --     expressions                        the parts of an expression are expressions
-use mathlib.Core.List.{_∷_, _++_, List·Memᴰ}
+use mathlib.Core.List.{List·Memᴰ}
 use mathlib.Core.Path.{_≡_, refl}
 use mathlib.Core.Bool.{false}
 use Prim.Native.Nat.{ℕ, _≤_}
 use native.Mathlib.Omega.{arith}
 use borrow.Author.Tests.{ne-eqb}
 use Rattle.terms.specs.Signature.{Signature}
-use Rattle.terms.specs.Term.{Term, Terms, row, arguments, occurrences, Ground, isVar, variableCount, WellFormed}
+use Rattle.terms.specs.Term.{Term, Terms, row, occurrences, Ground, isVar, variableCount, WellFormed}
 use Rattle.terms.specs.Term.{WellFormeds, Expression}
 use Rattle.terms.specs.Term.Term.{var, app}
 use Rattle.terms.specs.Term.Terms.{nil, cons}
 use Rattle.terms.specs.Marks.{NoneOftener}
-use Rattle.terms.specs.Rewriting.{Context, fill}
-use Rattle.terms.specs.Rewriting.Context.{hole, inside}
 use Rattle.multisets.proofs.Relations.{byOrder, eqb-self}
-use Rattle.terms.proofs.TermLaws.{among-member, Hereditary, row-each}
+use Rattle.terms.proofs.TermLaws.{Hereditary, row-each}
 use Rattle.terms.proofs.RewritingLaws.{occurrencesIn}
 
 abbrev pub Grounds : Terms → Type 0
@@ -41,12 +39,6 @@ seldom x n = record { inner = λ f ts h. omega arith; head = λ t ts h. omega ar
 pub occurrences-argument : (x f : ℕ) (ts : Terms) (u : Term) → List·Memᴰ u (row ts) →
     occurrences x u ≤ occurrences x (app f ts)
 occurrences-argument x f ts u = row-each (seldom x (occurrences x (app f ts))) u ts (omega arith)
-
-pub oftener-fill : (c : Context) (t : Term) (x : ℕ) → occurrences x t ≤ occurrences x (fill c t)
-oftener-fill hole t x = omega arith
-oftener-fill (inside f ss c ts) t x =
-    let l = ss ++ (fill c t ∷ ts) in
-    omega (arith, oftener-fill c t x, occurrences-argument x f (arguments l) (fill c t) (among-member ss ts (fill c t)))
 
 pub not-ground : (x : ℕ) → Ground (var x) → ⊥
 not-ground x g = let h = rw eqb-self at (g x) in omega arith

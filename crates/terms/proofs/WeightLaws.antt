@@ -1,30 +1,29 @@
 -- Weights, for an admissible signature: what is used of them, whatever their definition.
 --     weight-least, -pos, variable-lightest a well-formed term weighs at least w0, as a variable does
---     nodes-le-weight                       a term of weight W has at most 2 W - 1 nodes
+--     nodes-le-weight                       a term of weight W has at most 2 W - 1 nodes, if no unary symbol weighs 0
 --     weight-among-lt, weight-among-same    an argument exchanged for a lighter one, for one as heavy
---     weight-argument, weight-fill          an argument is lighter than the term, and so what fills a context
+--     weight-argument                       an argument is lighter than the term, or all under a weightless symbol
 --     flattening-lighter                    an element of a flattening is the term itself, or lighter
 use mathlib.Core.List.{List, [], _∷_, _++_, List·Memᴰ, List·Memᴰ·head, List·Memᴰ·tail, List·Memᴰ·eq-of-singleton}
 use mathlib.Core.List.{List·Memᴰ·not-nil}
 use mathlib.Core.Logic.{_⊎_, inl, inr}
-use mathlib.Core.Path.{_≡_, sym, ap, subst}
+use mathlib.Core.Path.{_≡_, refl, sym, ap}
 use Prim.Native.Nat.{ℕ, suc, zero, _+_, _*_, _≤_, _<_}
 use native.Mathlib.Omega.{arith}
 use lib.ListN.{length}
 use lib.Dec.{eqb}
 use borrow.Author.Tests.{eqb-true}
-use Rattle.terms.specs.Signature.{Signature, leastWeight, symbolOf, Admissible}
+use Rattle.terms.specs.Signature.{Signature, leastWeight, symbolOf, ZeroWeightUnary}
+use Rattle.terms.specs.Signature.{NoZeroWeightUnary, Admissible}
 use Rattle.terms.specs.Term.{Term, Terms, row, arguments, measures, size, sizes, flattening, weight, WellFormed}
 use Rattle.terms.specs.Term.{WellFormeds}
 use Rattle.terms.specs.Term.Term.{var, app}
 use Rattle.terms.specs.Term.Terms.{nil, cons}
-use Rattle.terms.specs.Rewriting.{Context, fill}
-use Rattle.terms.specs.Rewriting.Context.{hole, inside}
-use Rattle.multisets.proofs.Relations.{byTest}
-use Rattle.terms.proofs.TermLaws.{among-member, Hereditary, row-each, flattening-each, formed}
+use Rattle.multisets.proofs.Relations.{byTest, byOrder}
+use Rattle.terms.proofs.TermLaws.{Hereditary, row-each, flattening-each}
 use Rattle.terms.proofs.FlatteningLaws.{flattenings-member}
 
-abbrev weights : Signature → Terms → ℕ
+abbrev pub weights : Signature → Terms → ℕ
 weights σ = measures (λ (x : ℕ). σ .w0) (λ (f : ℕ). symbolOf σ f .weight)
 
 module _ (σ : Signature) where
@@ -66,25 +65,26 @@ module _ (σ : Signature) (A : Admissible σ) where
 
   -- ---- nodes
 
-  -- A symbol's weight makes up for its arguments: what it adds to the leaves.
-  enough : (a w n : ℕ) → leastWeight (σ .w0) a ≤ w → n ≡ a → 2 ≤ 2 * w + n
-  enough zero w n h e = omega (arith, A .variableWeighs)
-  enough (suc zero) w n h e = omega arith
-  enough (suc (suc a)) w n h e = omega arith
+  module _ (heavy : NoZeroWeightUnary σ) where
+    -- A symbol's weight makes up for its arguments: what it adds to the leaves.
+    enough : (a w n : ℕ) → leastWeight (σ .w0) a ≤ w → (a ≡ 1 → 1 ≤ w) → n ≡ a → 2 ≤ 2 * w + n
+    enough zero w n h k e = omega (arith, A .variableWeighs)
+    enough (suc zero) w n h k e = omega (arith, k refl)
+    enough (suc (suc a)) w n h k e = omega arith
 
-  mutual
-    pub nodes-le-weight : (t : Term) → WellFormed σ t → size t < 2 * weight σ t
-    nodes-le-weight (var x) w = omega (arith, A .variableWeighs)
-    nodes-le-weight (app f ts) (i, n, w) =
-        omega (
-          arith,
-          nodes-le-weights ts w,
-          enough (symbolOf σ f .arity) (symbolOf σ f .weight) (length (row ts)) (A .weighsEnough f i) n,
-        )
+    mutual
+      pub nodes-le-weight : (t : Term) → WellFormed σ t → size t < 2 * weight σ t
+      nodes-le-weight (var x) w = omega (arith, A .variableWeighs)
+      nodes-le-weight (app f ts) (i, n, w) =
+          omega (
+            arith,
+            nodes-le-weights ts w,
+            enough (symbolOf σ f .arity) (symbolOf σ f .weight) (length (row ts)) (A .weighsEnough f i) (heavy f i) n,
+          )
 
-    nodes-le-weights : (ts : Terms) → WellFormeds σ ts → sizes ts + length (row ts) ≤ 2 * weights σ ts
-    nodes-le-weights nil w = omega arith
-    nodes-le-weights (cons t ts) (v, w) = omega (arith, nodes-le-weight t v, nodes-le-weights ts w)
+      nodes-le-weights : (ts : Terms) → WellFormeds σ ts → sizes ts + length (row ts) ≤ 2 * weights σ ts
+      nodes-le-weights nil w = omega arith
+      nodes-le-weights (cons t ts) (v, w) = omega (arith, nodes-le-weight t v, nodes-le-weights ts w)
 
   -- ---- parts
 
@@ -100,27 +100,13 @@ module _ (σ : Signature) (A : Admissible σ) where
       omega (arith, weight-pos t v, row-each (light (weights σ (cons r ts))) u (cons r ts) (omega arith) m)
 
   pub weight-argument : (f : ℕ) (ts : Terms) → WellFormed σ (app f ts) → (u : Term) → List·Memᴰ u (row ts) →
-      weight σ u < weight σ (app f ts)
+      (weight σ u < weight σ (app f ts)) ⊎ (ZeroWeightUnary σ f × (ts ≡ cons u nil))
   weight-argument f nil w u m = absurd (List·Memᴰ·not-nil m)
   weight-argument f (cons t nil) w u m =
-      let h : leastWeight (σ .w0) 1 ≤ symbolOf σ f .weight =
-      subst (λ (n : ℕ). leastWeight (σ .w0) n ≤ symbolOf σ f .weight) (sym (w .1)) (A .weighsEnough f (w .0)) in
-      rw (List·Memᴰ·eq-of-singleton m) (omega arith)
+      rw (List·Memᴰ·eq-of-singleton m) (byOrder 0 (symbolOf σ f .weight) (λ h. inl (omega arith))
+      λ h. inr (record { unary = sym (w .1); weightless = omega arith }, refl))
   weight-argument f (cons t (cons r ts)) w u m =
-      omega (arith, argument-lighter (cons t (cons r ts)) (omega arith) (w .2) u m)
-
-  pub weight-fill : (f : ℕ) (ss : List Term) (c : Context) (ts : List Term) (t : Term) →
-      WellFormed σ (fill (inside f ss c ts) t) → weight σ t < weight σ (fill (inside f ss c ts) t)
-  weight-fill f ss hole ts t w = weight-argument f (arguments (ss ++ (t ∷ ts))) w t (among-member ss ts t)
-  weight-fill f ss (inside g qs c rs) ts t w =
-      let u = fill (inside g qs c rs) t in
-      let l = arguments (ss ++ (u ∷ ts)) in
-      let m = among-member ss ts u in
-      omega (
-        arith,
-        weight-argument f l w u m,
-        weight-fill g qs c rs t (row-each (formed σ) u l (w .2) m),
-      )
+      inl (omega (arith, argument-lighter (cons t (cons r ts)) (omega arith) (w .2) u m))
 
   module _ (f : ℕ) (binary : symbolOf σ f .arity ≡ 2) where
     pub flattening-lighter : (t : Term) → WellFormed σ t → (u : Term) → List·Memᴰ u (flattening f t) →

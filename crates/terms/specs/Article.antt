@@ -11,8 +11,8 @@ use Rattle.terms.specs.Term.{Term, Terms, row, weight, occurrences, flat
 use Rattle.terms.specs.Term.Term.{var, app}
 use Rattle.multisets.specs.Multiset.{choose, cancel}
 use Rattle.terms.specs.Equivalence.{Equivalent, isEquivalent}
-use Rattle.terms.specs.Order.{rootBelow}
 use Rattle.terms.specs.Iterated.{Iterated}
+use Rattle.terms.specs.Order.{rootBelow}
 
 -- Two lists are one multiset.
 pub data Permutation {A : Type 0} : List A → List A → Type 0 where

@@ -1,5 +1,6 @@
 -- A term under copies of one symbol.
--- Renders: 000, Definition 5.1, case 0, and 004, Definition 3.3, case 1: "s = f^k(t), t ∈ V for some k > 0".
+-- Renders: 000, Definition 5.1, case 0, and 004, Definition 3.3, case 1: "s = f^k(t), t ∈ V for some k > 0"; 02,
+-- order 8: "the right side is a variable and the left that variable under one or more copies of the wrapper".
 use mathlib.Core.Bool.{Bool, false, _&&_}
 use Prim.Native.Nat.{ℕ}
 use lib.Dec.{eqb}

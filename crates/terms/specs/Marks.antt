@@ -1,15 +1,17 @@
--- What each of the marks 1 to 10 asks of a left and a right side.
+-- What each of the marks 1 to 11 asks of a left and a right side.
 -- Renders: 01, "The order", marks 1 to 6 and "Otherwise: 7 a variable occurs oftener on the right; else 8 the left
--- weighs less; else 9 the sides are AC-equal; else 10."
+-- weighs less; else 9 the sides are AC-equal; else 10."; 02, order 8: "Mark 11, weights equal, means that the right
+-- side is a variable and the left that variable under one or more copies of the wrapper".
 use mathlib.Core.Path.{_≡_}
 use mathlib.Core.Bool.{true, false}
 use Prim.Native.Nat.{ℕ, _≤_, _<_}
 use lib.ListN.{length}
-use Rattle.terms.specs.Signature.{Signature, symbolOf}
+use Rattle.terms.specs.Signature.{Signature, symbolOf, ZeroWeightUnary}
 use Rattle.terms.specs.Term.{Term, Terms, row, weight, occurrences, variableCount, flattenings}
-use Rattle.terms.specs.Term.Term.{app}
+use Rattle.terms.specs.Term.Term.{var, app}
 use Rattle.multisets.specs.Multiset.{rowGreater}
 use Rattle.terms.specs.Equivalence.{Equivalent, isEquivalent}
+use Rattle.terms.specs.Iterated.{Iterated}
 use Rattle.terms.specs.Order.{highGreater, highEqual, lowGreater, isGreater}
 
 -- No variable occurs oftener in t.
@@ -44,3 +46,5 @@ module _ (σ : Signature) where
     mark8 : {s t : Term} → NoneOftener s t → weight σ s < weight σ t → Marked 8 s t
     mark9 : {s t : Term} → Equivalent σ s t → Marked 9 s t
     mark10 : {s t : Term} → Balanced s t → isGreater σ s t ≡ false → (Equivalent σ s t → ⊥) → Marked 10 s t
+    mark11 : {f x : ℕ} {s : Term} → Balanced s (var x) → ZeroWeightUnary σ f → Iterated f s (var x) →
+        Marked 11 s (var x)

@@ -1,6 +1,7 @@
--- The AC-compatible Knuth-Bendix order, the marks 1 to 10, and the margin.
+-- The AC-compatible Knuth-Bendix order, the marks 1 to 11, and the margin.
 -- Renders: 01, "The order", from "Marks 1 to 6 need" to "Exactly one mark holds"; "Comparing": "the margin: left weight
--- minus right weight, signed". 01 takes the order from Definition 5.1 of 000.
+-- minus right weight, signed"; 02, order 8, mark 11: "It counts as falling, also for parts compared within, and is
+-- tested before 10". 01 takes the order from Definition 5.1 of 000.
 use mathlib.Core.List.{List, _++_}
 use mathlib.Core.Bool.{Bool, true, false, cond, _&&_, not}
 use Prim.Native.Nat.{ℕ, suc, zero}
@@ -12,6 +13,7 @@ use Rattle.terms.specs.Signature.{Signature, symbolOf}
 use Rattle.terms.specs.Term.{Term, size, row, weight, occurrences, variableCount, flattenings, isVar}
 use Rattle.terms.specs.Term.Term.{var, app}
 use Rattle.terms.specs.Equivalence.{isEquivalent}
+use Rattle.terms.specs.Iterated.{isPower}
 
 -- None of the variables below n occurs oftener in t.
 unfoldable pub noneOftener : ℕ → Term → Term → Bool
@@ -64,10 +66,10 @@ module _ (σ : Signature) where
           (cond (eqb (length ts) (length ss) && lowGreater f ss ts) 6 0))
           0)
 
-      -- Marks 2 to 6, for equal weights; 0 where none holds.
+      -- Marks 2 to 6 and 11, for equal weights; 0 where none holds.
       unfoldable pub rootMark : Term → Term → ℕ
       rootMark (var x) t = 0
-      rootMark (app f ss) (var y) = 0
+      rootMark (app f ss) (var y) = cond (isPower f y (app f ss)) 11 0
       rootMark (app f ss) (app g ts) =
           cond (ltb (symbolOf σ g .precedence) (symbolOf σ f .precedence)) 2
           (cond (eqb f g)
@@ -76,7 +78,7 @@ module _ (σ : Signature) where
           (cond (rowGreater like greater (row ss) (row ts)) 3 0))
           0)
 
-      -- Marks 1 to 6; 0 where none holds.
+      -- Marks 1 to 6 and 11; 0 where none holds.
       unfoldable pub decreasingMark : Term → Term → ℕ
       decreasingMark s t =
           cond (noneOftener variableCount s t)
@@ -95,10 +97,11 @@ module _ (σ : Signature) where
   unfoldable pub mark : Term → Term → ℕ
   mark s t =
       let m = decreasingMark (isEquivalent σ) isGreater s t in
-      cond (ltb 0 m) m
+      cond (ltb 0 m && ltb m 7) m
       (cond (not (noneOftener variableCount s t)) 7
       (cond (ltb (weight σ s) (weight σ t)) 8
-      (cond (isEquivalent σ s t) 9 10)))
+      (cond (isEquivalent σ s t) 9
+      (cond (eqb m 11) 11 10))))
 
   abbrev pub margin : Term → Term → ℤ
   margin s t = subℕ (weight σ s) (weight σ t)

@@ -1,48 +1,35 @@
 -- The test of the order gives the article's order, on well-formed terms.
---     iterated-heavier      case 0 holds of no terms of equal weight
 --     notBelow-high         the terms not below f are the high part
 --     isGreater→Greater     the test gives the article's order
-use mathlib.Core.List.{List, List·Memᴰ·head}
+use mathlib.Core.List.{List}
 use mathlib.Core.Path.{_≡_, refl, sym}
 use mathlib.Core.Bool.{true, _&&_, not}
-use Prim.Native.Nat.{ℕ, suc, zero, _≤_, _<_}
+use Prim.Native.Nat.{ℕ, suc, zero, _≤_}
 use native.Mathlib.Omega.{arith}
 use Rattle.terms.specs.Signature.{Signature, symbolOf, Admissible}
-use Rattle.terms.specs.Term.{Term, Terms, row, size, isVar, flattenings, weight, WellFormed}
+use Rattle.terms.specs.Term.{Term, Terms, row, size, isVar, flattenings, WellFormed}
 use Rattle.terms.specs.Term.Term.{var, app}
-use Rattle.terms.specs.Term.Terms.{nil, cons}
 use Rattle.terms.specs.Equivalence.{Equivalent, isEquivalent}
 use Rattle.terms.specs.Order.{rootAbove, rootBelow, highPart, lowPart, joinedHigh, highEqual, isGreater}
 use Rattle.terms.specs.Article.{Even, MultisetEquivalent, notBelow, notBelowJoined, Greater}
-use Rattle.terms.specs.Article.Greater.{heavier, case1, case2, case3a, case3b, case3c}
-use Rattle.terms.specs.Iterated.{Iterated}
-use Rattle.terms.specs.Iterated.Iterated.{once, more}
+use Rattle.terms.specs.Article.Greater.{heavier, case0, case1, case2, case3a, case3b, case3c}
 use Rattle.multisets.proofs.MultisetMaps.{choose-same}
 use Rattle.terms.proofs.TermLaws.{size-pos, row-each, formed, row-smaller, flattenings-smaller, flattenings-formed}
 use Rattle.terms.proofs.TermLaws.{Each, each-choose, Parts}
 use Rattle.terms.proofs.FlatteningLaws.{NotRoot, flattenings-roots}
 use Rattle.terms.proofs.OrderLaws.{each-joined}
 use Rattle.terms.proofs.VariableLaws.{noneOftener-everywhere}
-use Rattle.terms.proofs.WeightLaws.{weight-argument}
+use Rattle.terms.proofs.IteratedLaws.{isPower→Iterated}
 use Rattle.terms.proofs.Theorems.{test-decides}
 use Rattle.theory.proofs.RootTests.{root-apart}
 use Rattle.theory.proofs.DecreasesView.{FlattenedDecreases, RootDecreases, Decreases, isGreater-view}
 use Rattle.theory.proofs.DecreasesView.Decreases.{byWeight, byRoot}
 use Rattle.theory.proofs.DecreasesView.FlattenedDecreases.{byHigh, byLength, byLow}
-use Rattle.theory.proofs.DecreasesView.RootDecreases.{byPrecedence, byRow, byFlattening}
+use Rattle.theory.proofs.DecreasesView.RootDecreases.{byPrecedence, byRow, byFlattening, byPower}
 use Rattle.theory.proofs.ArticleTests.{multisetEqual→MultisetEquivalent, multisetGreater→MultisetGreater}
 use Rattle.theory.proofs.ArticleTests.{rowGreater→LexGreater}
 
 module _ (σ : Signature) (A : Admissible σ) where
-  pub iterated-heavier : {f : ℕ} {s t : Term} → Iterated f s t → WellFormed σ s → weight σ t < weight σ s
-  iterated-heavier {f} (once {t}) w = weight-argument σ A f (cons t nil) w t (List·Memᴰ·head refl)
-  iterated-heavier {f} (more {s} {t} i) w =
-      omega (
-        arith,
-        weight-argument σ A f (cons s nil) w s (List·Memᴰ·head refl),
-        iterated-heavier i (w .2 .0),
-      )
-
   pub notBelow-high : (f : ℕ) (ts : Terms) → WellFormed σ (app f ts) →
       notBelow σ f (flattenings f ts) ≡ highPart σ f (flattenings f ts)
   notBelow-high f ts w =
@@ -115,6 +102,7 @@ module _ (σ : Signature) (A : Admissible σ) where
         case2 o c (rowGreater→LexGreater σ Small (WellFormed σ) equivalent greater (row ss) (row ts)
         (small-parts (app f ss) v l .0) (λ b. row-each (formed σ) b ts (w .2)) r)
     root-case l v w o (byFlattening {f} {ss} {ts} c d) = flat-case f ss ts v w l o c d
+    root-case l v w o (byPower {f} {x} {ss} e) = case0 o (isPower→Iterated f x f ss e)
 
     decreases-case : (s t : Term) → size s ≤ suc n → WellFormed σ s → WellFormed σ t →
         Decreases σ (isEquivalent σ) (isGreater σ) s t → Greater σ s t

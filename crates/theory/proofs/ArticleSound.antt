@@ -27,14 +27,15 @@ use Rattle.multisets.proofs.MultisetOrder.{CoversList, multisetGreater-exchange
 use Rattle.terms.proofs.TermLaws.{row-each, formed, flattenings-formed, each-choose}
 use Rattle.terms.proofs.EquivalenceComplete.{Equivalent→isEquivalent}
 use Rattle.terms.proofs.OrderLaws.{each-joined, joinedHigh-agree}
-use Rattle.theory.proofs.DecreasesView.{RootDecreases, isGreater-view}
+use Rattle.terms.proofs.IteratedLaws.{Iterated→isPower}
+use Rattle.theory.proofs.DecreasesView.{RootDecreases, root-of-iterated, isGreater-view}
 use Rattle.theory.proofs.DecreasesView.Decreases.{byWeight, byRoot}
 use Rattle.theory.proofs.DecreasesView.FlattenedDecreases.{byHigh, byLength, byLow}
 use Rattle.theory.proofs.DecreasesView.RootDecreases.{byPrecedence, byRow, byFlattening}
 use Rattle.theory.proofs.FormedLaws.{likeFormed, likeFormed-equivalence, like-formed, Formed}
 use Rattle.theory.proofs.StrictOrder.{greaterFormed, greaterFormed-order, formed-view, greaterFormed-view}
 use Rattle.theory.proofs.PermutationLaws.{permutation-sum, permutation-member}
-use Rattle.theory.proofs.ArticleComplete.{iterated-heavier, notBelow-high}
+use Rattle.theory.proofs.ArticleComplete.{notBelow-high}
 
 module _ (σ : Signature) (A : Admissible σ) where
   abbrev E : IsEquivalence (likeFormed σ)
@@ -140,7 +141,8 @@ module _ (σ : Signature) (A : Admissible σ) where
   mutual
     pub Greater→isGreater : {s t : Term} → Greater σ s t → WellFormed σ s → WellFormed σ t → isGreater σ s t ≡ true
     Greater→isGreater (heavier {s} {t} o h) v w = isGreater-view σ s t .1 (byWeight (λ x k. o x) h)
-    Greater→isGreater (case0 o i) v w = absurd (omega (arith, iterated-heavier σ A i v, o .weights))
+    Greater→isGreater (case0 {f} {x} o i) v w =
+        by-root v w o (root-of-iterated σ (likeFormed σ) (greaterFormed σ) i (Iterated→isPower f x i))
     Greater→isGreater (case1 o h) v w = by-root v w o (byPrecedence h)
     Greater→isGreater (case2 {ss} {ts} o c l) v w =
         by-root v w o (byRow c (LexGreater→rowGreater l (λ a. row-each (formed σ) a ss (v .2))

@@ -11,7 +11,7 @@ use mathlib.Core.Bool.{true}
 use Prim.Native.Nat.{ℕ, suc, _-_, _*_, _^_, _≤_, _<_}
 use native.Mathlib.Omega.{arith}
 use lib.ListN.{length}
-use Rattle.terms.specs.Signature.{Signature, symbolOf, Admissible}
+use Rattle.terms.specs.Signature.{Signature, symbolOf, NoZeroWeightUnary, Admissible}
 use Rattle.terms.specs.Term.{Term, Terms, row, weight, WellFormeds, Expression}
 use Rattle.terms.specs.Term.Term.{var, app}
 use Rattle.terms.specs.Term.Terms.{nil, cons}
@@ -69,7 +69,7 @@ module _ (σ : Signature) where
         wordsOf-prefix ss ts xs ys (omega arith) (expressions σ .tail s ss d) (expressions σ .tail t ts e) q in
         (ap₂ cons p r, z)
 
-module _ (σ : Signature) (A : Admissible σ) (W : ℕ) where
+module _ (σ : Signature) (A : Admissible σ) (heavy : NoZeroWeightUnary σ) (W : ℕ) where
   -- An expression of weight at most W.
   abbrev Light : Term → Type 0
   Light u = Expression σ u × (weight σ u ≤ W)
@@ -79,7 +79,7 @@ module _ (σ : Signature) (A : Admissible σ) (W : ℕ) where
   number u = numberTo (length (σ .symbols)) (2 * W - 1) (words u)
 
   words-short : (u : Term) → Light u → length (words u) ≤ 2 * W - 1
-  words-short u (e, l) = omega (arith, length-words u, nodes-le-weight σ A u (e .0))
+  words-short u (e, l) = omega (arith, length-words u, nodes-le-weight σ A heavy u (e .0))
 
   numbers-differ : (s t : Term) → Light s → Light t → isGreater σ s t ≡ true → number s ≡ number t → ⊥
   numbers-differ s t b c g e =
@@ -97,11 +97,11 @@ module _ (σ : Signature) (A : Admissible σ) (W : ℕ) where
       (λ u m. numberTo-lt (length (σ .symbols)) (2 * W - 1) (words u) (words-below σ u (b u m .0)))
       (sorted-within l (λ s t m k. numbers-differ s t (b s m) (b t k)) d)
 
-pub stepCount-ceiling : (R : System) → Admissible (R .signature) → WellFormedRules R → AllDecreasing R →
-    {s t : Term} (d : Derivation R s t) → Expression (R .signature) s →
+pub stepCount-ceiling : (R : System) → Admissible (R .signature) → NoZeroWeightUnary (R .signature) →
+    WellFormedRules R → AllDecreasing R → {s t : Term} (d : Derivation R s t) → Expression (R .signature) s →
     stepCount R d < suc (length (R .signature .symbols)) ^ (2 * weight (R .signature) s - 1)
-stepCount-ceiling R A W D {s} d e =
+stepCount-ceiling R A heavy W D {s} d e =
     let σ = R .signature in
     let h =
-    descending-ceiling σ A (weight σ s) (along R d) (along-expressions R A W D d e) (along-descends R A W D d) in
+    descending-ceiling σ A heavy (weight σ s) (along R d) (along-expressions R A W D d e) (along-descends R A W D d) in
     omega (arith, length-along R d)

@@ -1,39 +1,48 @@
 -- The order is kept by contexts, on expressions, and a term is greater than what fills a context in it.
---     greater-part        a term is greater than each of its proper parts
+--     greater-argument    a term is greater than each of its arguments
+--     greater-part        and so than each of its proper parts
+--     greater-iterated    f^k(t) is greater than t
 --     greater-parts       what is greater than an expression is greater than each element of its flattening
 --     greater-flat        at equal weights, the flattenings decrease
 --     greater-fill        a context around
-use mathlib.Core.List.{List, [], _∷_, _++_, List·Memᴰ, List·Memᴰ·eq-of-singleton}
+use mathlib.Core.List.{List, [], _∷_, _++_, List·Memᴰ, List·Memᴰ·head, List·Memᴰ·eq-of-singleton}
 use mathlib.Core.Logic.{⊎-elim}
 use mathlib.Core.Path.{_≡_, refl, sym, _∙_}
 use mathlib.Core.Bool.{true, true≢false}
-use Prim.Native.Nat.{ℕ, _≤_, _<_}
+use Prim.Native.Nat.{ℕ, suc, zero, _≤_, _<_}
 use native.Mathlib.Omega.{arith}
 use borrow.Author.Tests.{eq-eqb}
-use Rattle.terms.specs.Signature.{Signature, symbolOf, IsSymbol, Admissible}
-use Rattle.terms.specs.Term.{Term, Terms, arguments, flattening, flattenings, weight, WellFormed, Expression}
+use Rattle.terms.specs.Signature.{Signature, symbolOf, IsSymbol, ZeroWeightUnary, Admissible}
+use Rattle.terms.specs.Term.{Term, Terms, row, arguments, size, flattening, flattenings, weight, WellFormed}
+use Rattle.terms.specs.Term.{Expression}
 use Rattle.terms.specs.Term.Term.{var, app}
+use Rattle.terms.specs.Term.Terms.{nil, cons}
+use Rattle.terms.specs.Iterated.{Iterated}
+use Rattle.terms.specs.Iterated.Iterated.{once, more}
 use Rattle.terms.specs.Order.{variables, rootAbove, highPart, isGreater}
 use Rattle.terms.specs.Rewriting.{Context, fill, ExpressionContext}
 use Rattle.terms.specs.Rewriting.Context.{hole, inside}
-use Rattle.multisets.proofs.Relations.{byTest, byOrder, eqb-self, IsEquivalence, IsStrictOrder}
-use Rattle.multisets.proofs.RowLaws.{rowGreater-among}
+use Rattle.multisets.proofs.Relations.{byTest, byOrder, refuted, eqb-self, IsEquivalence, IsStrictOrder}
+use Rattle.multisets.proofs.RowLaws.{first-row, rowGreater-among}
+use Rattle.multisets.proofs.RowLaws.First.{ahead}
 use Rattle.multisets.proofs.MultisetLaws.{multisetEqual-equivalence}
 use Rattle.multisets.proofs.MultisetOrder.{multiset-part, multisetGreater-one}
-use Rattle.terms.proofs.TermLaws.{row-arguments, flattening-each, each-choose}
+use Rattle.terms.proofs.TermLaws.{row-arguments, among-member, size-pos, row-each, flattening-each, formed}
+use Rattle.terms.proofs.TermLaws.{each-choose}
 use Rattle.terms.proofs.FlatteningLaws.{flattenings-among, flattenings-long}
-use Rattle.terms.proofs.RewritingLaws.{fill-expression}
-use Rattle.terms.proofs.VariableLaws.{oftener-fill, not-ground, noneOftener-ground, expressions}
-use Rattle.terms.proofs.WeightLaws.{weight-among-lt, weight-among-same, weight-fill, flattening-lighter}
+use Rattle.terms.proofs.RewritingLaws.{formed-filling, fill-expression}
+use Rattle.terms.proofs.VariableLaws.{occurrences-argument, not-ground, noneOftener-ground, expressions}
+use Rattle.terms.proofs.WeightLaws.{weight-among-lt, weight-among-same, weight-argument, flattening-lighter}
+use Rattle.terms.proofs.IteratedLaws.{Iterated→isPower}
 use Rattle.theory.proofs.RootTests.{place, above-says, below-says}
 use Rattle.theory.proofs.RootTests.Placed.{placedAbove, placedOwn, placedBelow}
 use Rattle.theory.proofs.DecreasesView.{FlattenedDecreases, RootDecreases, isGreater-view}
 use Rattle.theory.proofs.DecreasesView.Decreases.{byWeight, byRoot}
 use Rattle.theory.proofs.DecreasesView.FlattenedDecreases.{byLength, byLow}
-use Rattle.theory.proofs.DecreasesView.RootDecreases.{byPrecedence, byRow, byFlattening}
+use Rattle.theory.proofs.DecreasesView.RootDecreases.{byPrecedence, byRow, byFlattening, byPower}
 use Rattle.theory.proofs.FormedLaws.{likeFormed, likeFormed-equivalence}
 use Rattle.theory.proofs.StrictOrder.{greaterFormed, greaterFormed-order, formed-view, greaterFormed-view}
-use Rattle.theory.proofs.StrictOrder.{greater-weight}
+use Rattle.theory.proofs.StrictOrder.{isGreater-order, greater-weight}
 use Rattle.theory.proofs.FlattenedLaws.{no-variables, flattened-high, flattened-level, flattened-around}
 
 module _ (σ : Signature) (A : Admissible σ) where
@@ -43,12 +52,64 @@ module _ (σ : Signature) (A : Admissible σ) where
   abbrev O : IsStrictOrder (likeFormed σ) (greaterFormed σ)
   O = greaterFormed-order σ A
 
+  -- ---- parts
+
+  -- A weightless symbol is above every other; where it is the root of its argument too, their arguments decide.
+  module _ (f : ℕ) (z : ZeroWeightUnary σ f) where
+    abbrev over : Term → Term
+    over u = app f (cons u nil)
+
+    weightless-own : (us : Terms) → WellFormed σ (over (app f us)) →
+        ((u : Term) → size u < size (app f us) → WellFormed σ (over u) → isGreater σ (over u) u ≡ true) →
+        RootDecreases σ (likeFormed σ) (greaterFormed σ) (over (app f us)) (app f us)
+    weightless-own nil w ih = absurd (omega (arith, w .2 .0 .1, z .unary))
+    weightless-own (cons u nil) w ih =
+        byRow (refuted (symbolOf σ f .ac) λ a. omega (arith, A .acBinary f a, z .unary))
+        (first-row (likeFormed σ) E (greaterFormed σ) O [] []
+        (ahead (greaterFormed-view σ (over u) u .1 (w .2 .0, w .2 .0 .2 .0, ih u (omega arith) (w .2 .0)))))
+    weightless-own (cons u (cons t us)) w ih = absurd (omega (arith, w .2 .0 .1, z .unary))
+
+    weightless-roots : (u : Term) → WellFormed σ (over u) →
+        ((t : Term) → size t < size u → WellFormed σ (over t) → isGreater σ (over t) t ≡ true) →
+        RootDecreases σ (likeFormed σ) (greaterFormed σ) (over u) u
+    weightless-roots (var x) w ih = byPower (Iterated→isPower f x once)
+    weightless-roots (app g us) w ih = elim (place σ f g A (w .0) (w .2 .0 .0)) [
+      | placedAbove l ↦ absurd (omega (arith, A .zeroWeightHighest f g (w .0) (w .2 .0 .0) z))
+      | placedOwn e ↦ rw (← e) (weightless-own us (rw (← e) at w) ih)
+      | placedBelow l ↦ byPrecedence l
+    ]
+
+    weightless-greater : (n : ℕ) (u : Term) → size u ≤ n → WellFormed σ (over u) → isGreater σ (over u) u ≡ true
+    weightless-greater zero u l w = absurd (omega (arith, size-pos u))
+    weightless-greater (suc n) u l w =
+        formed-view σ (over u) u w (w .2 .0) .1
+        (byRoot (record { none = λ x h. omega arith; weights = omega (arith, z .weightless) })
+        (weightless-roots u w λ t k. weightless-greater n t (omega arith)))
+
+  pub greater-argument : (f : ℕ) (ts : Terms) (u : Term) → WellFormed σ (app f ts) → List·Memᴰ u (row ts) →
+      isGreater σ (app f ts) u ≡ true
+  greater-argument f ts u w m =
+      ⊎-elim (λ l. isGreater-view σ (app f ts) u .1 (byWeight (λ x h. occurrences-argument x f ts u m) l))
+      (λ h. rw (h .1) (weightless-greater f (h .0) (size u) u (omega arith) (rw (h .1) at w)))
+      (weight-argument σ A f ts w u m)
+
   pub greater-part : (f : ℕ) (ss : List Term) (c : Context) (ts : List Term) (t : Term) →
       WellFormed σ (fill (inside f ss c ts) t) → isGreater σ (fill (inside f ss c ts) t) t ≡ true
-  greater-part f ss c ts t w =
-      let s = fill (inside f ss c ts) t in
-      isGreater-view σ s t .1
-      (byWeight (λ x h. oftener-fill (inside f ss c ts) t x) (weight-fill σ A f ss c ts t w))
+  greater-part f ss hole ts t w = greater-argument f (arguments (ss ++ (t ∷ ts))) t w (among-member ss ts t)
+  greater-part f ss (inside g qs c rs) ts t w =
+      let u = fill (inside g qs c rs) t in
+      let l = arguments (ss ++ (u ∷ ts)) in
+      let m = among-member ss ts u in
+      let v = row-each (formed σ) u l (w .2) m in
+      isGreater-order σ A .transitive w v (formed-filling σ (inside g qs c rs) t v) (greater-argument f l u w m)
+      (greater-part g qs c rs t v)
+
+  pub greater-iterated : {f : ℕ} {s t : Term} → Iterated f s t → WellFormed σ s → WellFormed σ t →
+      isGreater σ s t ≡ true
+  greater-iterated {f} (once {t}) w v = greater-argument f (cons t nil) t w (List·Memᴰ·head refl)
+  greater-iterated {f} (more {s} i) w v =
+      isGreater-order σ A .transitive w (w .2 .0) v (greater-argument f (cons s nil) s w (List·Memᴰ·head refl))
+      (greater-iterated i (w .2 .0) v)
 
   pub greater-parts : (f : ℕ) → symbolOf σ f .arity ≡ 2 → (s t : Term) → Expression σ t →
       greaterFormed σ s t ≡ true → (u : Term) → List·Memᴰ u (flattening f t) → greaterFormed σ s u ≡ true

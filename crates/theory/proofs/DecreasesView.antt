@@ -1,5 +1,6 @@
--- The order by its cases: what each of the marks 1 to 6 asks, over any likeness and any order of the parts.
---     FlattenedDecreases, RootDecreases, Decreases   marks 4 to 6, marks 2 to 6, marks 1 to 6
+-- The order by its cases: what each of the marks 1 to 6 and 11 asks, over any likeness and any order of the parts.
+--     FlattenedDecreases, RootDecreases, Decreases   marks 4 to 6; 2 to 6 and 11; 1 to 6 and 11
+--     root-of-iterated                               f^k(x) is above x
 --     argumentsMark, rootMark-same                   the computed mark of two terms with one root
 --     decreases-view, isGreater-view                 the cases say what the computed mark and the order say
 use mathlib.Core.List.{List}
@@ -16,6 +17,8 @@ use Rattle.terms.specs.Signature.{Signature, symbolOf}
 use Rattle.terms.specs.Term.{Term, Terms, row, flattenings, variableCount, weight}
 use Rattle.terms.specs.Term.Term.{var, app}
 use Rattle.terms.specs.Equivalence.{isEquivalent}
+use Rattle.terms.specs.Iterated.{Iterated, isPower}
+use Rattle.terms.specs.Iterated.Iterated.{once, more}
 use Rattle.terms.specs.Order.{noneOftener, highEqual, highGreater, lowGreater, flattenedMark, rootMark}
 use Rattle.terms.specs.Order.{decreasingMark, isGreater}
 use Rattle.terms.specs.Marks.{NoneOftener, Balanced}
@@ -30,7 +33,7 @@ module _ (σ : Signature) (like greater : Term → Term → Bool) where
     byLow : highEqual σ like f ss ts ≡ true → length ts ≡ length ss → lowGreater σ like greater f ss ts ≡ true →
         FlattenedDecreases f ss ts
 
-  -- Marks 2 to 6, for equal weights.
+  -- Marks 2 to 6 and 11, for equal weights.
   pub data RootDecreases : Term → Term → Type 0 where
     byPrecedence : {f g : ℕ} {ss ts : Terms} → symbolOf σ g .precedence < symbolOf σ f .precedence →
         RootDecreases (app f ss) (app g ts)
@@ -39,11 +42,16 @@ module _ (σ : Signature) (like greater : Term → Term → Bool) where
     byFlattening : {f : ℕ} {ss ts : Terms} → symbolOf σ f .ac ≡ true →
         FlattenedDecreases f (flattenings f ss) (flattenings f ts) →
         RootDecreases (app f ss) (app f ts)
+    byPower : {f x : ℕ} {ss : Terms} → isPower f x (app f ss) ≡ true → RootDecreases (app f ss) (var x)
 
-  -- Marks 1 to 6.
+  -- Marks 1 to 6 and 11.
   pub data Decreases (s t : Term) : Type 0 where
     byWeight : NoneOftener s t → weight σ t < weight σ s → Decreases s t
     byRoot : Balanced σ s t → RootDecreases s t → Decreases s t
+
+  pub root-of-iterated : {f x : ℕ} {s t : Term} → Iterated f s t → isPower f x s ≡ true → RootDecreases s (var x)
+  root-of-iterated once e = byPower e
+  root-of-iterated (more i) e = byPower e
 
 -- ---- the computed mark
 
@@ -85,7 +93,7 @@ module _ (σ : Signature) (like greater : Term → Term → Bool) where
   root-of-mark : (s t : Term) → ltb 0 (rootMark σ like greater s t) ≡ true → RootDecreases σ like greater s t
   unfolding rootMark
   root-of-mark (var x) t h = absurd (false≢true h)
-  root-of-mark (app f ss) (var y) h = absurd (false≢true h)
+  root-of-mark (app f ss) (var y) h = byTest (isPower f y (app f ss)) byPower λ e. absurd (false≢true (rw e at h))
   root-of-mark (app f ss) (app g ts) h =
       byTest (ltb (symbolOf σ g .precedence) (symbolOf σ f .precedence)) (λ e. byPrecedence (ltb-true _ _ e))
       λ e. byTest (eqb f g)
@@ -101,6 +109,7 @@ module _ (σ : Signature) (like greater : Term → Term → Bool) where
   mark-of-root (byRow {f} {ss} {ts} c b) = ap (ltb 0) (rootMark-same f ss ts) ∙ rw (c, b)
   mark-of-root (byFlattening {f} {ss} {ts} c d) =
       ap (ltb 0) (rootMark-same f ss ts) ∙ rw c (mark-of-flattened f (flattenings f ss) (flattenings f ts) d)
+  mark-of-root (byPower e) = rw e
 
   decreases-of-mark : (s t : Term) → ltb 0 (decreasingMark σ like greater s t) ≡ true → Decreases σ like greater s t
   unfolding decreasingMark

@@ -9,7 +9,7 @@ use mathlib.Core.Bool.{true, false≢true}
 use Prim.Native.Nat.{ℕ, suc, zero, _-_, _*_, _^_, _≤_, _<_}
 use native.Mathlib.Omega.{arith}
 use Rattle.multisets.specs.Multiset.{multisetEqual, rowEqual, multisetGreater, rowGreater}
-use Rattle.terms.specs.Signature.{leastWeight, symbolOf, IsSymbol, Admissible}
+use Rattle.terms.specs.Signature.{leastWeight, symbolOf, IsSymbol, NoZeroWeightUnary, Admissible}
 use Rattle.terms.specs.Term.{Term, weight, WellFormed, Expression}
 use Rattle.terms.specs.Equivalence.{isEquivalentTo, isEquivalent}
 use Rattle.terms.specs.Equivalence.Equivalent.{same, then, under, exchange, regroup}
@@ -36,14 +36,19 @@ sample-binary (suc (suc (suc (suc (suc (suc f)))))) e = absurd (false≢true e)
 
 -- A symbol of the sample has its number as its rank, and weighs enough.
 sample-symbol : (f : ℕ) → IsSymbol sample f →
-    (symbolOf sample f .precedence ≡ f) × (leastWeight 1 (symbolOf sample f .arity) ≤ symbolOf sample f .weight)
-sample-symbol zero h = (refl, omega arith)
-sample-symbol (suc zero) h = (refl, omega arith)
-sample-symbol (suc (suc zero)) h = (refl, omega arith)
-sample-symbol (suc (suc (suc zero))) h = (refl, omega arith)
-sample-symbol (suc (suc (suc (suc zero)))) h = (refl, omega arith)
-sample-symbol (suc (suc (suc (suc (suc zero))))) h = (refl, omega arith)
+    (symbolOf sample f .precedence ≡ f) ×
+    (leastWeight 1 (symbolOf sample f .arity) ≤ symbolOf sample f .weight) ×
+    (symbolOf sample f .arity ≡ 1 → 1 ≤ symbolOf sample f .weight)
+sample-symbol zero h = (refl, omega arith, λ e. omega arith)
+sample-symbol (suc zero) h = (refl, omega arith, λ e. omega arith)
+sample-symbol (suc (suc zero)) h = (refl, omega arith, λ e. omega arith)
+sample-symbol (suc (suc (suc zero))) h = (refl, omega arith, λ e. omega arith)
+sample-symbol (suc (suc (suc (suc zero)))) h = (refl, omega arith, λ e. omega arith)
+sample-symbol (suc (suc (suc (suc (suc zero))))) h = (refl, omega arith, λ e. omega arith)
 sample-symbol (suc (suc (suc (suc (suc (suc f)))))) h = absurd (omega arith)
+
+heavy : NoZeroWeightUnary sample
+heavy f h = sample-symbol f h .2
 
 pub admissible : Admissible sample
 admissible = record {
@@ -51,6 +56,7 @@ admissible = record {
   acBinary = sample-binary;
   weighsEnough = λ f h. sample-symbol f h .1;
   precedencesDiffer = λ f g h k e. sym (sample-symbol f h .0) ∙ e ∙ sample-symbol g k .0;
+  zeroWeightHighest = λ f g h k z. absurd (omega (arith, heavy f h (z .unary), z .weightless));
 }
 
 -- ---- three rules
@@ -90,7 +96,7 @@ all-decreasing = of-rules (Decreasing sample) refl refl refl
 
 ceiling : {s t : Term} (d : Derivation sampleSystem s t) → Expression sample s →
     stepCount sampleSystem d < 7 ^ (2 * weight sample s - 1)
-ceiling d = stepCount-ceiling sampleSystem admissible formed-rules all-decreasing d
+ceiling d = stepCount-ceiling sampleSystem admissible heavy formed-rules all-decreasing d
 
 none-around : Expressions sample []
 none-around t m = absurd (List·Memᴰ·not-nil m)

@@ -3,7 +3,7 @@
 --     like-formed                                 on well-formed terms it is the test
 --     Formed, equal-formed                        and so for lists of them as multisets
 --     alike-of-test                               what AC-equivalent terms have in common
---     greaterWithin-lowest, mark-formed           an order held; the marks 1 to 6 over the tests held
+--     greaterWithin-lowest, mark-formed           an order held; the marks over the tests held
 use mathlib.Core.List.{List}
 use mathlib.Core.Path.{_≡_, sym, _∙_}
 use mathlib.Core.Bool.{Bool, true, false, false≢true}
@@ -23,6 +23,7 @@ use Rattle.terms.proofs.FormedTest.{isFormed, formed-decides}
 use Rattle.terms.proofs.EquivalenceLaws.{argumentsAlike-agree, isEquivalent-equivalence, symbol-of-isEquivalent}
 use Rattle.terms.proofs.EquivalenceLaws.{arguments-of-isEquivalent}
 use Rattle.terms.proofs.OrderLaws.{decreasingMark-agree}
+use Rattle.terms.proofs.IteratedLaws.{power-resp-equivalent}
 use Rattle.terms.proofs.Theorems.{test-decides, measures-respect-equivalence}
 use Rattle.theory.proofs.RootTests.{KeepsRoots, isEquivalent-root}
 use Rattle.theory.proofs.MarkInvariance.{SameRoot, Alike}
@@ -71,8 +72,14 @@ module _ (σ : Signature) where
   pub alike-of-test : AcBinary σ → {s t : Term} → WellFormed σ s → WellFormed σ t → isEquivalent σ s t ≡ true →
       Alike σ likeFormed s t
   alike-of-test binary {s} {t} v w e =
-      let i = measures-respect-equivalence σ s t (test-decides σ binary s t v w .0 e) in
-      record { weights = i .weight; oftenness = i .occurrences; roots = sameRoot s t v w e }
+      let d = test-decides σ binary s t v w .0 e in
+      let i = measures-respect-equivalence σ s t d in
+      record {
+        weights = i .weight;
+        oftenness = i .occurrences;
+        powers = λ f x. power-resp-equivalent f x σ d;
+        roots = sameRoot s t v w e;
+      }
 
   -- ---- an order
 

@@ -10,6 +10,7 @@ pub mod StrictOrder
 pub mod MarkLaws
 pub mod FlattenedLaws
 pub mod TotalOrder
+pub mod WellFounded
 pub mod PermutationLaws
 pub mod ArticleTests
 pub mod ArticleComplete
@@ -27,5 +28,6 @@ pub mod Pigeonhole
 pub mod RenumberedRules
 pub mod Ceiling
 pub mod Examples
+mod WeightlessExample
 pub mod Theorems
 mod SteinbachChecks

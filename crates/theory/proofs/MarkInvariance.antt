@@ -1,10 +1,10 @@
 -- Like terms have the same mark, over a likeness that keeps roots and an order of the parts that it is compatible with.
 --     SameRoot, Alike         what is asked of like terms
 --     flattenedMark-resp      the marks 4 to 6 do not tell equal multisets apart
---     decreasingMark-resp     the marks 1 to 6 do not tell like terms apart
+--     decreasingMark-resp     the marks 1 to 6 and 11 do not tell like terms apart
 use mathlib.Core.List.{List}
-use mathlib.Core.Path.{_≡_, refl}
-use mathlib.Core.Bool.{Bool, true}
+use mathlib.Core.Path.{_≡_, refl, ap}
+use mathlib.Core.Bool.{Bool, true, cond}
 use Prim.Native.Nat.{ℕ}
 use native.Mathlib.Omega.{arith}
 use lib.Dec.{eqb}
@@ -14,6 +14,7 @@ use Rattle.terms.specs.Signature.{Signature, symbolOf}
 use Rattle.terms.specs.Term.{Term, Terms, row, occurrences, isVar, flattenings, variableCount, weight}
 use Rattle.terms.specs.Term.Term.{var, app}
 use Rattle.terms.specs.Equivalence.{argumentsAlike}
+use Rattle.terms.specs.Iterated.{isPower}
 use Rattle.terms.specs.Order.{variables, highPart, joinedHigh, flattenedMark, rootMark, decreasingMark}
 use Rattle.multisets.proofs.Relations.{byTest, IsEquivalence, IsStrictOrder, like-resp, greater-resp}
 use Rattle.multisets.proofs.RowLaws.{rowEqual-equivalence, rowGreater-order}
@@ -33,6 +34,7 @@ module _ (σ : Signature) (like : Term → Term → Bool) where
   pub record Alike (s t : Term) : Type 0 where
     pub weights : weight σ s ≡ weight σ t
     pub oftenness : (x : ℕ) → occurrences x s ≡ occurrences x t
+    pub powers : (f x : ℕ) → isPower f x s ≡ isPower f x t
     pub roots : SameRoot s t
 
 module _ (σ : Signature) (like : Term → Term → Bool) (E : IsEquivalence like) (roots : KeepsRoots like)
@@ -90,12 +92,12 @@ module _ (σ : Signature) (like : Term → Term → Bool) (E : IsEquivalence lik
             (rw c at p) (rw c at q),
       )
 
-  rootMark-resp : {s s' t t' : Term} → SameRoot σ like s s' → SameRoot σ like t t' →
-      rootMark σ like greater s t ≡ rootMark σ like greater s' t'
+  rootMark-resp : {s s' t t' : Term} → ((f x : ℕ) → isPower f x s ≡ isPower f x s') → SameRoot σ like s s' →
+      SameRoot σ like t t' → rootMark σ like greater s t ≡ rootMark σ like greater s' t'
   unfolding rootMark
-  rootMark-resp sameVariable q = refl
-  rootMark-resp (sameSymbol p) sameVariable = refl
-  rootMark-resp (sameSymbol {f} {ss} {ts = ss'} p) (sameSymbol {f = g} {ss = ts} {ts = ts'} q) =
+  rootMark-resp h sameVariable q = refl
+  rootMark-resp h (sameSymbol {f} p) (sameVariable {x}) = ap (λ (b : Bool). cond b 11 0) (h f x)
+  rootMark-resp h (sameSymbol {f} {ss} {ts = ss'} p) (sameSymbol {f = g} {ss = ts} {ts = ts'} q) =
       byTest (eqb f g)
       (λ e. let d = eqb-true f g e in rw (arguments-resp f ss ss' ts ts' p (rw (← d) at q))) λ e. rw e
 
@@ -107,5 +109,5 @@ module _ (σ : Signature) (like : Term → Term → Bool) (E : IsEquivalence lik
         noneOftener-resp variableCount s s' t t' (a .oftenness) (b .oftenness),
         a .weights,
         b .weights,
-        rootMark-resp (a .roots) (b .roots),
+        rootMark-resp (a .powers) (a .roots) (b .roots),
       )

@@ -1,56 +1,68 @@
 -- Exactly one mark holds, and it is the one that the definition computes.
 --     mark-exact, mark-holds      a mark that holds is the computed one; the computed one holds
---     mark-greater                the marks 1 to 6 are those of the order
+--     mark-greater                the marks 1 to 6 and 11 are those of the order
 --     mark-equivalent             mark 9 is that of AC-equivalent sides
 --     mark-resp-like              AC-equivalent sides have the same mark
 --     oftener-found, found-oftener     mark 7 is that of the variable test
-use mathlib.Core.Logic.{_↔_}
+use mathlib.Core.Logic.{_↔_, inl, inr}
 use mathlib.Core.Path.{_≡_, refl, sym, _∙_}
 use mathlib.Core.Bool.{Bool, true, false, cond, not, true≢false}
 use Prim.Native.Nat.{ℕ, suc, _≤_, _<_}
 use native.Mathlib.Omega.{arith}
 use lib.ListN.{length}
 use lib.Dec.{ltb}
-use borrow.Author.Tests.{eq-eqb, le-ltb, lt-ltb}
-use Rattle.terms.specs.Signature.{Signature, Admissible}
+use borrow.Author.Tests.{eq-eqb, le-ltb, lt-ltb, ltb-false}
+use Rattle.terms.specs.Signature.{Signature, symbolOf, Admissible}
 use Rattle.terms.specs.Term.{Term, Terms, flattenings, variableCount, weight, WellFormed}
-use Rattle.terms.specs.Term.Term.{app}
+use Rattle.terms.specs.Term.Term.{var, app}
 use Rattle.terms.specs.Equivalence.{Equivalent, isEquivalent}
 use Rattle.terms.specs.Order.{noneOftener, highEqual, highGreater, flattenedMark, rootMark, decreasingMark, isGreater}
 use Rattle.terms.specs.Order.{mark}
 use Rattle.terms.specs.Oftener.{firstOftener}
 use Rattle.terms.specs.Marks.{NoneOftener, Balanced, Marked}
 use Rattle.terms.specs.Marks.Marked.{mark1, mark2, mark3, mark4, mark5, mark6, mark7, mark8, mark9, mark10}
+use Rattle.terms.specs.Marks.Marked.{mark11}
+use Rattle.theory.specs.Statements.{IsDecreasing}
 use Rattle.multisets.proofs.Relations.{byTest, byOrder, refuted, like-resp}
 use Rattle.multisets.proofs.MultisetOrder.{multisetGreater-order}
 use Rattle.terms.proofs.TermLaws.{flattenings-formed}
-use Rattle.terms.proofs.EquivalenceLaws.{isEquivalent-equivalence}
+use Rattle.terms.proofs.EquivalenceLaws.{isEquivalent-equivalence, isEquivalent-app-var}
+use Rattle.terms.proofs.IteratedLaws.{isPower→Iterated, Iterated→isPower, iterated-unary, iterated-weight}
 use Rattle.terms.proofs.OrderLaws.{noneOftener-facts, oftener, noneOftener-resp, highEqual-agree, highGreater-agree}
 use Rattle.terms.proofs.OrderLaws.{isGreater-unfolds}
 use Rattle.terms.proofs.Theorems.{test-decides, measures-respect-equivalence, first-oftener-found}
-use Rattle.theory.proofs.DecreasesView.{RootDecreases, Decreases, argumentsMark, rootMark-same, isGreater-view}
+use Rattle.theory.proofs.DecreasesView.{RootDecreases, Decreases, root-of-iterated, argumentsMark}
+use Rattle.theory.proofs.DecreasesView.{rootMark-same, isGreater-view}
 use Rattle.theory.proofs.DecreasesView.Decreases.{byWeight, byRoot}
 use Rattle.theory.proofs.DecreasesView.FlattenedDecreases.{byHigh, byLength, byLow}
-use Rattle.theory.proofs.DecreasesView.RootDecreases.{byPrecedence, byRow, byFlattening}
+use Rattle.theory.proofs.DecreasesView.RootDecreases.{byPrecedence, byRow, byFlattening, byPower}
 use Rattle.theory.proofs.FormedLaws.{likeFormed, likeFormed-equivalence, like-formed, greater-formed}
 use Rattle.theory.proofs.FormedLaws.{alike-of-test}
 use Rattle.theory.proofs.StrictOrder.{decreasingMark-resp-like, isGreater-order, greaterFormed}
 use Rattle.theory.proofs.StrictOrder.{greaterFormed-order}
+
+not-decreasing : {k : ℕ} → IsDecreasing k → 6 < k → k < 11 → ⊥
+not-decreasing (inl l) h i = omega arith
+not-decreasing (inr e) h i = omega arith
 
 module _ (σ : Signature) where
   -- The marks 7 to 10.
   abbrev otherMark : Bool → Bool → Bool → ℕ
   otherMark none less like = cond (not none) 7 (cond less 8 (cond like 9 10))
 
-  mark-cases : (s t : Term) (k : ℕ) → decreasingMark σ (isEquivalent σ) (isGreater σ) s t ≡ suc k → mark σ s t ≡ suc k
+  mark-cases : (s t : Term) (k : ℕ) → k < 6 → decreasingMark σ (isEquivalent σ) (isGreater σ) s t ≡ suc k →
+      mark σ s t ≡ suc k
   unfolding mark
-  mark-cases s t k e = rw (e, lt-ltb 0 (suc k) (omega arith))
+  mark-cases s t k h e = rw (e, lt-ltb 0 (suc k) (omega arith), lt-ltb (suc k) 7 (omega arith))
 
   mark-otherwise : (s t : Term) → isGreater σ s t ≡ false →
       mark σ s t ≡
       otherMark (noneOftener variableCount s t) (ltb (weight σ s) (weight σ t)) (isEquivalent σ s t)
   unfolding mark
-  mark-otherwise s t e = rw (sym (isGreater-unfolds σ s t) ∙ e)
+  mark-otherwise s t e =
+      let m = decreasingMark σ (isEquivalent σ) (isGreater σ) s t in
+      let z : m ≡ 0 = omega (arith, ltb-false 0 m (sym (isGreater-unfolds σ s t) ∙ e)) in
+      rw z
 
   not-greater : (s t : Term) → (NoneOftener s t → weight σ t ≤ weight σ s → ⊥) → isGreater σ s t ≡ false
   not-greater s t h = refuted (isGreater σ s t) λ e. go (isGreater-view σ s t .0 e)
@@ -69,14 +81,26 @@ module _ (σ : Signature) where
         eq-eqb (weight σ t) (weight σ s) (b .weights),
       )
 
-  root-exact : {s t : Term} (k : ℕ) → Balanced σ s t → rootMark σ (isEquivalent σ) (isGreater σ) s t ≡ suc k →
-      mark σ s t ≡ suc k
-  root-exact {s} {t} k b e = mark-cases s t k (balanced-mark b ∙ e)
+  root-exact : {s t : Term} (k : ℕ) → k < 6 → Balanced σ s t →
+      rootMark σ (isEquivalent σ) (isGreater σ) s t ≡ suc k → mark σ s t ≡ suc k
+  root-exact {s} {t} k h b e = mark-cases s t k h (balanced-mark b ∙ e)
 
-  arguments-exact : {f : ℕ} {ss ts : Terms} (k : ℕ) → Balanced σ (app f ss) (app f ts) →
+  arguments-exact : {f : ℕ} {ss ts : Terms} (k : ℕ) → k < 6 → Balanced σ (app f ss) (app f ts) →
       argumentsMark σ (isEquivalent σ) (isGreater σ) f ss ts ≡ suc k → mark σ (app f ss) (app f ts) ≡ suc k
-  arguments-exact {f} {ss} {ts} k b e =
-      root-exact k b (rootMark-same σ (isEquivalent σ) (isGreater σ) f ss ts ∙ e)
+  arguments-exact {f} {ss} {ts} k h b e =
+      root-exact k h b (rootMark-same σ (isEquivalent σ) (isGreater σ) f ss ts ∙ e)
+
+  power-exact : {s : Term} {x : ℕ} → Balanced σ s (var x) →
+      RootDecreases σ (isEquivalent σ) (isGreater σ) s (var x) → mark σ s (var x) ≡ 11
+  unfolding mark rootMark
+  power-exact {s} {x} b (byPower {f} {ss} e) =
+      let m : decreasingMark σ (isEquivalent σ) (isGreater σ) (app f ss) (var x) ≡ 11 = balanced-mark b ∙ rw e in
+      rw (
+        m,
+        noneOftener-facts variableCount (app f ss) (var x) .1 (b .none),
+        le-ltb (weight σ (app f ss)) (weight σ (var x)) (omega (arith, b .weights)),
+        isEquivalent-app-var σ f x ss,
+      )
 
   module _ (A : Admissible σ) where
     -- Bags that are AC-equal one for one are not above one another.
@@ -99,15 +123,15 @@ module _ (σ : Signature) where
     pub mark-exact : {k : ℕ} {s t : Term} → WellFormed σ s → WellFormed σ t → Marked σ k s t → mark σ s t ≡ k
     unfolding decreasingMark rootMark flattenedMark
     mark-exact v w (mark1 {s} {t} o h) =
-        mark-cases s t 0 (rw (noneOftener-facts variableCount s t .1 o, lt-ltb _ _ h))
-    mark-exact v w (mark2 b h) = root-exact 1 b (rw (lt-ltb _ _ h))
-    mark-exact v w (mark3 b c h) = arguments-exact 2 b (rw (c, h))
-    mark-exact v w (mark4 b c h) = arguments-exact 3 b (rw (c, h))
+        mark-cases s t 0 (omega arith) (rw (noneOftener-facts variableCount s t .1 o, lt-ltb _ _ h))
+    mark-exact v w (mark2 b h) = root-exact 1 (omega arith) b (rw (lt-ltb _ _ h))
+    mark-exact v w (mark3 b c h) = arguments-exact 2 (omega arith) b (rw (c, h))
+    mark-exact v w (mark4 b c h) = arguments-exact 3 (omega arith) b (rw (c, h))
     mark-exact v w (mark5 {f} {ss} {ts} b c e h) =
-        arguments-exact 4 b (rw (c, level-not-high f ss ts v w e, e, lt-ltb _ _ h))
+        arguments-exact 4 (omega arith) b (rw (c, level-not-high f ss ts v w e, e, lt-ltb _ _ h))
     mark-exact v w (mark6 {f} {ss} {ts} b c e h g) =
         let n = le-ltb (length (flattenings f ts)) (length (flattenings f ss)) (omega arith) in
-        arguments-exact 5 b (rw (c, level-not-high f ss ts v w e, e, n, eq-eqb _ _ h, g))
+        arguments-exact 5 (omega arith) b (rw (c, level-not-high f ss ts v w e, e, n, eq-eqb _ _ h, g))
     mark-exact v w (mark7 {s} {t} x h o) =
         mark-otherwise s t (not-greater s t λ n k. omega (arith, n x h))
         ∙ rw (refuted (noneOftener variableCount s t) λ e. omega (arith, noneOftener-facts variableCount s t .0 e x h))
@@ -130,21 +154,27 @@ module _ (σ : Signature) where
           le-ltb (weight σ s) (weight σ t) (omega arith),
           refuted (isEquivalent σ s t) (λ e. d (test-decides σ (A .acBinary) s t v w .0 e)),
         )
+    mark-exact v w (mark11 {f} {x} b z i) =
+        power-exact b (root-of-iterated σ (isEquivalent σ) (isGreater σ) i (Iterated→isPower f x i))
 
-    pub marked-of-decreases : {s t : Term} → Decreases σ (isEquivalent σ) (isGreater σ) s t →
-        (k : ℕ) × ((1 ≤ k) × (k ≤ 6)) × Marked σ k s t
-    marked-of-decreases (byWeight o h) = (1, omega arith, mark1 o h)
-    marked-of-decreases {s} {t} (byRoot b r) = byRoots b r
+    pub marked-of-decreases : {s t : Term} → WellFormed σ s → Decreases σ (isEquivalent σ) (isGreater σ) s t →
+        (k : ℕ) × IsDecreasing k × Marked σ k s t
+    marked-of-decreases v (byWeight o h) = (1, inl (omega arith), mark1 o h)
+    marked-of-decreases {s} {t} v (byRoot b r) = byRoots v b r
       where
-        byRoots : {s t : Term} → Balanced σ s t → RootDecreases σ (isEquivalent σ) (isGreater σ) s t →
-            (k : ℕ) × ((1 ≤ k) × (k ≤ 6)) × Marked σ k s t
-        byRoots b (byPrecedence h) = (2, omega arith, mark2 b h)
-        byRoots b (byRow c h) = (3, omega arith, mark3 b c h)
-        byRoots b (byFlattening c (byHigh h)) = (4, omega arith, mark4 b c h)
-        byRoots b (byFlattening c (byLength e h)) = (5, omega arith, mark5 b c e h)
-        byRoots b (byFlattening c (byLow e h g)) = (6, omega arith, mark6 b c e h g)
+        byRoots : {s t : Term} → WellFormed σ s → Balanced σ s t →
+            RootDecreases σ (isEquivalent σ) (isGreater σ) s t → (k : ℕ) × IsDecreasing k × Marked σ k s t
+        byRoots v b (byPrecedence h) = (2, inl (omega arith), mark2 b h)
+        byRoots v b (byRow c h) = (3, inl (omega arith), mark3 b c h)
+        byRoots v b (byFlattening c (byHigh h)) = (4, inl (omega arith), mark4 b c h)
+        byRoots v b (byFlattening c (byLength e h)) = (5, inl (omega arith), mark5 b c e h)
+        byRoots v b (byFlattening c (byLow e h g)) = (6, inl (omega arith), mark6 b c e h g)
+        byRoots v b (byPower {f} {x} {ss} e) =
+            let i = isPower→Iterated f x f ss e in
+            let w : symbolOf σ f .weight ≡ 0 = omega (arith, iterated-weight σ i, b .weights) in
+            (11, inr refl, mark11 b (record { unary = iterated-unary σ i v .1; weightless = w }) i)
 
-    pub decreases-of-marked : {k : ℕ} {s t : Term} → k ≤ 6 → Marked σ k s t →
+    pub decreases-of-marked : {k : ℕ} {s t : Term} → IsDecreasing k → Marked σ k s t →
         Decreases σ (isEquivalent σ) (isGreater σ) s t
     decreases-of-marked l (mark1 o h) = byWeight o h
     decreases-of-marked l (mark2 b h) = byRoot b (byPrecedence h)
@@ -152,14 +182,16 @@ module _ (σ : Signature) where
     decreases-of-marked l (mark4 b c h) = byRoot b (byFlattening c (byHigh h))
     decreases-of-marked l (mark5 b c e h) = byRoot b (byFlattening c (byLength e h))
     decreases-of-marked l (mark6 b c e h g) = byRoot b (byFlattening c (byLow e h g))
-    decreases-of-marked l (mark7 x h o) = absurd (omega arith)
-    decreases-of-marked l (mark8 o h) = absurd (omega arith)
-    decreases-of-marked l (mark9 d) = absurd (omega arith)
-    decreases-of-marked l (mark10 b h d) = absurd (omega arith)
+    decreases-of-marked l (mark7 x h o) = absurd (not-decreasing l (omega arith) (omega arith))
+    decreases-of-marked l (mark8 o h) = absurd (not-decreasing l (omega arith) (omega arith))
+    decreases-of-marked l (mark9 d) = absurd (not-decreasing l (omega arith) (omega arith))
+    decreases-of-marked l (mark10 b h d) = absurd (not-decreasing l (omega arith) (omega arith))
+    decreases-of-marked l (mark11 {f} {x} b z i) =
+        byRoot b (root-of-iterated σ (isEquivalent σ) (isGreater σ) i (Iterated→isPower f x i))
 
     some-mark : (s t : Term) → WellFormed σ s → WellFormed σ t → (k : ℕ) × Marked σ k s t
     some-mark s t v w =
-        byTest (isGreater σ s t) (λ e. let (k, l, m) = marked-of-decreases (isGreater-view σ s t .0 e) in (k, m))
+        byTest (isGreater σ s t) (λ e. let (k, l, m) = marked-of-decreases v (isGreater-view σ s t .0 e) in (k, m))
         λ e. byTest (noneOftener variableCount s t)
         (λ n. let o = noneOftener-facts variableCount s t .0 n in
         byOrder (weight σ s) (weight σ t) (λ h. (8, mark8 o h))
@@ -177,16 +209,16 @@ module _ (σ : Signature) where
     mark-holds s t v w = let (k, m) = some-mark s t v w in rw (mark-exact v w m) m
 
     pub mark-greater : (s t : Term) → WellFormed σ s → WellFormed σ t →
-        isGreater σ s t ≡ true ↔ ((1 ≤ mark σ s t) × (mark σ s t ≤ 6))
+        isGreater σ s t ≡ true ↔ IsDecreasing (mark σ s t)
     mark-greater s t v w = (
-      λ e. let (k, l, m) = marked-of-decreases (isGreater-view σ s t .0 e) in omega (arith, mark-exact v w m),
-      λ l. isGreater-view σ s t .1 (decreases-of-marked (l .1) (mark-holds s t v w)),
+      λ e. let (k, l, m) = marked-of-decreases v (isGreater-view σ s t .0 e) in rw (mark-exact v w m) l,
+      λ l. isGreater-view σ s t .1 (decreases-of-marked l (mark-holds s t v w)),
     )
 
     pub mark-equivalent : (s t : Term) → WellFormed σ s → WellFormed σ t → mark σ s t ≡ 9 ↔ Equivalent σ s t
     mark-equivalent s t v w = (
       λ e. let no = refuted (isGreater σ s t)
-          λ (g : isGreater σ s t ≡ true). omega (arith, mark-greater s t v w .0 g) in
+          λ (g : isGreater σ s t ≡ true). not-decreasing (mark-greater s t v w .0 g) (omega arith) (omega arith) in
           test-decides σ (A .acBinary) s t v w .0 (nine (noneOftener variableCount s t)
           (ltb (weight σ s) (weight σ t)) (isEquivalent σ s t) (sym (mark-otherwise s t no) ∙ e)),
       λ d. mark-exact v w (mark9 d),

@@ -1,5 +1,5 @@
 -- Neither the order nor the mark sees the names of variables.
---     rootMark-along                    the marks 2 to 6 after a renaming, over tests of the renamed parts
+--     rootMark-along                    the marks 2 to 6 and 11 after a renaming, over tests of the renamed parts
 --     noneOftener-rename                the test of occurrences
 --     greater-rename, mark-rename       the order and the mark, of terms over some variables
 --     greater-renamed, mark-renamed     of two well-formed terms; equivalent-renamed, of any two
@@ -27,7 +27,7 @@ use Rattle.terms.proofs.OrderLaws.{noneOftener-facts, decreasingMark-agree}
 use Rattle.terms.proofs.VariableLaws.{occurrences-past}
 use Rattle.terms.proofs.RenamingLaws.{size-rename, weight-rename, row-renames, flattenings-rename, isVar-rename}
 use Rattle.terms.proofs.RenamingLaws.{rootAbove-rename, rootBelow-rename, Over, over-parts, occurrences-rename}
-use Rattle.terms.proofs.RenamingLaws.{occurrences-renamed, isEquivalent-rename}
+use Rattle.terms.proofs.RenamingLaws.{occurrences-renamed, over-var, isPower-rename, isEquivalent-rename}
 
 module _ (σ : Signature) (ρ : ℕ → ℕ) (like : Term → Term → Bool) where
   abbrev like' : Term → Term → Bool
@@ -59,8 +59,6 @@ module _ (σ : Signature) (ρ : ℕ → ℕ) (like : Term → Term → Bool) whe
         ap₂ (multisetEqual like) (high-rename ss) (joined-rename ss ts)
         ∙ multisetEqual-map (rename ρ) like (highPart σ f ss) (joinedHigh σ like' f ss ts)
 
-  -- ---- marks 2 to 6
-
   module _ (greater : Term → Term → Bool) where
     abbrev greater' : Term → Term → Bool
     greater' = along (rename ρ) greater
@@ -90,24 +88,27 @@ module _ (σ : Signature) (ρ : ℕ → ℕ) (like : Term → Term → Bool) whe
             length-map ts (rename ρ),
           )
 
-    rootMark-along : (s t : Term) → rootMark σ like greater (rename ρ s) (rename ρ t) ≡ rootMark σ like' greater' s t
+-- ---- a renaming that is one to one on the variables, and that keeps to the numbers that a variable may have
+
+module _ (ρ : ℕ → ℕ) (Among : ℕ → Type 0) (one : (x y : ℕ) → Among x → Among y → ρ x ≡ ρ y → x ≡ y)
+    (before : (x : ℕ) → Among x → x < variableCount) (after : (x : ℕ) → Among x → ρ x < variableCount) where
+  module _ (σ : Signature) (like greater : Term → Term → Bool) where
+    rootMark-along : (s t : Term) → Over Among s → Over Among t →
+        rootMark σ like greater (rename ρ s) (rename ρ t) ≡
+        rootMark σ (along (rename ρ) like) (along (rename ρ) greater) s t
     unfolding rootMark
-    rootMark-along (var x) t = refl
-    rootMark-along (app f ss) (var y) = refl
-    rootMark-along (app f ss) (app g ts) =
+    rootMark-along (var x) t h k = refl
+    rootMark-along (app f ss) (var y) h k = rw (isPower-rename ρ Among one f y (over-var Among y k) (app f ss) h)
+    rootMark-along (app f ss) (app g ts) h k =
         rw (
           row-renames ρ ss,
           row-renames ρ ts,
           flattenings-rename ρ f ss,
           flattenings-rename ρ f ts,
-          flattenedMark-along f (flattenings f ss) (flattenings f ts),
+          flattenedMark-along σ ρ like greater f (flattenings f ss) (flattenings f ts),
           rowGreater-map (rename ρ) like greater (row ss) (row ts),
         )
 
--- ---- a renaming that is one to one on the variables, and that keeps to the numbers that a variable may have
-
-module _ (ρ : ℕ → ℕ) (Among : ℕ → Type 0) (one : (x y : ℕ) → Among x → Among y → ρ x ≡ ρ y → x ≡ y)
-    (before : (x : ℕ) → Among x → x < variableCount) (after : (x : ℕ) → Among x → ρ x < variableCount) where
   noneOftener-rename : (s t : Term) → Over Among s → Over Among t →
       noneOftener variableCount (rename ρ s) (rename ρ t) ≡ noneOftener variableCount s t
   noneOftener-rename s t h k =
@@ -144,7 +145,7 @@ module _ (ρ : ℕ → ℕ) (Among : ℕ → Type 0) (one : (x y : ℕ) → Amon
           noneOftener-rename s t h k,
           weight-rename ρ σ s,
           weight-rename ρ σ t,
-          rootMark-along σ ρ like greater s t,
+          rootMark-along σ like greater s t h k,
         )
         (decreasingMark-agree σ (Over Among) (Over Among) (along (rename ρ) like) like
         (isEquivalent-rename ρ Among one σ) (along (rename ρ) greater) greater agree s t (over-parts Among s h)

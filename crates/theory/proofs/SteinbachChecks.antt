@@ -40,15 +40,6 @@ ac-lowest w (suc (suc (suc (suc (suc (suc f)))))) g h k e = absurd (false≢true
 not-in-sample : AcLowest sample → ⊥
 not-in-sample L = omega (arith, L 3 0 (omega arith) (omega arith) refl)
 
--- The rules of Example 3.4, by cases 2 and 4; case 1. No book of 01 has a symbol of arity 1 that weighs 0.
-example-3-4 :
-    (isSteinbachGreater (lowest 0) (neg (o ⊕ o)) (neg o ⊕ neg o) ≡ true) ×
-    (isSteinbachGreater (lowest 0) (o ⊕ neg (neg o)) (neg o ⊕ neg o) ≡ true) ×
-    (isSteinbachGreater (lowest 0) (neg (neg u)) u ≡ true)
-unfolding noneOftener isEquivalent isEquivalentTo multisetEqual multisetGreater rowEqual rowGreater
-    isSteinbachGreater isSteinbachGreaterTo steinbachDecreases steinbachCases
-example-3-4 = (refl, refl, refl)
-
 -- Whether the left side is greater in the order of 01, and in Steinbach's.
 record Pair : Type 0 where
   signature : Signature
@@ -60,10 +51,15 @@ record Pair : Type 0 where
 abbrev line : Signature → Term → Term → Bool → Bool → Pair
 line σ s t g h = record { signature = σ; left = s; right = t; greater = g; steinbach = h }
 
--- The second rule of Example 3.4 where f weighs 1, and pairs with variables; then 01's starred case of mark 5, with +
--- ranked lowest, and in the sample book, where it is not: there Steinbach's order turns the case round.
+-- The rules of Example 3.4, by cases 2 and 4, and case 1; the second rule where f weighs 1, and pairs with variables;
+-- then 01's starred case of mark 5, with + ranked lowest, and in the sample book, where it is not: there Steinbach's
+-- order turns the case round.
 abbrev pairs : List Pair
 pairs =
+    line (lowest 0) (neg (o ⊕ o)) (neg o ⊕ neg o) true true ∷
+    line (lowest 0) (o ⊕ neg (neg o)) (neg o ⊕ neg o) true true ∷
+    line (lowest 0) (neg (neg u)) u true true ∷
+    line (lowest 0) u (neg u) false false ∷
     line (lowest 1) (o ⊕ neg (neg o)) (neg o ⊕ neg o) true true ∷
     line (lowest 1) (neg z ⊕ u) (neg o ⊕ u) true true ∷
     line (lowest 1) (neg u ⊕ o) (u ⊕ neg o) false false ∷

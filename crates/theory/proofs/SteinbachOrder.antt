@@ -1,5 +1,5 @@
 -- Where every AC symbol is ranked lowest, Steinbach's order is the order: the cases of both are the same but for those
--- of flattenings, which then have no low part (FlattenedWhole), and case 1, which holds of no terms of equal weight.
+-- of flattenings, which then have no low part (FlattenedWhole). Case 1 is mark 11.
 --     one-of-lowest, lowest-of-one     the one AC symbol is ranked lowest of all
 --     greater-steinbach                the orders agree
 use mathlib.Core.Path.{_≡_, refl, sym, ap, _∙_}
@@ -21,7 +21,6 @@ use Rattle.multisets.proofs.Relations.{byTest, refuted}
 use Rattle.terms.proofs.TermLaws.{size-pos, flattenings-formed, formed-parts, smaller-parts, parts-both}
 use Rattle.terms.proofs.FlatteningLaws.{NotRoot, flattenings-roots}
 use Rattle.terms.proofs.OrderLaws.{isGreater-unfolds}
-use Rattle.terms.proofs.IteratedLaws.{isPower→Iterated}
 use Rattle.terms.proofs.SteinbachLaws.{steinbachDecreases-agree}
 use Rattle.theory.specs.SteinbachStatements.{AcLowest, OneAcLowest}
 use Rattle.theory.proofs.RootTests.{place, root-apart}
@@ -29,7 +28,6 @@ use Rattle.theory.proofs.RootTests.Placed.{placedAbove, placedOwn, plac
 use Rattle.theory.proofs.FormedLaws.{likeFormed, likeFormed-equivalence, likeFormed-root, like-formed}
 use Rattle.theory.proofs.FormedLaws.{greater-formed, mark-formed}
 use Rattle.theory.proofs.StrictOrder.{greaterFormed, greaterFormed-order, greaterFormed-lowest}
-use Rattle.theory.proofs.ArticleComplete.{iterated-heavier}
 use Rattle.theory.proofs.FlattenedWhole.{Upper, flattenedMark-whole}
 
 module _ (σ : Signature) (A : Admissible σ) (f : ℕ) (i : IsSymbol σ f) (c : symbolOf σ f .ac ≡ true) where
@@ -59,13 +57,12 @@ module _ (σ : Signature) (A : Admissible σ) (L : AcLowest σ) where
           let b = le-ltb (symbolOf σ g .precedence) (symbolOf σ f .precedence) (L f g (w .0) (v .0) c) in
           (root-apart σ f g A (w .0) (v .0) r us ∙ ap not b, b)
 
-  cases-same : (s t : Term) → WellFormed σ s → WellFormed σ t → weight σ t ≡ weight σ s →
+  cases-same : (s t : Term) → WellFormed σ s → WellFormed σ t →
       ltb 0 (rootMark σ (likeFormed σ) (greaterFormed σ) s t) ≡ steinbachCases σ (likeFormed σ) (greaterFormed σ) s t
   unfolding rootMark steinbachCases
-  cases-same (var x) t v w e = refl
-  cases-same (app f ss) (var y) v w e =
-      sym (refuted (isPower f y (app f ss)) λ h. omega (arith, iterated-heavier σ A (isPower→Iterated f y f ss h) v))
-  cases-same (app f ss) (app g ts) v w e =
+  cases-same (var x) t v w = refl
+  cases-same (app f ss) (var y) v w = byTest (isPower f y (app f ss)) (λ a. rw a) λ a. rw a
+  cases-same (app f ss) (app g ts) v w =
       byTest (ltb (symbolOf σ g .precedence) (symbolOf σ f .precedence)) (λ a. rw a)
       λ a. byTest (eqb f g)
       (λ b. byTest (symbolOf σ f .ac)
@@ -83,7 +80,7 @@ module _ (σ : Signature) (A : Admissible σ) (L : AcLowest σ) where
   decreases-same s t v w =
       byTest (noneOftener variableCount s t)
       (λ a. byTest (ltb (weight σ t) (weight σ s)) (λ b. rw (a, b))
-      λ b. byTest (eqb (weight σ t) (weight σ s)) (λ c. rw (a, b, c) (cases-same s t v w (eqb-true _ _ c)))
+      λ b. byTest (eqb (weight σ t) (weight σ s)) (λ c. rw (a, b, c) (cases-same s t v w))
       λ c. rw (a, b, c))
       λ a. rw a
 

@@ -2,10 +2,12 @@
 --     step-decreases        a step by a decreasing rule
 --     along-descends        each expression of a derivation is greater than each later one
 --     along-expressions     they are expressions, and none weighs more than the first
+--     steps-accessible      no steps go on for ever
 --     length-along          there is one more of them than steps
 use mathlib.Core.List.{List·Memᴰ, List·Memᴰ·head, List·Memᴰ·tail, List·Memᴰ·eq-of-singleton, List·Memᴰ·not-nil}
 use mathlib.Core.Path.{_≡_, refl, ap}
 use mathlib.Core.Bool.{true}
+use mathlib.Core.WellFounded.{Acc, Acc·intro}
 use Prim.Native.Nat.{suc, _≤_}
 use native.Mathlib.Omega.{arith}
 use lib.ListN.{length}
@@ -16,9 +18,11 @@ use Rattle.terms.specs.Order.{isGreater}
 use Rattle.terms.specs.Rewriting.{System, WellFormedRules, Decreasing, AllDecreasing, substitute, Step, Derivation}
 use Rattle.terms.specs.Rewriting.{stepCount, along, StronglySorted}
 use Rattle.terms.specs.Rewriting.Derivation.{done, more}
+use Rattle.multisets.proofs.Accessibility.{Accessible}
 use Rattle.terms.proofs.EquivalenceComplete.{Equivalent→isEquivalent}
 use Rattle.terms.proofs.RewritingLaws.{fill-expression, substitute-expression, step-expressions}
-use Rattle.theory.proofs.StrictOrder.{isGreater-order, greater-weight}
+use Rattle.theory.proofs.StrictOrder.{isGreater-order, greaterFormed, greaterFormed-view, greater-weight}
+use Rattle.theory.proofs.WellFounded.{reached}
 use Rattle.theory.proofs.Contexts.{greater-fill}
 use Rattle.theory.proofs.Substitutions.{greater-substitute}
 
@@ -67,6 +71,15 @@ module _ (R : System) (A : Admissible (R .signature)) (W : WellFormedRules R) wh
     along-expressions (more {s} {t} p d) e u (List·Memᴰ·tail m) =
         let (x, l) = along-expressions d (step-expressions R W p .1) u m in
         (x, omega (arith, greater-weight σ s t (down p)))
+
+    -- Steps from an accessible term, and from any.
+    steps-below : {s : Term} → Accessible (greaterFormed σ) s → Acc (λ (v u : Term). Step R u v) s
+    steps-below (Acc·intro s x) =
+        Acc·intro s λ t p. let (v, w) = step-expressions R W p in
+        steps-below (x t (greaterFormed-view σ s t .1 (v .0, w .0, down p)))
+
+    pub steps-accessible : (s : Term) → Acc (λ (v u : Term). Step R u v) s
+    steps-accessible s = Acc·intro s λ t p. steps-below (reached σ A t (step-expressions R W p .1 .0))
 
 pub length-along : (R : System) {s t : Term} (d : Derivation R s t) → length (along R d) ≡ suc (stepCount R d)
 length-along R done = refl

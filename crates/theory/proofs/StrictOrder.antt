@@ -70,7 +70,7 @@ module _ (σ : Signature) (A : Admissible σ) where
           let roots = likeFormed-root σ in
           record {
             transitive = λ {a} {b} {c} u v w e f.
-                out u w (decreases-trans σ (likeFormed σ) E roots held held-order low (into u v e) (into v w f));
+                out u w (decreases-trans σ (likeFormed σ) E roots held held-order low A u w (into u v e) (into v w f));
             irreflexive = λ {a} {b} v w e f.
                 decreases-irrefl σ (likeFormed σ) E roots held held-order low (into v w e)
                 (alike-of-test σ (A .acBinary) v w f);

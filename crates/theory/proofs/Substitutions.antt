@@ -9,6 +9,7 @@ use native.Mathlib.Omega.{arith}
 use Rattle.multisets.specs.Multiset.{rowGreater}
 use Rattle.terms.specs.Signature.{Signature, symbolOf, Admissible}
 use Rattle.terms.specs.Term.{Term, Terms, row, size, sizes, flattenings, weight, WellFormed, WellFormeds}
+use Rattle.terms.specs.Term.Term.{app}
 use Rattle.terms.specs.Term.Terms.{nil, cons}
 use Rattle.terms.specs.Order.{variables, isGreater}
 use Rattle.terms.specs.Rewriting.{Substitution, substitute, substituteIn, ExpressionSubstitution}
@@ -20,12 +21,14 @@ use Rattle.terms.proofs.FlatteningLaws.{flattenings-roots}
 use Rattle.terms.proofs.RewritingLaws.{substitute-expression, substituteIn-expressions}
 use Rattle.terms.proofs.VariableLaws.{noneOftener-ground, expressions}
 use Rattle.terms.proofs.SubstitutionLaws.{flattenings-substitute, isEquivalent-substitute, weight-substitute-le}
+use Rattle.terms.proofs.IteratedLaws.{isPower→Iterated, iterated-substitute}
 use Rattle.theory.proofs.DecreasesView.{FlattenedDecreases, RootDecreases, Decreases}
 use Rattle.theory.proofs.DecreasesView.Decreases.{byWeight, byRoot}
-use Rattle.theory.proofs.DecreasesView.RootDecreases.{byPrecedence, byRow, byFlattening}
+use Rattle.theory.proofs.DecreasesView.RootDecreases.{byPrecedence, byRow, byFlattening, byPower}
 use Rattle.theory.proofs.FormedLaws.{likeFormed, likeFormed-equivalence, like-formed}
 use Rattle.theory.proofs.StrictOrder.{greaterFormed, greaterFormed-order, formed-view, greaterFormed-view}
 use Rattle.theory.proofs.FlattenedLaws.{no-variables}
+use Rattle.theory.proofs.Contexts.{greater-iterated, greater-roots}
 use Rattle.theory.proofs.FlattenedSubstitution.{formedImage, images-formed, flattened-substitute}
 
 module _ (σ : Signature) (A : Admissible σ) (τ : Substitution)
@@ -93,13 +96,17 @@ module _ (σ : Signature) (A : Admissible σ) (τ : Substitution)
       (rw (images-of f ts w) at (images-ground f ts w)) l)
 
   root-substitute : {s t : Term} → ((a b : Term) → size a < size s → Kept a b) → WellFormed σ s → WellFormed σ t →
-      RootDecreases σ (likeFormed σ) (greaterFormed σ) s t →
+      weight σ (substitute τ t) ≡ weight σ (substitute τ s) → RootDecreases σ (likeFormed σ) (greaterFormed σ) s t →
       RootDecreases σ (likeFormed σ) (greaterFormed σ) (substitute τ s) (substitute τ t)
-  root-substitute h v w (byPrecedence l) = byPrecedence l
-  root-substitute h v w (byRow {ss} {ts} a r) =
+  root-substitute h v w q (byPrecedence l) = byPrecedence l
+  root-substitute h v w q (byRow {ss} {ts} a r) =
       byRow a (rows-substitute ss ts (λ s t l. h s t (omega arith)) (v .2) (w .2) r)
-  root-substitute h v w (byFlattening {f} {ss} {ts} a l) =
+  root-substitute h v w q (byFlattening {f} {ss} {ts} a l) =
       byFlattening a (flattenings-decrease f ss ts a (λ s t i. h s t (omega arith)) (v .2) (w .2) l)
+  root-substitute h v w q (byPower {f} {x} {ss} e) =
+      let d = substitute-expression σ τ images (app f ss) v .0 in
+      greater-roots σ A (substitute τ (app f ss)) (τ x) d (images x .0) q
+      (greater-iterated σ A (iterated-substitute τ (isPower→Iterated f x f ss e)) d (images x .0))
 
   -- What is heavier stays so; at equal weights the roots decide as before.
   decreases-substitute : (s t : Term) → ((a b : Term) → size a < size s → Kept a b) → WellFormed σ s →
@@ -111,8 +118,9 @@ module _ (σ : Signature) (A : Admissible σ) (τ : Substitution)
       elim d [
         | byWeight n l ↦ byWeight o (omega (arith, grows n))
         | byRoot b r ↦ byOrder (weight σ (substitute τ t)) (weight σ (substitute τ s)) (byWeight o)
-            λ l. byRoot (record { none = o; weights = omega (arith, b .weights, grows (b .none)) })
-            (root-substitute h v w r)
+            λ l. let q : weight σ (substitute τ t) ≡ weight σ (substitute τ s) =
+            omega (arith, b .weights, grows (b .none)) in
+            byRoot (record { none = o; weights = q }) (root-substitute h v w q r)
       ]
 
   greater-to : (n : ℕ) (s t : Term) → size s ≤ n → Kept s t

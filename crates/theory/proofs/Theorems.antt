@@ -1,10 +1,11 @@
--- The theorems of specs/: of Statements, StepStatements, RenamingStatements and SteinbachStatements.
+-- The theorems of specs/: of Statements, StepStatements, TerminationStatements, RenamingStatements and
+-- SteinbachStatements.
 use mathlib.Core.Path.{refl, sym, ap₂, _∙_}
 use Prim.Native.Nat.{_<_}
 use native.Mathlib.Omega.{arith}
 use lib.IntN.{subℕ}
 use Rattle.terms.specs.Signature.{Signature}
-use Rattle.terms.specs.Term.{occurrences}
+use Rattle.terms.specs.Term.{occurrences, WellFormed, Expression}
 use Rattle.terms.specs.Equivalence.{isEquivalentTo, isEquivalent}
 use Rattle.terms.specs.Order.{isGreater}
 use Rattle.terms.specs.Rewriting.{System}
@@ -15,12 +16,15 @@ use Rattle.theory.specs.Statements.{TestDecidesArticle, TotalOnExpressio
 use Rattle.theory.specs.Statements.{ClosedUnderContexts, ClosedUnderSubstitutions}
 use Rattle.theory.specs.StepStatements.{NodesBounded, StepsDecrease, DerivationsDescend, StepCeiling}
 use Rattle.theory.specs.StepStatements.{SampleAdmissible}
+use Rattle.theory.specs.TerminationStatements.{OrderWellFounded, WellFoundedOnExpressions, StepsWellFounded}
+use Rattle.theory.specs.TerminationStatements.{NoEndlessSteps, CeilingFails}
 use Rattle.theory.specs.RenamingStatements.{WeightRenamed, MarginRenamed, WellFormedRenamed}
 use Rattle.theory.specs.RenamingStatements.{EquivalenceRenamed, OrderRenamed, MarkRenamed}
 use Rattle.theory.specs.RenamingStatements.{RulesConverted}
 use Rattle.theory.specs.SteinbachStatements.{SteinbachUnfolds, TestDecidesSteinbach, AgreesWithSteinbach}
 use Rattle.theory.specs.SteinbachStatements.{AcLowestMeans, ArticlesAgree}
 use Rattle.multisets.proofs.Relations.{refuted}
+use Rattle.multisets.proofs.Accessibility.{endless-absurd}
 use Rattle.terms.proofs.EquivalenceLaws.{isEquivalent-app, isEquivalent-app-var}
 use Rattle.terms.proofs.EquivalenceComplete.{Equivalent→isEquivalent}
 use Rattle.terms.proofs.EquivalenceMeasures.{formed-resp-equivalent}
@@ -32,6 +36,7 @@ use Rattle.theory.proofs.StrictOrder.{isGreater-order, greater-resp-lik
 use Rattle.theory.proofs.MarkLaws.{mark-exact, mark-holds, mark-greater, mark-equivalent, mark-resp-like}
 use Rattle.theory.proofs.MarkLaws.{oftener-found, found-oftener}
 use Rattle.theory.proofs.TotalOrder.{exactly-one}
+use Rattle.theory.proofs.WellFounded.{accessible-among}
 use Rattle.theory.proofs.ArticleComplete.{isGreater→Greater}
 use Rattle.theory.proofs.ArticleSound.{Greater→isGreater}
 use Rattle.theory.proofs.SteinbachOrder.{one-of-lowest, lowest-of-one, greater-steinbach}
@@ -41,9 +46,10 @@ use Rattle.theory.proofs.Substitutions.{greater-substitute}
 use Rattle.terms.proofs.RuleRenumbering.{renumbering-oneToOne}
 use Rattle.theory.proofs.RenumberedRules.{renumbering-within}
 use Rattle.theory.proofs.Renamings.{equivalent-renamed, greater-renamed, less-renamed, mark-renamed}
-use Rattle.theory.proofs.Steps.{step-decreases, along-descends}
+use Rattle.theory.proofs.Steps.{step-decreases, along-descends, steps-accessible}
 use Rattle.theory.proofs.Ceiling.{stepCount-ceiling}
 use Rattle.theory.proofs.Examples.{admissible}
+use Rattle.theory.proofs.WeightlessExample.{unwrapping-fails}
 
 module _ (σ : Signature) where
   pub greater-irreflexive : Irreflexive σ
@@ -113,6 +119,12 @@ module _ (σ : Signature) where
   pub total-on-expressions : TotalOnExpressions σ
   total-on-expressions A s t v w g h = exactly-one σ A s t (v, g) (w, h)
 
+  pub order-well-founded : OrderWellFounded σ
+  order-well-founded A = accessible-among σ A (WellFormed σ) λ t w. w
+
+  pub well-founded-on-expressions : WellFoundedOnExpressions σ
+  well-founded-on-expressions A = accessible-among σ A (Expression σ) λ t e. e .0
+
   pub greater-than-parts : GreaterThanParts σ
   greater-than-parts = greater-part σ
 
@@ -152,7 +164,7 @@ module _ (σ : Signature) where
       }
 
   pub nodes-bounded : NodesBounded σ
-  nodes-bounded A t w = omega (arith, nodes-le-weight σ A t w)
+  nodes-bounded A heavy t w = omega (arith, nodes-le-weight σ A heavy t w)
 
 module _ (R : System) where
   pub steps-decrease : StepsDecrease R
@@ -162,7 +174,16 @@ module _ (R : System) where
   derivations-descend A W D s t d = along-descends R A W D d
 
   pub step-ceiling : StepCeiling R
-  step-ceiling A W D s t d e = stepCount-ceiling R A W D d e
+  step-ceiling A heavy W D s t d e = stepCount-ceiling R A heavy W D d e
+
+  pub steps-well-founded : StepsWellFounded R
+  steps-well-founded = steps-accessible R
+
+  pub no-endless-steps : NoEndlessSteps R
+  no-endless-steps A W D s p = endless-absurd (steps-accessible R A W D (s 0)) s refl p
+
+pub ceiling-fails : CeilingFails
+ceiling-fails = unwrapping-fails
 
 pub sample-admissible : SampleAdmissible
 sample-admissible = admissible

@@ -1,6 +1,7 @@
 -- The theorems of the order, as types; those of steps are in StepStatements. The proofs stand in proofs/Theorems.antt.
--- Renders: 01, "The order" and "Kept by contexts"; 000, Definition 5.1, the properties that make the order an
--- AC-compatible simplification order (Theorem 5.10), and its totality on ground terms (Theorem 5.12).
+-- Renders: 01, "The order" and "Kept by contexts"; 02, order 8: mark 11 "counts as falling"; 000, Definition 5.1, the
+-- properties that make the order an AC-compatible simplification order (Theorem 5.10), and its totality on ground terms
+-- (Theorem 5.12).
 use mathlib.Core.List.{List}
 use mathlib.Core.Logic.{_↔_, _⊎_}
 use mathlib.Core.Path.{_≡_}
@@ -21,6 +22,10 @@ use Rattle.terms.specs.Rewriting.Context.{inside}
 -- Exactly one of the three.
 abbrev pub ExactlyOne : Type 0 → Type 0 → Type 0 → Type 0
 ExactlyOne A B C = (A × (B → ⊥) × (C → ⊥)) ⊎ (((A → ⊥) × B × (C → ⊥)) ⊎ ((A → ⊥) × (B → ⊥) × C))
+
+-- 01 and 02: the marks that count as falling.
+abbrev pub IsDecreasing : ℕ → Type 0
+IsDecreasing k = ((1 ≤ k) × (k ≤ 6)) ⊎ (k ≡ 11)
 
 module _ (σ : Signature) where
   -- For an admissible signature, of any two well-formed terms.
@@ -49,9 +54,9 @@ module _ (σ : Signature) where
   abbrev pub ExactlyOneMark : Type 0
   ExactlyOneMark = ForWellFormed λ s t. (k : ℕ) → Marked σ k s t ↔ (mark σ s t ≡ k)
 
-  -- 01: "s is greater than t if one of them holds", of the marks 1 to 6.
+  -- 01: "s is greater than t if one of them holds", of the marks 1 to 6; 02: and of mark 11.
   abbrev pub DecreasingMarks : Type 0
-  DecreasingMarks = ForWellFormed λ s t. isGreater σ s t ≡ true ↔ ((1 ≤ mark σ s t) × (mark σ s t ≤ 6))
+  DecreasingMarks = ForWellFormed λ s t. isGreater σ s t ≡ true ↔ IsDecreasing (mark σ s t)
 
   -- 02, order 3: a rule has mark 7 exactly if the variable test answers a variable.
   abbrev pub MarkSeven : Type 0

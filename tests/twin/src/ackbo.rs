@@ -1,5 +1,5 @@
-//! AC-KBO on prepared terms, Definition 5.1 of 000 as 01 restates it, with AC-equivalence. 01 refuses symbols of
-//! arity 1 that weigh 0, so the definition's case 0 never arises. The multiset extension is that of 001, section 2.1.
+//! AC-KBO on prepared terms, Definition 5.1 of 000 as 01 and 02 restate it, with AC-equivalence. The multiset extension
+//! is that of 001, section 2.1.
 
 use std::cmp::Ordering;
 
@@ -36,6 +36,12 @@ impl<'a> Order<'a> {
         !is_variable(f) && !is_variable(g) && self.table.symbol(f).rank > self.table.symbol(g).rank
     }
 
+    /// Whether a term, as its nodes, is a variable under one or more copies of the wrapper.
+    pub fn is_wrapped(self, mut nodes: impl DoubleEndedIterator<Item = u16>, variable: u16) -> bool {
+        let wraps = |node| !is_variable(node) && self.table.symbol(node).is_wrapper();
+        nodes.next_back() == Some(variable) && nodes.next().is_some_and(wraps) && nodes.all(wraps)
+    }
+
     /// Whether s and t are AC-equivalent; most that are not differ in their hash.
     #[inline(always)]
     pub fn is_equivalent(self, s: Subterm, t: Subterm) -> bool {
@@ -63,6 +69,9 @@ impl<'a> Order<'a> {
         }
         let f = s.root();
         if f != t.root() {
+            if is_variable(t.root()) {
+                return self.is_wrapped(s.nodes(), t.root()).then_some(Orientation::Wrapping);
+            }
             return self.has_higher_root(f, t.root()).then_some(Orientation::Precedence);
         }
         if self.table.is_ac(f) {

@@ -21,7 +21,8 @@ pub const NO_SYMBOL: u8 = 4;
 pub const NO_WEIGHT: u8 = 5;
 /// An AC symbol has an arity other than 2.
 pub const AC_ARITY: u8 = 6;
-/// A constant weighs less than a variable, or a symbol of arity 1 weighs 0.
+/// A constant weighs less than a variable, or a symbol of arity 1 weighs 0 and is not ranked above every other, or is
+/// one of form 1.
 pub const INADMISSIBLE: u8 = 7;
 /// A rank is held by an earlier symbol.
 pub const RANK_TAKEN: u8 = 8;
@@ -47,6 +48,14 @@ pub const OLD_FORM: u8 = 17;
 pub const OUT_OF_TURN: u8 = 18;
 /// A page has no room for a line for each rule.
 pub const PAGE_TOO_SHORT: u8 = 19;
+/// A count of nodes is not 1 to 7.
+pub const SIZE_OUT_OF_RANGE: u8 = 22;
+/// The terms are too many, or their words do not fit.
+pub const NO_ROOM_FOR_TERMS: u8 = 23;
+/// There are not 1 to 32 jobs, or the last served is none of them.
+pub const NO_JOB: u8 = 24;
+/// A job's book lies outside the buffer, is refused, or has fewer rules than the job's count.
+pub const BAD_JOB: u8 = 25;
 
 impl Error {
     /// The error of an output, the second input of its operation, that is too short.

@@ -7,10 +7,10 @@ use crate::ackbo::Order;
 use crate::error::Error;
 use crate::format::System;
 use crate::reading::check_term;
-use crate::table::Table;
+use crate::table::{is_variable, Table};
 use crate::term::{weight_and_occurrences, Prepared};
 
-/// The result of orienting a rule from left to right, numbered by 01's marks.
+/// The result of orienting a rule from left to right, numbered by 01's and 02's marks.
 #[derive(Clone, Copy, Debug, PartialEq, Eq)]
 #[repr(u8)]
 pub enum Orientation {
@@ -34,12 +34,15 @@ pub enum Orientation {
     Equivalent = 9,
     /// None of the others.
     Unrelated = 10,
+    /// Greater: the right side is a variable, and the left that variable under copies of the symbol of arity 1 that
+    /// weighs 0.
+    Wrapping = 11,
 }
 
 impl Orientation {
     /// Whether the left side is greater. 01: the rule falls.
     pub fn decreasing(self) -> bool {
-        self as u8 <= Orientation::RootsBelow as u8
+        self as u8 <= Orientation::RootsBelow as u8 || self == Orientation::Wrapping
     }
 }
 
@@ -114,8 +117,11 @@ impl<'a> Comparer<'a> {
     /// Orients a rule whose sides weigh the same and whose right side has no surplus variable.
     fn orient_equal_weights(&mut self, left: &[u16], right: &[u16]) -> Orientation {
         if left[0] != right[0] {
-            let higher = self.order.has_higher_root(left[0], right[0]);
-            return if higher { Orientation::Precedence } else { Orientation::Unrelated };
+            if self.order.has_higher_root(left[0], right[0]) {
+                return Orientation::Precedence;
+            }
+            let wrapped = is_variable(right[0]) && self.order.is_wrapped(left.iter().copied(), right[0]);
+            return if wrapped { Orientation::Wrapping } else { Orientation::Unrelated };
         }
         let s = self.left.prepare(self.order.table(), left);
         let t = self.right.prepare(self.order.table(), right);

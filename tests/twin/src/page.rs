@@ -44,5 +44,6 @@ fn words(orientation: Orientation) -> &'static str {
         Orientation::Lighter => "left lighter",
         Orientation::Equivalent => "sides equal",
         Orientation::Unrelated => "no case",
+        Orientation::Wrapping => "falls by wrapping",
     }
 }

@@ -34,9 +34,13 @@ fn read_system<S: Source>(source: &mut S, form: Form) -> Result<System, Error> {
     let rules = usize::from(source.field(width::RULE_COUNT)?);
     let mut table = Table::new(w0);
     let mut taken = [false; 1 << width::RANK];
+    let mut weights = Vec::new();
     for _ in 0..symbols {
-        table.push(read_symbol(source, w0, &mut taken)?);
+        let (symbol, weight_offset) = read_symbol(source, form, w0, &mut taken)?;
+        table.push(symbol);
+        weights.push(weight_offset);
     }
+    check_wrapper(source, &table, &weights)?;
     let mut system = System::new(table, rules);
     let mut side = [0; MAX_NODES];
     for _ in 0..rules {
@@ -66,8 +70,8 @@ fn nonzero<S: Source>(source: &mut S, width: u32, code: u8) -> Result<u16, Error
     }
 }
 
-/// The next symbol; `taken` holds the ranks of the earlier ones.
-fn read_symbol<S: Source>(source: &mut S, w0: u16, taken: &mut [bool]) -> Result<Symbol, Error> {
+/// The next symbol and the offset of its weight; `taken` holds the ranks of the earlier ones.
+fn read_symbol<S: Source>(source: &mut S, form: Form, w0: u16, taken: &mut [bool]) -> Result<(Symbol, usize), Error> {
     let arity_offset = source.offset();
     let arity = source.field(width::ARITY)? as u8;
     let ac = source.field(width::AC)? == 1;
@@ -78,7 +82,7 @@ fn read_symbol<S: Source>(source: &mut S, w0: u16, taken: &mut [bool]) -> Result
     let weight = source.field(width::WEIGHT)?;
     let least = match arity {
         0 => w0,
-        1 => 1,
+        1 if form == Form::One => 1,
         _ => 0,
     };
     if weight < least {
@@ -89,7 +93,19 @@ fn read_symbol<S: Source>(source: &mut S, w0: u16, taken: &mut [bool]) -> Result
     if std::mem::replace(&mut taken[usize::from(rank)], true) {
         return Err(source.error(RANK_TAKEN, rank_offset));
     }
-    Ok(Symbol { arity, ac, weight, rank })
+    Ok((Symbol { arity, ac, weight, rank }, weight_offset))
+}
+
+/// Refuses the first symbol of arity 1 that weighs 0 and whose rank is not above every other; `weights` holds the
+/// offsets of the weights.
+fn check_wrapper<S: Source>(source: &S, table: &Table, weights: &[usize]) -> Result<(), Error> {
+    let highest = table.symbols().iter().map(|symbol| symbol.rank).max();
+    for (symbol, &offset) in table.symbols().iter().zip(weights) {
+        if symbol.is_wrapper() && Some(symbol.rank) != highest {
+            return Err(source.error(INADMISSIBLE, offset));
+        }
+    }
+    Ok(())
 }
 
 /// The first variable in turn in a rule.

@@ -20,6 +20,13 @@ pub struct Symbol {
     pub rank: u8,
 }
 
+impl Symbol {
+    /// Whether it has arity 1 and weighs 0. 02: a wrapper.
+    pub fn is_wrapper(self) -> bool {
+        self.arity == 1 && self.weight == 0
+    }
+}
+
 /// The symbols of a rule file by number, and the weight of a variable.
 #[derive(Clone, Debug)]
 pub struct Table {

@@ -182,6 +182,11 @@ impl<'a> Subterm<'a> {
         self.position + usize::from(self.summary().size)
     }
 
+    /// The nodes in prefix order.
+    pub fn nodes(self) -> impl DoubleEndedIterator<Item = u16> + 'a {
+        (self.position..self.end()).map(move |position| self.at(position).root())
+    }
+
     /// The arguments of the root.
     pub fn arguments(self) -> impl Iterator<Item = Subterm<'a>> {
         let end = self.end();

@@ -7,7 +7,7 @@ use std::path::{Path, PathBuf};
 
 /// The operations, each by the file of its contract. The functions for C are all of `crates/ackbo/src/lib.rt` that it
 /// exports.
-const OPERATIONS: [(&str, &str); 12] = [
+const OPERATIONS: [(&str, &str); 14] = [
     ("crates/decoder/src/lib.rt", "decode"),
     ("crates/encoder/src/lib.rt", "encode"),
     ("crates/comparing/src/lib.rt", "compare"),
@@ -15,6 +15,8 @@ const OPERATIONS: [(&str, &str); 12] = [
     ("crates/picking/src/lib.rt", "greater_part"),
     ("crates/comparing/src/variables.rt", "oftener"),
     ("crates/hashing/src/lib.rt", "fingerprint"),
+    ("crates/enumerating/src/lib.rt", "count"),
+    ("crates/enumerating/src/lib.rt", "list"),
     ("crates/marking/src/mark.rt", "mark"),
     ("crates/marking/src/report.rt", "report"),
     ("crates/converter/src/lib.rt", "convert"),

@@ -179,7 +179,8 @@ fn score_is_rounded_to_the_nearest_and_a_half_to_the_even_one() {
 #[test]
 fn program_prints_what_the_twin_gives() {
     let terms = [comparisons(), picks(), fingerprints(), variable_tests(), sample_page()].concat();
-    let parts = [reports(&sample::examples()), terms, listing(), forms(), reports(&articles::examples()), limits()];
+    let requests = [forms(), wrapper()].concat();
+    let parts = [reports(&sample::examples()), terms, listing(), requests, reports(&articles::examples()), limits()];
     assert_eq!(parts.concat(), include_str!("../../../crates/cases/stdout"));
 }
 
@@ -275,6 +276,34 @@ fn forms() -> String {
         format!("a book of form 1\n{}", text(&old)),
         format!("the book converted\n{converted}{}{again}{short}", text(&book)),
         format!("a variable out of turn\n{}{}", refused(&out_of_turn.words()), text(&out_of_turn.packed())),
+    ];
+    parts.concat()
+}
+
+/// A book with a symbol of arity 1 that weighs 0, and books in which that symbol is refused.
+fn wrapper() -> String {
+    let theory = Theory::new(1, &[("c", 0, 1, 0), ("+", 2, 1, 1), ("g", 1, 1, 2), ("f", 1, 0, 3)]);
+    let rules = [
+        "f(x) -> x",
+        "f(f(f(x))) -> x",
+        "x -> f(x)",
+        "f(c) -> c",
+        "f(x)+y -> x+y",
+        "f(g(x)) -> g(f(x))",
+        "g(f(x)) -> g(x)",
+        "f(x) -> f(y)",
+        "f(x) -> f(f(x))",
+        "g(x) -> x",
+    ];
+    let book = theory.book(&rules);
+    let page = String::from_utf8(board(&book)).expect("a page is text");
+    let old = [&[book[0] - 0x10], &book[1..]].concat();
+    let converted = convert(&old, &mut vec![0; old.len()]).map_or_else(error_line, |count| format!("{count} 0 0\n"));
+    let low = Theory::new(1, &[("f", 1, 0, 0), ("c", 0, 1, 1)]);
+    let parts = [
+        format!("a weightless wrapper\n{}{page}", text(&book)),
+        format!("the same in form 1\n{converted}"),
+        format!("a wrapper ranked below another symbol\n{}{}", refused(&low.sheet(&[])), text(&low.book(&[]))),
     ];
     parts.concat()
 }

@@ -18,13 +18,13 @@ fn converted(old: &[u8]) -> Vec<u8> {
     bytes
 }
 
-/// Books of form 2 and of every kind.
+/// Books of form 2 and of every kind that form 1 has.
 fn books(random: &mut Random) -> Vec<Book> {
     let mut books: Vec<Book> = (0..BOOKS).map(|_| Book::random(random, 24)).collect();
     books.extend((0..BOOKS).map(|_| Book::of_all_variables(random, 6, 64)));
     books.extend((0..LARGEST_BOOKS).map(|round| Book::largest(random, round % 2 == 0)));
     books.push(Book::empty(Signature::random(random)));
-    books
+    books.into_iter().map(Book::without_wrapper).collect()
 }
 
 #[test]
@@ -129,7 +129,7 @@ fn a_book_is_refused_as_one_of_form_2_but_for_turns() {
     let mut random = Random::new(SEED + 4);
     let mut counts = [0; 19];
     for _ in 0..BOOKS * 5 {
-        let old = Book::random(&mut random, 6).aged(&mut random);
+        let old = Book::random(&mut random, 6).without_wrapper().aged(&mut random);
         let packed = damaged_packed(&mut random, &old);
         let mut output = vec![UNTOUCHED; packed.len()];
         let reply = convert(&packed, &mut output);
@@ -148,12 +148,13 @@ fn a_book_is_refused_as_one_of_form_2_but_for_turns() {
 }
 
 /// What converting says of a book of form 1 is what reading says of the same bits in form 2, unless a variable is out
-/// of turn before.
+/// of turn before, or a symbol of arity 1 weighs 0.
 fn check_like_form_2(mut packed: Vec<u8>, reply: Result<usize, Error>) {
     packed[0] += 0x10;
     let words = decode(&packed, &mut vec![0; 2 * 8 * packed.len()]);
     match (reply, words) {
         (Ok(count), Ok(_)) => assert_eq!(count, packed.len()),
+        (Err(Error { code: 7, .. }), _) => {}
         (Ok(_), Err(out_of_turn)) => assert_eq!(out_of_turn.code, 18),
         (Err(error), Err(Error { code: 18, offset, .. })) => assert!(offset < error.offset),
         (reply, words) => assert_eq!(reply.err(), words.err()),

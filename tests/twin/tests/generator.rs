@@ -25,16 +25,16 @@ fn check_round_trip(book: &Book) {
 #[test]
 fn generated_books_are_read_and_written() {
     let mut random = Random::new(SEED);
-    let mut counts = [0; 11];
+    let mut counts = [0; 12];
     for _ in 0..BOOKS {
         let book = Book::random(&mut random, 24);
         check_round_trip(&book);
         let mut marks = vec![0; book.rules.len()];
         let marked = mark(&book.packed(), &mut marks).expect("a generated book is valid");
-        assert_eq!(marked.falling, marks.iter().filter(|mark| (1..=6).contains(*mark)).count());
+        assert_eq!(marked.falling, marks.iter().filter(|mark| matches!(mark, 1..=6 | 11)).count());
         marks.iter().for_each(|&mark| counts[usize::from(mark)] += 1);
     }
-    println!("marks 1 to 10: {:?}", &counts[1..]);
+    println!("marks 1 to 11: {:?}", &counts[1..]);
     assert_eq!(counts[0], 0);
     assert!(counts[1..].iter().all(|&count| count > BOOKS / 10), "{counts:?}");
 }
@@ -125,7 +125,7 @@ fn accepted_words_are_given_back() {
 #[test]
 fn generated_calls_reach_every_mark_and_error() {
     let mut random = Random::new(SEED);
-    let (mut marks, mut errors, mut relations) = ([0; 11], [[0; 3]; 20], [0; 4]);
+    let (mut marks, mut errors, mut relations) = ([0; 12], [[0; 3]; 20], [0; 4]);
     let mut picks = [0; 4];
     let mut operations = [0; 9];
     let mut oftener = [0; 17];
@@ -171,7 +171,7 @@ fn generated_calls_reach_every_mark_and_error() {
     }
     println!("decoding, encoding, comparing, marking, picking, fingerprints, oftener, converting, pages:");
     println!("{operations:?}");
-    println!("marks 1 to 10: {:?}", &marks[1..]);
+    println!("marks 1 to 11: {:?}", &marks[1..]);
     println!("greater, less, equivalent, unrelated: {relations:?}");
     println!("left, right, equivalent, unrelated: {picks:?}");
     println!("oftener, variables 0 to 15 and none: {oftener:?}");

@@ -37,7 +37,7 @@ fn for_all(ground: bool, mut test: impl FnMut(&mut Random, &Signature, &mut Comp
 /// A pair aimed at a random mark, of no more nodes than a term may have.
 fn pair(random: &mut Random, signature: &Signature) -> (Tree, Tree) {
     loop {
-        let mark = random.between(1, 11) as u8;
+        let mark = random.between(1, 12) as u8;
         let (left, right) = signature.pair_in_context(random, mark, SIZE);
         if left.size().max(right.size()) <= MAX_NODES {
             return (left, right);
@@ -77,7 +77,7 @@ fn opposite(relation: Relation) -> Relation {
 
 #[test]
 fn marks_and_margins_agree_with_the_slow_order() {
-    let mut counts = [0; 11];
+    let mut counts = [0; 12];
     for_all(false, |random, signature, comparer| {
         let (left, right) = pair(random, signature);
         let (orientation, margin) = comparer.orient(&left.words(), &right.words());
@@ -94,8 +94,8 @@ fn picks_agree_with_the_slow_order() {
     for_all(false, |random, signature, _| {
         let (left, right) = pair(random, signature);
         let expected = match (oracle::mark(signature, &left, &right), oracle::mark(signature, &right, &left)) {
-            (1..=6, _) => Pick::Left(left.size()),
-            (_, 1..=6) => Pick::Right(right.size()),
+            (1..=6 | 11, _) => Pick::Left(left.size()),
+            (_, 1..=6 | 11) => Pick::Right(right.size()),
             (9, _) => Pick::Equivalent,
             _ => Pick::Unrelated,
         };

@@ -11,12 +11,17 @@ pub enum Field {
     Rest,
 }
 
-/// The part of a symbol that is its rank.
+/// The names of the header's fields, and of a symbol's.
+pub const SYMBOL_COUNT: &str = "count of symbols";
+pub const W0: &str = "w0";
+pub const RULE_COUNT: &str = "count of rules";
+pub const ARITY: &str = "arity";
+pub const WEIGHT: &str = "weight";
 pub const RANK: &str = "rank";
 
 /// The fields of the header and of a symbol, with their widths in bits.
-const HEADER: [(&str, usize); 4] = [("form", 4), ("count of symbols", 8), ("w0", 16), ("count of rules", 10)];
-const ENTRY: [(&str, usize); 4] = [("arity", 3), ("AC mark", 1), ("weight", 16), (RANK, 8)];
+const HEADER: [(&str, usize); 4] = [("form", 4), (SYMBOL_COUNT, 8), (W0, 16), (RULE_COUNT, 10)];
+const ENTRY: [(&str, usize); 4] = [(ARITY, 3), ("AC mark", 1), (WEIGHT, 16), (RANK, 8)];
 
 /// A book's bytes or a sheet's words.
 #[derive(Clone, Copy)]

@@ -47,6 +47,22 @@ pub fn variable(node: u16) -> Option<usize> {
     node.checked_sub(FIRST_VARIABLE).map(usize::from)
 }
 
+/// Two terms with their variables numbered by first use, as those of a rule are.
+pub fn renumbered(left: &[u16], right: &[u16]) -> (Vec<u16>, Vec<u16>) {
+    let mut met = Vec::new();
+    let mut number = |&node: &u16| {
+        if variable(node).is_none() {
+            return node;
+        }
+        let place = met.iter().position(|&other| other == node).unwrap_or(met.len());
+        if place == met.len() {
+            met.push(node);
+        }
+        FIRST_VARIABLE + place as u16
+    };
+    (left.iter().map(&mut number).collect(), right.iter().map(&mut number).collect())
+}
+
 impl Sheet {
     /// Opens a book.
     pub fn open(book: &[u8]) -> Result<Self, ackbo::Error> {

@@ -3,9 +3,10 @@
 use std::collections::HashMap;
 
 use crate::complaint::{counted, Complaint, Place};
+use crate::hint;
 use crate::names::{Meaning, Names};
 use crate::sheet::FIRST_VARIABLE;
-use crate::text::Field;
+use crate::text::{Field, Shape};
 use crate::token::{Kind, Token, Tokens};
 
 /// How deep parentheses may nest; a side that the library takes needs half of it.
@@ -35,7 +36,17 @@ impl Numbering {
 /// What the names in a term stand for.
 pub struct Scope<'s> {
     pub names: &'s Names,
-    pub arities: &'s [u16],
+    pub shapes: &'s [Shape],
+}
+
+impl Scope<'_> {
+    /// The number and the shape of a symbol.
+    fn symbol(&self, name: &str) -> Option<(u16, Shape)> {
+        match self.names.meaning(name)? {
+            Meaning::Symbol(number) => Some((number as u16, self.shapes[number])),
+            Meaning::Variable(_) => None,
+        }
+    }
 }
 
 /// Reads one term.
@@ -47,16 +58,22 @@ pub struct TermReader<'r, 'a> {
 }
 
 impl<'a> TermReader<'_, 'a> {
-    /// Reads a term: an operand, or operands joined by one operator, which group to the left.
+    /// Reads a term: an operand, two operands with an operator between them, or operands joined by one AC operator,
+    /// which group to the left.
     pub fn term(&mut self, depth: usize) -> Result<(), Complaint> {
         let start = self.nodes.len();
         self.operand(depth)?;
         let mut operators: Vec<Field> = Vec::new();
         while self.tokens.peek()?.kind == Kind::Operator {
             let token = self.tokens.take()?;
-            let operator = Field { word: self.operator(token)?, place: token.place };
+            let (word, ac) = self.infix(token)?;
+            let operator = Field { word, place: token.place };
             if operators.last().is_some_and(|last| last.word != operator.word) {
                 return Err(Complaint::at(token.place, "two operators in a row of terms: parentheses must part them"));
+            }
+            if !operators.is_empty() && !ac {
+                let text = format!("{} is not AC: parentheses must part three terms", token.quoted());
+                return Err(Complaint::at(token.place, text));
             }
             operators.push(operator);
             self.operand(depth)?;
@@ -65,10 +82,19 @@ impl<'a> TermReader<'_, 'a> {
         Ok(())
     }
 
-    fn operator(&self, token: Token) -> Result<u16, Complaint> {
-        match self.scope.names.meaning(token.text) {
-            Some(Meaning::Symbol(number)) => Ok(number as u16),
-            _ => Err(Complaint::at(token.place, format!("{} is not a symbol of this book", token.quoted()))),
+    /// The symbol of an operator between two terms, and whether it is AC.
+    fn infix(&self, token: Token) -> Result<(u16, bool), Complaint> {
+        match self.scope.symbol(token.text) {
+            Some((word, Shape { arity: None | Some(2), ac })) => Ok((word, ac)),
+            Some((_, Shape { arity, .. })) => {
+                let takes = counted(arity.unwrap_or(0).into(), "argument");
+                let text = format!("{} takes {takes}, so it stands between no two terms", token.quoted());
+                Err(Complaint::at(token.place, text))
+            }
+            None => {
+                let fault = Complaint::at(token.place, format!("{} is not a symbol of this book", token.quoted()));
+                Err(fault.hinted(hint::of_sign(token.text)))
+            }
         }
     }
 
@@ -83,8 +109,22 @@ impl<'a> TermReader<'_, 'a> {
                 self.term(depth + 1)?;
                 self.tokens.expect(Kind::Close, "an operator or `)`").map(|_| ())
             }
-            _ => Err(Complaint::at(token.place, format!("a term is missing before {}", token.quoted()))),
+            Kind::Operator if self.scope.symbol(token.text).is_some() => self.prefix(token, depth),
+            _ => {
+                let fault = Complaint::at(token.place, format!("a term is missing before {}", token.quoted()));
+                Err(fault.hinted(hint::of_sign(token.text)))
+            }
         }
+    }
+
+    /// Reads on after an operator that stands before its arguments, or has none.
+    fn prefix(&mut self, token: Token<'a>, depth: usize) -> Result<(), Complaint> {
+        let constant = self.scope.symbol(token.text).is_some_and(|(_, shape)| shape.arity == Some(0));
+        if constant || self.tokens.peek()?.kind == Kind::Open {
+            return self.named(token, depth);
+        }
+        let fault = Complaint::at(token.place, format!("a term is missing before {}", token.quoted()));
+        Err(fault.hinted(Some(format!("before its arguments it takes parentheses, `{}(..)`", token.text))))
     }
 
     /// Reads on after a name.
@@ -96,20 +136,23 @@ impl<'a> TermReader<'_, 'a> {
             }
             Some(Meaning::Symbol(number)) => {
                 self.push(number as u16, token.place)?;
-                self.arguments(token, usize::from(self.scope.arities[number]), depth)
+                self.arguments(token, self.scope.shapes[number].arity.map(usize::from), depth)
             }
             None => {
                 let text = format!("{} is neither a symbol nor a variable of this book", token.quoted());
-                Err(Complaint::at(token.place, text))
+                Err(Complaint::at(token.place, text).hinted(hint::of_name(token.text, self.scope.names)))
             }
         }
     }
 
-    /// Reads the arguments of a symbol, as many as its arity.
-    fn arguments(&mut self, symbol: Token<'a>, arity: usize, depth: usize) -> Result<(), Complaint> {
+    /// Reads the arguments of a symbol, as many as its arity if that is known.
+    fn arguments(&mut self, symbol: Token<'a>, arity: Option<usize>, depth: usize) -> Result<(), Complaint> {
         let mut count = 0;
         if self.tokens.peek()?.kind == Kind::Open {
             let mut next = self.tokens.take()?;
+            if self.tokens.peek()?.kind == Kind::Close {
+                next = self.tokens.take()?;
+            }
             while next.kind != Kind::Close {
                 self.term(depth + 1)?;
                 count += 1;
@@ -120,9 +163,7 @@ impl<'a> TermReader<'_, 'a> {
                 }
             }
         }
-        if count == arity {
-            return Ok(());
-        }
+        let Some(arity) = arity.filter(|&arity| arity != count) else { return Ok(()) };
         let text = format!("{} takes {}, and has {count}", symbol.quoted(), counted(arity, "argument"));
         Err(Complaint::at(symbol.place, text))
     }

@@ -1,8 +1,8 @@
 //! What a text says, each field with its place, and its book.
 
 use crate::complaint::{Complaint, Place};
+use crate::mend;
 use crate::names::Names;
-use crate::refusal;
 use crate::sheet::{self, FORM};
 
 /// The most symbols and rules of a book.
@@ -14,6 +14,13 @@ const MAX_RULES: usize = 1_023;
 pub struct Field {
     pub word: u16,
     pub place: Place,
+}
+
+/// How a symbol is used: its arity, unknown if its line has a fault, and whether it is AC.
+#[derive(Clone, Copy, Debug)]
+pub struct Shape {
+    pub arity: Option<u16>,
+    pub ac: bool,
 }
 
 /// The line of a symbol.
@@ -41,46 +48,61 @@ pub struct Text {
     pub names: Names,
     pub w0: Option<Field>,
     pub symbols: Vec<Entry>,
-    /// The arities alone.
-    pub arities: Vec<u16>,
+    pub shapes: Vec<Shape>,
     pub rules: Vec<RuleText>,
     /// Where the text ends.
     pub end: Place,
+    /// The text itself, for complaints.
+    pub source: String,
 }
 
 impl Default for Text {
     fn default() -> Self {
-        let (names, w0, symbols, arities, rules) = Default::default();
-        Text { names, w0, symbols, arities, rules, end: Place { line: 1, column: 1 } }
+        let (names, w0, symbols, shapes, rules) = Default::default();
+        Text { names, w0, symbols, shapes, rules, end: Place { line: 1, column: 1 }, source: String::new() }
+    }
+}
+
+/// The fields of the sheet: those before the rules, then those of each rule.
+#[derive(Clone, Debug)]
+pub struct Fields {
+    pub head: Vec<Field>,
+    pub rules: Vec<Vec<Field>>,
+}
+
+impl Fields {
+    /// The words of the sheet.
+    pub fn words(&self) -> Vec<u16> {
+        self.head.iter().chain(self.rules.iter().flatten()).map(|field| field.word).collect()
+    }
+
+    /// The field of a word.
+    pub fn get(&self, word: usize) -> Option<&Field> {
+        self.head.iter().chain(self.rules.iter().flatten()).nth(word)
     }
 }
 
 impl Text {
-    /// The fields of the sheet in order. A count stands where the first symbol or rule too many does.
-    fn fields(&self) -> Vec<Field> {
+    /// The fields of the sheet. A count stands where the first symbol or rule too many does.
+    fn fields(&self) -> Fields {
         let first = Place { line: 1, column: 1 };
         let symbol = self.symbols.get(MAX_SYMBOLS).map(|entry| entry.place);
         let rule = self.rules.get(MAX_RULES).map(|rule| rule.place);
-        let mut fields = vec![Field { word: FORM, place: first }];
-        fields.push(Field { word: saturated(self.symbols.len()), place: symbol.unwrap_or(self.end) });
-        fields.extend(self.w0);
-        fields.push(Field { word: saturated(self.rules.len()), place: rule.unwrap_or(self.end) });
+        let mut head = vec![Field { word: FORM, place: first }];
+        head.push(Field { word: saturated(self.symbols.len()), place: symbol.unwrap_or(self.end) });
+        head.extend(self.w0);
+        head.push(Field { word: saturated(self.rules.len()), place: rule.unwrap_or(self.end) });
         for entry in &self.symbols {
-            fields.extend([entry.arity, entry.ac, entry.weight]);
-            fields.extend(entry.rank);
+            head.extend([entry.arity, entry.ac, entry.weight]);
+            head.extend(entry.rank);
         }
-        fields.extend(self.rules.iter().flat_map(|rule| &rule.nodes));
-        fields
+        Fields { head, rules: self.rules.iter().map(|rule| rule.nodes.clone()).collect() }
     }
 
     /// The book of the text, or why the library refuses it.
     pub fn assemble(&self) -> Result<Vec<u8>, Complaint> {
         let fields = self.fields();
-        let words: Vec<u16> = fields.iter().map(|field| field.word).collect();
-        sheet::encode(&words).map_err(|error| {
-            let place = fields.get(error.offset).map_or(self.end, |field| field.place);
-            refusal::of_text(error, &words, place, &self.names)
-        })
+        sheet::encode(&fields.words()).map_err(|error| mend::refusals(self, fields, error).shown(&self.source))
     }
 }
 

@@ -15,6 +15,8 @@ pub enum Change {
     Above { symbol: usize, other: usize },
     /// The symbol gets the weight.
     Weight { symbol: usize, weight: u16 },
+    /// The symbol, of arity 1, becomes the wrapper: it weighs 0, and is ranked above every other.
+    Wrapper { symbol: usize },
 }
 
 impl Change {
@@ -23,11 +25,16 @@ impl Change {
         match self {
             Change::Weight { symbol, weight } => words[HEADER + ENTRY * symbol + WEIGHT] = weight,
             Change::Above { symbol, other } => move_above(words, symbols, symbol, other),
+            Change::Wrapper { symbol } => {
+                words[HEADER + ENTRY * symbol + WEIGHT] = 0;
+                let highest = (0..symbols).max_by_key(|number| words[HEADER + ENTRY * number + RANK]);
+                move_above(words, symbols, symbol, highest.unwrap_or(symbol));
+            }
         }
     }
 }
 
-/// Moves a symbol to just above another of higher rank; the ranks in use stay the same.
+/// Moves a symbol to just above another of higher rank, or leaves the highest; the ranks in use stay the same.
 fn move_above(words: &mut [u16], symbols: usize, symbol: usize, other: usize) {
     let rank = |number: usize| HEADER + ENTRY * number + RANK;
     let (from, to) = (words[rank(symbol)], words[rank(other)]);
@@ -43,19 +50,32 @@ fn move_above(words: &mut [u16], symbols: usize, symbol: usize, other: usize) {
 /// The marks of a whole book under a change, if the library takes it.
 pub fn marks(sheet: &Sheet, change: Change) -> Option<Vec<u8>> {
     let (symbols, nodes) = sheet.parts();
-    marks_of([symbols, nodes].concat(), sheet, change)
+    let mut words = [symbols, nodes].concat();
+    change.apply(&mut words, sheet.symbols().len());
+    marks_of(&words)
 }
 
 /// The mark of one rule under a change, if the library takes it.
-pub fn mark(sheet: &Sheet, (left, right): Rule, change: Change) -> Option<u8> {
-    let mut words = [sheet.parts().0, left, right].concat();
-    words[RULE_COUNT] = 1;
-    marks_of(words, sheet, change)?.first().copied()
+pub fn mark(sheet: &Sheet, rule: Rule, change: Change) -> Option<u8> {
+    let mut words = with_rule(sheet, rule);
+    change.apply(&mut words, sheet.symbols().len());
+    marks_of(&words)?.first().copied()
 }
 
-fn marks_of(mut words: Vec<u16>, sheet: &Sheet, change: Change) -> Option<Vec<u8>> {
-    change.apply(&mut words, sheet.symbols().len());
+/// The mark of one rule under the symbols of a book, if the library takes it.
+pub fn rule_mark(sheet: &Sheet, rule: Rule) -> Option<u8> {
+    marks_of(&with_rule(sheet, rule))?.first().copied()
+}
+
+/// The symbols of a sheet with one rule.
+fn with_rule(sheet: &Sheet, (left, right): Rule) -> Vec<u16> {
+    let mut words = [sheet.parts().0, left, right].concat();
+    words[RULE_COUNT] = 1;
+    words
+}
+
+fn marks_of(words: &[u16]) -> Option<Vec<u8>> {
     let mut marks = vec![0; usize::from(words[RULE_COUNT])];
-    ackbo::mark(&encode(&words).ok()?, &mut marks).ok()?;
+    ackbo::mark(&encode(words).ok()?, &mut marks).ok()?;
     Some(marks)
 }

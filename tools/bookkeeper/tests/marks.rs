@@ -2,7 +2,8 @@
 
 mod common;
 
-use bookkeeper::advice::{occurrences, Adviser, Effect, Offer};
+use bookkeeper::advice::{Adviser, Effect, Offer};
+use bookkeeper::candidates::occurrences;
 use bookkeeper::sheet::Sheet;
 use bookkeeper::trial::Change;
 use common::run_on;
@@ -15,7 +16,7 @@ const BOOKS: usize = 1_500;
 
 /// Whether a mark is one of a rule that falls.
 fn falls(mark: u8) -> bool {
-    (1..=6).contains(&mark)
+    matches!(mark, 1..=6 | 11)
 }
 
 /// The twin's marks of a book.
@@ -58,7 +59,7 @@ fn marks_and_margins_are_those_of_the_twin() {
 #[test]
 fn offers_make_rules_fall() {
     let mut random = Random::new(SEED);
-    let (mut ranks, mut weights, mut alone) = (0, 0, 0);
+    let (mut ranks, mut weights, mut wrappers, mut alone) = (0, 0, 0, 0);
     for _ in 0..BOOKS {
         let book = Book::random(&mut random, 6);
         let bytes = book.packed();
@@ -68,10 +69,12 @@ fn offers_make_rules_fall() {
             let margin = twin::compare(&bytes, rule.0, rule.1).unwrap().margin;
             let by_rank = if margin == 0 { adviser.ranks(rule) } else { Vec::new() };
             let by_weight = adviser.weights(rule, margin.unsigned_abs() as usize);
+            let by_wrapper = adviser.wrappers(rule);
             ranks += by_rank.len();
             weights += by_weight.len();
-            alone += usize::from(by_rank.is_empty() && by_weight.is_empty());
-            for Offer { change, mark, effect } in by_rank.into_iter().chain(by_weight) {
+            wrappers += by_wrapper.len();
+            alone += usize::from(by_rank.is_empty() && by_weight.is_empty() && by_wrapper.is_empty());
+            for Offer { change, mark, effect } in by_rank.into_iter().chain(by_weight).chain(by_wrapper) {
                 let changed = changed_marks(&book, change);
                 let is_lost = |rule: &usize| falls(marks[*rule]) && !falls(changed[*rule]);
                 assert!(falls(mark) && changed[number] == mark, "{change:?}");
@@ -81,8 +84,55 @@ fn offers_make_rules_fall() {
             }
         }
     }
-    println!("{ranks} changes of ranks, {weights} of weights; {alone} rules without one");
-    assert!(ranks > 100 && weights > 100 && alone > 100);
+    println!("{ranks} changes of ranks, {weights} of weights, {wrappers} wrappers; {alone} rules without one");
+    assert!(ranks > 100 && weights > 100 && wrappers > 10 && alone > 100);
+}
+
+/// How far weights are searched for one that was missed.
+const SEARCHED: u16 = 12;
+
+/// A weight that is offered is the nearest that does, and none that does is near where none is offered.
+#[test]
+fn least_weights_are_offered() {
+    let mut random = Random::new(SEED);
+    let (mut least, mut none) = (0, 0);
+    for _ in 0..BOOKS {
+        let book = Book::random(&mut random, 3);
+        let bytes = book.packed();
+        let (sheet, marks) = (Sheet::open(&bytes).unwrap(), twin_marks(&bytes));
+        let mut adviser = Adviser::new(&bytes, &sheet, &marks);
+        for (number, rule) in sheet.rules().enumerate().filter(|(number, _)| matches!(marks[*number], 8 | 10)) {
+            let margin = twin::compare(&bytes, rule.0, rule.1).unwrap().margin;
+            let offers = adviser.weights(rule, margin.unsigned_abs() as usize);
+            for offer in &offers {
+                let Change::Weight { symbol, weight } = offer.change else { panic!("a weight is offered") };
+                let old = sheet.symbol(symbol).weight;
+                let nearer = (0..=SEARCHED).flat_map(|step| [old.saturating_sub(step), old.saturating_add(step)]);
+                let nearer = nearer.filter(|other| other.abs_diff(old) < weight.abs_diff(old));
+                assert!(!nearer.into_iter().any(|weight| turns(&book, number, symbol, weight)), "{offer:?}");
+                least += 1;
+            }
+            if offers.is_empty() && margin >= -i64::from(SEARCHED) {
+                let near = |symbol: usize| {
+                    let old = sheet.symbol(symbol).weight;
+                    let weights = old.saturating_sub(SEARCHED)..=old.saturating_add(SEARCHED);
+                    weights.into_iter().any(|weight| turns(&book, number, symbol, weight))
+                };
+                assert!(!(0..sheet.symbols().len()).any(near), "rule {number}");
+                none += 1;
+            }
+        }
+    }
+    println!("{least} weights are the nearest; {none} rules have none");
+    assert!(least > 100 && none > 100);
+}
+
+/// Whether a rule falls by the twin under another weight of a symbol.
+fn turns(book: &Book, rule: usize, symbol: usize, weight: u16) -> bool {
+    let mut words = book.words();
+    Change::Weight { symbol, weight }.apply(&mut words, book.signature.symbols.len());
+    let mut bytes = vec![0; 32_768];
+    twin::encode(&words, &mut bytes).is_ok_and(|count| falls(twin_marks(&bytes[..count])[rule]))
 }
 
 #[test]
@@ -118,4 +168,25 @@ fn largest_books_take_bounded_trials() {
         let outcome = run_on(&["mark", "book", "--book"], &[("book", &book)]);
         assert_eq!((outcome.status, outcome.complaint), (1, None));
     }
+}
+
+/// The wrapper is offered where a symbol of arity 1 is spread over a sum.
+#[test]
+fn wrapper_is_offered() {
+    let text = "w0 1\nvariables x y\nsymbol + arity 2 ac weight 1\nsymbol neg arity 1 weight 1\norder + > neg\n\
+                neg(x + y) -> neg(x) + neg(y)\n";
+    let told = String::from_utf8(run_on(&["mark", "text"], &[("text", text.as_bytes())]).output).unwrap();
+    let change = "change: neg as the wrapper, of weight 0 and the highest rank: the rule falls by rank; 1 of 1 rule";
+    assert!(told.contains(change), "{told}");
+}
+
+/// A weight that makes the sides weigh the same is offered where the order then decides.
+#[test]
+fn weight_before_a_rank_is_offered() {
+    let text = "w0 1\nvariables x y\nsymbol zero arity 0 weight 1\nsymbol ones arity 0 weight 2\n\
+                symbol neg arity 1 weight 1\nsymbol not arity 1 weight 3\nsymbol shl arity 2 weight 0\n\
+                symbol add arity 2 ac weight 2\norder ones > not > shl > zero > neg > add\n\
+                neg(shl(add(y, zero), not(x))) -> add(not(shl(ones, zero)), neg(x))\n";
+    let told = String::from_utf8(run_on(&["mark", "text"], &[("text", text.as_bytes())]).output).unwrap();
+    assert!(told.contains("change: weight 1 for ones: the rule falls by rank; 1 of 1 rule fall then"), "{told}");
 }

@@ -113,6 +113,14 @@ impl Book {
         book
     }
 
+    /// The same with a weight of 1 for a symbol of arity 1 that weighs 0, which form 1 lacks.
+    pub fn without_wrapper(mut self) -> Self {
+        for symbol in self.signature.symbols.iter_mut().filter(|symbol| symbol.is_wrapper()) {
+            symbol.weight = 1;
+        }
+        self
+    }
+
     /// A rule file of form 1 with these rules, the variables of each renamed at random.
     pub fn aged(&self, random: &mut Random) -> Self {
         let rules = self.rules.iter().map(|(left, right)| {
@@ -126,7 +134,7 @@ impl Book {
     pub fn random(random: &mut Random, rules: usize) -> Self {
         let mut book = Book::empty(Signature::random(random));
         for _ in 0..random.below(rules + 1) {
-            let mark = random.between(1, 11) as u8;
+            let mark = random.between(1, 12) as u8;
             book.push_pair(random, mark, 6);
         }
         book
@@ -177,7 +185,7 @@ impl Book {
     fn push_sized(&mut self, random: &mut Random, room: usize) -> usize {
         let size = (room / 2 / SYMBOL_BITS).clamp(1, MAX_NODES);
         if random.one_in(2) {
-            let mark = random.between(1, 11) as u8;
+            let mark = random.between(1, 12) as u8;
             let (left, right) = self.signature.pair_in_context(random, mark, 1 + size / 4);
             if left.size().max(right.size()) <= size {
                 return self.push((left.words(), right.words()));

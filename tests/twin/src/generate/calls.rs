@@ -171,7 +171,7 @@ fn terms(random: &mut Random, book: &Book, intact: bool) -> (Vec<u8>, Vec<u16>, 
         let lowest = random.between(0, VARIABLES);
         book.signature.oftener_pair(random, lowest, size)
     } else {
-        let mark = random.between(1, 11) as u8;
+        let mark = random.between(1, 12) as u8;
         book.signature.pair_in_context(random, mark, size)
     };
     let (mut left, mut right) = (left.words(), right.words());

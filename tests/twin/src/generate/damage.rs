@@ -85,7 +85,10 @@ pub fn break_field(random: &mut Random, fields: &mut Vec<Field>) {
         NO_SYMBOL => fields[1].word = 0,
         NO_WEIGHT => fields[2].word = 0,
         AC_ARITY => set(random, fields, of(Role::Ac), |_, _| 1),
-        INADMISSIBLE => set(random, fields, of(Role::Weight), |_, word| word.saturating_sub(1)),
+        INADMISSIBLE => {
+            let less = if random.one_in(4) { u16::MAX } else { 1 };
+            set(random, fields, of(Role::Weight), |_, word| word.saturating_sub(less));
+        }
         RANK_TAKEN => {
             let first = fields.iter().find(|field| field.role == Role::Rank).map_or(0, |field| field.word);
             set(random, fields, of(Role::Rank), |_, _| first);

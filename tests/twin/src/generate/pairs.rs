@@ -12,7 +12,7 @@ const DRAWS: usize = 4;
 type Pair = (Tree, Tree);
 
 impl Signature {
-    /// A pair aimed at a mark, 1 to 10; any other number gives two terms of no relation.
+    /// A pair aimed at a mark, 1 to 11; any other number gives two terms of no relation.
     /// A side grows to a few times `size` nodes at most.
     pub fn pair(&self, random: &mut Random, mark: u8, size: usize) -> Pair {
         match mark {
@@ -26,6 +26,7 @@ impl Signature {
             8 => swapped(self.heavier(random, size, 0)),
             9 => self.equivalent(random, size),
             10 => self.unrelated(random, size),
+            11 => self.wrapped(random, size),
             _ => (self.tree(random, size, PAIR_VARIABLES), self.tree(random, size, PAIR_VARIABLES)),
         }
     }
@@ -192,6 +193,17 @@ impl Signature {
         }
         let [x, y, z] = [0, 1, 2].map(Tree::Variable);
         (left, right.substitute(&[y, z, x]))
+    }
+
+    /// A variable under copies of the symbol of arity 1 that weighs 0, and that variable.
+    fn wrapped(&self, random: &mut Random, size: usize) -> Pair {
+        let Some(&wrapper) = self.numbers(|symbol| symbol.is_wrapper()).first() else {
+            return self.equivalent(random, size);
+        };
+        let variable = Tree::Variable(random.below(PAIR_VARIABLES) as u8);
+        let copies = 1 + random.below(size);
+        let left = (0..copies).fold(variable.clone(), |inner, _| Tree::Application(wrapper, vec![inner]));
+        (left, variable)
     }
 
     /// Up to four members that both sides of a pair share.

@@ -16,8 +16,8 @@ pub struct Signature {
 }
 
 impl Signature {
-    /// An admissible signature. Most have symbols for every case of the order and many of equal weight; some are of any
-    /// shape, without constants too, or have 255 symbols.
+    /// An admissible signature. Most have symbols for every case of the order and many of equal weight, a third of them
+    /// a symbol of arity 1 that weighs 0; some are of any shape, without constants too, or have 255 symbols.
     pub fn random(random: &mut Random) -> Self {
         let kind = random.below(16);
         let w0 = if kind == 0 { random.between(1, u16::MAX.into()) } else { random.between(1, 3) } as u16;
@@ -36,6 +36,9 @@ impl Signature {
         random.shuffle(&mut ranks);
         for (symbol, rank) in symbols.iter_mut().zip(ranks) {
             symbol.rank = rank;
+        }
+        if random.one_in(3) {
+            make_wrapper(random, &mut symbols);
         }
         Signature { w0, symbols }
     }
@@ -141,6 +144,20 @@ impl Signature {
             words[position] = number.into();
         }
         Tree::from_words(&self.symbols, &words)
+    }
+}
+
+/// Makes one of the symbols of arity 1, if there is one, weigh 0 and rank highest.
+fn make_wrapper(random: &mut Random, symbols: &mut [Symbol]) {
+    let unary: Vec<usize> = (0..symbols.len()).filter(|&number| symbols[number].arity == 1).collect();
+    let highest = (0..symbols.len()).max_by_key(|&number| symbols[number].rank);
+    if let (Some(&wrapper), Some(highest)) = (random.choose(&unary), highest) {
+        let rank = symbols[wrapper].rank;
+        symbols[wrapper].weight = 0;
+        symbols[wrapper].rank = symbols[highest].rank;
+        if wrapper != highest {
+            symbols[highest].rank = rank;
+        }
     }
 }
 

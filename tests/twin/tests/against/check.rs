@@ -84,6 +84,35 @@ pub fn page(book: &[u8], room: usize) -> Result<Vec<u8>, Error> {
     result.map(|count| expected[..count].to_vec())
 }
 
+/// Counts the terms of n nodes under a book.
+pub fn count(book: &[u8], n: usize) -> Result<Option<usize>, Error> {
+    let result = twin::count(book, n);
+    let reply = |number: Option<usize>| number.map_or([2, 0, 0], |number| [1, number as i64, 0]);
+    with_terms((book, &[], &[]), Around::Zeros, |(book, _, _)| {
+        let ours = raw(|reply| unsafe { sys::ackbo_count(book.as_ptr(), book.len(), n, reply) });
+        agree(ours, numbers(result, reply), &(book, n));
+    });
+    with_terms((book, &[], &[]), Around::Ones, |(book, _, _)| {
+        agree(ackbo::count(book, n).map_err(error), result, &(book, n));
+    });
+    result
+}
+
+/// Lists the terms of n nodes under a book into `room` words.
+pub fn list(book: &[u8], room: usize, n: usize) -> Result<usize, Error> {
+    let mut expected = pattern(room);
+    let result = twin::list(book, &mut expected, n);
+    with_output(book, &expected, Around::Zeros, |book, words| {
+        let (len, room) = (book.len(), words.len());
+        let ours = raw(|reply| unsafe { sys::ackbo_list(book.as_ptr(), len, words.as_mut_ptr(), room, n, reply) });
+        agree(ours, numbers(result, |count| [count as i64, 0, 0]), &(book, n));
+    });
+    with_output(book, &expected, Around::Ones, |book, words| {
+        agree(ackbo::list(book, words, n).map_err(error), result, &(book, n));
+    });
+    result
+}
+
 /// Compares two terms under a book.
 pub fn compare(book: &[u8], left: &[u16], right: &[u16]) -> Result<Comparison, Error> {
     let result = twin::compare(book, left, right);

@@ -72,7 +72,7 @@ fn compare_families(tally: &mut Tally) {
 fn compare_terms(random: &mut Random, tally: &mut Tally, book: &Book) {
     let packed = book.packed();
     for _ in 0..SMALL_PAIRS {
-        let mark = random.between(1, 11) as u8;
+        let mark = random.between(1, 12) as u8;
         let size = if random.one_in(8) { MAX_NODES / 4 } else { 8 };
         let (left, right) = book.signature.pair_in_context(random, mark, size);
         tally.add_both_ways(&packed, &left.words(), &right.words());
@@ -103,7 +103,7 @@ pub fn large_pair(random: &mut Random, signature: &Signature) -> (Vec<u16>, Vec<
 fn compare_damaged(random: &mut Random, tally: &mut Tally, book: &Book) {
     let packed = book.packed();
     let pair = |random: &mut Random| {
-        let (left, right) = book.signature.pair_in_context(random, 11, 8);
+        let (left, right) = book.signature.pair_in_context(random, 12, 8);
         (left.words(), right.words())
     };
     for round in 0..DAMAGED_PAIRS {

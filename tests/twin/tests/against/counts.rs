@@ -14,7 +14,7 @@ pub const TERM_ERRORS: [u8; 5] = [2, 9, 10, 14, 15];
 pub struct Counts {
     calls: usize,
     accepted: usize,
-    errors: [[usize; 20]; 3],
+    errors: [[usize; 26]; 3],
 }
 
 impl Counts {

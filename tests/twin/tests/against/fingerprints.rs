@@ -115,7 +115,7 @@ fn fingerprints_of_families(tally: &mut Tally) {
 fn fingerprints_of_terms(random: &mut Random, tally: &mut Tally, book: &Book) {
     let (packed, symbols) = (book.packed(), &book.signature.symbols);
     for round in 0..SMALL_PAIRS {
-        let (mark, size) = if round % 2 == 0 { (9, MAX_NODES / 4) } else { (random.between(1, 11) as u8, 8) };
+        let (mark, size) = if round % 2 == 0 { (9, MAX_NODES / 4) } else { (random.between(1, 12) as u8, 8) };
         let (left, right) = book.signature.pair_in_context(random, mark, size);
         tally.add_pair(&packed, symbols, &left.words(), &right.words());
     }
@@ -127,7 +127,7 @@ fn fingerprints_of_terms(random: &mut Random, tally: &mut Tally, book: &Book) {
 
 fn fingerprints_of_damaged(random: &mut Random, tally: &mut Tally, book: &Book) {
     let packed = book.packed();
-    let draw = |random: &mut Random| book.signature.pair_in_context(random, 11, 8).0.words();
+    let draw = |random: &mut Random| book.signature.pair_in_context(random, 12, 8).0.words();
     for _ in 0..DAMAGED_TERMS {
         let term = draw(random);
         tally.add(fingerprint(&packed, &damaged_term(random, book, &term)));

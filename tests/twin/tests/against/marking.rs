@@ -15,7 +15,7 @@ const SIZES: [usize; 4] = [16, 32, 64, 128];
 #[derive(Default)]
 struct Tally {
     counts: Counts,
-    marks: [usize; 11],
+    marks: [usize; 12],
     /// The books by their score.
     all_falling: usize,
     none_falling: usize,
@@ -48,7 +48,7 @@ fn marking_agrees_with_the_twin() {
         tally.mark(&[packed.as_slice(), &[0]].concat(), MAX_RULES);
     }
     tally.counts.print("marking");
-    println!("  marks 1 to 10: {:?}", &tally.marks[1..]);
+    println!("  marks 1 to 11: {:?}", &tally.marks[1..]);
     println!("  books of score 100 and 0: {}, {}", tally.all_falling, tally.none_falling);
     tally.counts.require(0, &BOOK_ERRORS);
     tally.counts.require(1, &[12]);

@@ -93,7 +93,7 @@ fn test_terms(random: &mut Random, tally: &mut Tally, book: &Book) {
         }
     }
     for _ in 0..PAIRS_OF_MARKS {
-        let mark = random.between(1, 11) as u8;
+        let mark = random.between(1, 12) as u8;
         let (left, right) = book.signature.pair_in_context(random, mark, 8);
         tally.add_both_ways(&packed, &left.words(), &right.words());
     }

@@ -17,7 +17,7 @@ const SIZES: [usize; 4] = [16, 32, 64, 128];
 struct Tally {
     counts: Counts,
     /// The lines by the mark of their words.
-    marks: [usize; 11],
+    marks: [usize; 12],
     /// The lines with a margin below 0, and those with one of more than one character.
     negative: usize,
     long: usize,
@@ -55,7 +55,7 @@ fn pages_agree_with_the_twin() {
         tally.page(&[packed.as_slice(), &[0]].concat(), enough);
     }
     tally.counts.print("pages");
-    println!("  lines by mark, 1 to 10: {:?}", &tally.marks[1..]);
+    println!("  lines by mark, 1 to 11: {:?}", &tally.marks[1..]);
     println!("  margins below 0: {}, of more than one character: {}", tally.negative, tally.long);
     tally.counts.require(0, &BOOK_ERRORS);
     tally.counts.require(1, &[19]);

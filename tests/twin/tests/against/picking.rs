@@ -99,7 +99,7 @@ fn pick_of_families(random: &mut Random, tally: &mut Tally) {
 fn pick_of_terms(random: &mut Random, tally: &mut Tally, book: &Book) {
     let packed = book.packed();
     for _ in 0..SMALL_PAIRS {
-        let mark = random.between(1, 11) as u8;
+        let mark = random.between(1, 12) as u8;
         let (left, right) = book.signature.pair_in_context(random, mark, 8);
         tally.add_pair(random, &packed, &left.words(), &right.words());
     }
@@ -113,7 +113,7 @@ fn pick_of_terms(random: &mut Random, tally: &mut Tally, book: &Book) {
 fn pick_of_damaged(random: &mut Random, tally: &mut Tally, book: &Book) {
     let packed = book.packed();
     let pair = |random: &mut Random| {
-        let (left, right) = book.signature.pair_in_context(random, 11, 8);
+        let (left, right) = book.signature.pair_in_context(random, 12, 8);
         [left.words(), right.words()]
     };
     for round in 0..DAMAGED_PAIRS {

@@ -9,7 +9,7 @@ use twin::{compare, mark, report, Relation};
 const VARIABLES: [&str; 6] = ["u", "v", "w", "x", "y", "s"];
 
 /// The numbers of the decreasing marks.
-const DECREASING: std::ops::RangeInclusive<u8> = 1..=6;
+const DECREASING: [u8; 7] = [1, 2, 3, 4, 5, 6, 11];
 const EQUIVALENT: u8 = 9;
 
 /// A signature whose symbols have names. A name that is not a letter or a digit is an AC symbol, written infix.

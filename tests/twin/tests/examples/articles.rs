@@ -1,10 +1,8 @@
 //! The examples of the articles 000, 001 and 004 that 01's order can express, each with the article's own certificate.
 //!
 //! Examples left out, because 01's order cannot express them:
-//! - 000, 3.2, 4.3 and 4.8, and 004, 3.4, 3.7, 3.9 and section 4: a symbol of arity 1 weighs 0, which 01 refuses. For
-//!   the rules that do not need it, the same examples with weight 1 are below.
 //! - 000, 4.5, 4.6, 4.9 and 4.11 compare by other orders; what they say of AC-KBO's own cases is below.
-//! - 000, 5.11: the precedence is partial, and the symbol of arity 1 weighs 0.
+//! - 000, 5.11: the precedence is partial.
 //! - 000, 7.6: the point is AC-RPO, a recursive path order.
 //! - 000, 8.3: subterm coefficients.
 //!
@@ -131,18 +129,18 @@ fn examples_4_6_and_4_9() -> Example {
     Example::new("document 000, examples 4.6 and 4.9", theory, &cases)
 }
 
-/// 000, Examples 4.5, 4.8 and 4.11, and 004, Examples 3.7 and 3.9, with weight 1 of f in place of 0.
+/// 000, Examples 4.5, 4.8 and 4.11, and 004, Examples 3.7 and 3.9: f weighs 0.
 fn symbol_over_variable() -> Example {
-    let theory = Theory::new(1, &[("c", 0, 1, 0), ("+", 2, 1, 1), ("f", 1, 1, 2)]);
-    let cases = [("f(c) -> c", 1, 1), ("f(x) -> x", 1, 1), ("f(x)+y -> x+y", 1, 1)];
+    let theory = Theory::new(1, &[("c", 0, 1, 0), ("+", 2, 1, 1), ("f", 1, 0, 2)]);
+    let cases = [("f(c) -> c", 2, 0), ("f(x) -> x", 11, 0), ("f(x)+y -> x+y", 4, 0)];
     Example::new("documents 000 and 004, a symbol over a variable", theory, &cases)
 }
 
-/// 000, Examples 3.2 and 4.3, and 004, Example 3.4 and section 4, f > a > + and f > + > a: rule 2 has equal weights
-/// whatever f weighs, and weighs 1 here in place of 0. Rule 1 is decreasing for weight 0 only.
+/// 000, Examples 3.2 and 4.3, and 004, Example 3.4 and section 4, f > a > + and f > + > a: f weighs 0, for which alone
+/// rule 1 is decreasing.
 fn system_r1(precedence: &str, [a, plus]: [u8; 2], plus_weight: u16) -> Example {
-    let theory = Theory::new(1, &[("a", 0, 1, a), ("+", 2, plus_weight, plus), ("f", 1, 1, 2)]);
-    let cases = [("a+f(f(a)) -> f(a)+f(a)", 4, 0), ("f(a)+f(a) -> a+f(f(a))", 10, 0), ("f(a+a) -> f(a)+f(a)", 8, -1)];
+    let theory = Theory::new(1, &[("a", 0, 1, a), ("+", 2, plus_weight, plus), ("f", 1, 0, 2)]);
+    let cases = [("a+f(f(a)) -> f(a)+f(a)", 4, 0), ("f(a)+f(a) -> a+f(f(a))", 10, 0), ("f(a+a) -> f(a)+f(a)", 2, 0)];
     let title = format!("documents 000 and 004, R1, {precedence}, + weighs {plus_weight}");
     Example::new(&title, theory, &cases)
 }

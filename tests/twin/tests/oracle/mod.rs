@@ -84,7 +84,18 @@ pub fn oftener(s: &Tree, t: &Tree) -> usize {
     first.map_or(16, usize::from)
 }
 
-/// The mark 1 to 6 by which s is greater than t.
+/// Whether a term is a variable under one or more copies of the symbol of arity 1 that weighs 0, `copies` of them seen.
+fn wraps(signature: &Signature, s: &Tree, variable: u8, copies: usize) -> bool {
+    match s {
+        Tree::Variable(number) => *number == variable && copies > 0,
+        Tree::Application(f, arguments) => {
+            let f = signature.symbols[usize::from(*f)];
+            f.arity == 1 && f.weight == 0 && wraps(signature, &arguments[0], variable, copies + 1)
+        }
+    }
+}
+
+/// The mark, 1 to 6 or 11, by which s is greater than t.
 fn greater(signature: &Signature, s: &Tree, t: &Tree) -> Option<u8> {
     let (s_weight, t_weight) = (weight(signature, s), weight(signature, t));
     if !covers(s, t) || s_weight < t_weight {
@@ -92,6 +103,9 @@ fn greater(signature: &Signature, s: &Tree, t: &Tree) -> Option<u8> {
     }
     if s_weight > t_weight {
         return Some(1);
+    }
+    if let Tree::Variable(variable) = t {
+        return wraps(signature, s, *variable, 0).then_some(11);
     }
     let (Tree::Application(f, ss), Tree::Application(g, ts)) = (s, t) else { return None };
     let [f_symbol, g_symbol] = [f, g].map(|symbol| signature.symbols[usize::from(*symbol)]);

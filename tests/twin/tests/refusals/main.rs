@@ -67,6 +67,19 @@ fn refuse_packed(packed: &[u8], code: u8, offset: usize) {
     }
 }
 
+/// A book with these symbols is refused for one of arity 1 that weighs 0, whatever follows the table; the converter
+/// refuses the first such symbol.
+fn refuse_wrapper(symbols: &[Vec<(u32, usize)>], offset: usize) {
+    let count = symbols.len() as u32;
+    for (rules, nodes) in [(0, vec![]), (0, vec![(1, 8)]), (1, vec![]), (1, node(255))] {
+        let fields = [header(count, 1, rules), symbols.concat(), nodes].concat();
+        let mut words = [0; 400];
+        assert_eq!(decode(&pack(&fields), &mut words), Err(Error { code: 7, input: 0, offset }));
+        let first = symbols.iter().position(|symbol| symbol[0].0 == 1).expect("one has arity 1");
+        refuse_old(&old(&pack(&fields)), 7, 38 + 28 * first + 4);
+    }
+}
+
 fn refuse_words(words: &[u16], code: u8, offset: usize) {
     let error = Error { code, input: 0, offset };
     let mut bytes = [FILLER; 200];
@@ -114,7 +127,12 @@ fn errors_3_to_8_of_a_packed_book_are_at_their_field() {
         refuse_packed(&pack(&[header(1, 1, 0), symbol(arity, 1, 9, 0)].concat()), 6, 38);
     }
     refuse_packed(&pack(&[header(1, 5, 0), symbol(0, 0, 4, 0)].concat()), 7, 42);
-    refuse_packed(&pack(&[header(1, 5, 0), symbol(1, 0, 0, 0)].concat()), 7, 42);
+    refuse_wrapper(&[symbol(1, 0, 0, 0), symbol(0, 0, 1, 1)], 42);
+    refuse_wrapper(&[symbol(0, 0, 1, 1), symbol(1, 0, 0, 0)], 70);
+    // Of two, the one ranked lower; of three, the first that is not ranked highest.
+    refuse_wrapper(&[symbol(1, 0, 0, 5), symbol(1, 0, 0, 3)], 70);
+    refuse_wrapper(&[symbol(1, 0, 0, 9), symbol(1, 0, 0, 3), symbol(1, 0, 0, 4)], 70);
+    refuse_wrapper(&[symbol(1, 0, 0, 2), symbol(2, 0, 0, 3), symbol(1, 0, 0, 4)], 42);
     refuse_packed(&pack(&[header(2, 1, 0), symbol(0, 0, 1, 9), symbol(2, 1, 0, 9)].concat()), 8, 86);
     refuse_packed(
         &pack(&[header(3, 1, 0), symbol(0, 0, 1, 9), symbol(2, 1, 0, 0), symbol(2, 0, 0, 9)].concat()),

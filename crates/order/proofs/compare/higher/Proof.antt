@@ -1,5 +1,5 @@
--- Each branch is a case of the definition: variables are no symbols, and symbols are compared by precedence.
-use borrow.Author.Tests.{lt-ltb, le-ltb}
+-- Each branch is a case of the definition: a symbol is above a variable, and symbols are compared by precedence.
+use borrow.Author.Tests.{lt-ltb, le-ltb, le-leb, lt-leb}
 use Rattle.order.specs.Compared.{isHigher}
 use borrow.Author.Needs.{needs}
 use Rattle.order.proofs.compare.higher.Statement.{statement}
@@ -14,7 +14,7 @@ returns-2 : tie.Need-returns-2
 unfolding isHigher
 returns-2 c =
     let a = c .before .before .before .args in
-    rw (lt-ltb (a .f) 256 (c .before .if1 .left), le-ltb (a .g) 256 (c .if2 .taken))
+    rw (lt-ltb (a .f) 256 (c .before .if1 .left), le-leb 256 (a .g) (c .if2 .taken))
 
 returns-3 : tie.Need-returns-3
 unfolding isHigher
@@ -22,8 +22,7 @@ returns-3 c =
     let a = c .before .before .before .before .before .args in
     rw (
       lt-ltb (a .f) 256 (c .before .before .before .if1 .left),
-      lt-ltb (a .g) 256
-          (c .before .before .if2 .left),
+      lt-leb 256 (a .g) (c .before .before .if2 .left),
       c .before .precedence .ensures,
       c .precedence2 .ensures,
     )

@@ -1,14 +1,29 @@
 -- The variables decide first, then the weights, then the roots; terms with different roots are not equivalent.
 use native.Mathlib.Omega.{arith}
-use mathlib.Core.Path.{sym, _∙_}
+use mathlib.Core.List.{List}
+use mathlib.Core.Bool.{Bool, true, cond}
+use mathlib.Core.Path.{_≡_, sym, _∙_}
+use Prim.Native.Nat.{ℕ}
+use lib.ListN.{getD}
+use Rattle.symbols.proofs.TableLaws.{few-at}
+use Rattle.order.specs.Compared.{weightAt, noneOftenerAt, higherMark, isHigher, rootAt}
+use Rattle.order.specs.Whole.{Whole}
 use Rattle.terms.proofs.OftenerLaws.{oftener-none}
 use Rattle.equivalence.proofs.AlikeLaws.{roots-differ}
 use Rattle.order.proofs.RootLaws.{root-differing}
-use Rattle.order.proofs.MarkLaws.{whole-seven, whole-one, whole-eight, whole-root, whole-ten}
-use Rattle.order.proofs.WholeLaws.{left-some, right-some}
+use Rattle.order.proofs.MarkLaws.{whole-seven, whole-one, whole-eight, whole-higher, whole-ten}
+use Rattle.order.proofs.WholeLaws.{left-some, right-some, left-complete, right-complete}
 use borrow.Author.Needs.{needs}
 use Rattle.order.proofs.mark.mark.Statement.{statement}
 use Rattle.order.proofs.mark.mark.Tie as tie
+
+-- The mark by two roots that differ.
+differing : {table s t : List ℕ} (S : Whole table s t) → true ≡ noneOftenerAt table s 0 t 0 →
+    weightAt table s 0 ≡ weightAt table t 0 → (getD s 0 0 ≡ getD t 0 0 → ⊥) → {r : Bool} →
+    r ≡ isHigher table (getD s 0 0) (getD t 0 0) → cond r (higherMark (getD t 0 0)) 0 ≡ rootAt table s 0 t 0
+differing {table} {s} {t} S none l d e =
+    root-differing table s 0 t 0 (left-some S) (right-some S) (S .admissible) (few-at table (S .small))
+    (left-complete S) (right-complete S) none l d e
 
 first-oftener-requires : tie.Need-first-oftener-requires
 first-oftener-requires c κs =
@@ -59,18 +74,21 @@ mark-prepared-requires c κs =
 
 returns-5 : tie.Need-returns-5
 returns-5 c =
-    let c5 = c .before .before .before .before .before in
-    let c6 = c5 .before in
+    let c6 = c .before .before .before .before .before .before in
     let c7 = c6 .before in
     let c8 = c7 .before in
-    let c12 = c8 .before .before .before .before in
-    let a = c12 .args in
-    let (S, (A, B, N)) = c12 .pre in
-    let none = oftener-none _ _ (c8 .first-oftener .ensures _ _ (A .counted) (B .counted)) (c7 .if1 .left) in
-    let two = root-differing (a .table .now) (a .s .now) 0 (a .t .now) 0 (left-some S) (right-some S)
-    (c .before .before .if4 .left)
-    (sym (c .if5 .taken) ∙ c .before .higher .ensures) in
-    whole-root _ _ _ none (A .weight) (B .weight) (omega (arith, c6 .if2 .left, c5 .if3 .left)) two (omega arith)
+    let c9 = c8 .before in
+    let c13 = c9 .before .before .before .before in
+    let a = c13 .args in
+    let (S, (A, B, N)) = c13 .pre in
+    let none = oftener-none _ _ (c9 .first-oftener .ensures _ _ (A .counted) (B .counted)) (c8 .if1 .left) in
+    let root = differing S none (omega (arith, c7 .if2 .left, c6 .if3 .left, A .weight, B .weight))
+    (c .before .before .before .if4 .left)
+    (sym (c .before .if5 .taken) ∙ c .before .before .higher .ensures) in
+    let differ = roots-differ _ (a .s .now) 0 (a .t .now) 0 (left-some S) (right-some S)
+    (c .before .before .before .if4 .left) in
+    whole-higher _ _ _ none (A .weight) (B .weight) (omega (arith, c7 .if2 .left, c6 .if3 .left))
+    (c .higher-mark .ensures ∙ root) (getD (a .t .now) 0 0) (c .higher-mark .ensures) (sym differ)
 
 returns-6 : tie.Need-returns-6
 returns-6 c =
@@ -82,7 +100,7 @@ returns-6 c =
     let a = c12 .args in
     let (S, (A, B, N)) = c12 .pre in
     let none = oftener-none _ _ (c8 .first-oftener .ensures _ _ (A .counted) (B .counted)) (c7 .if1 .left) in
-    let zero = root-differing (a .table .now) (a .s .now) 0 (a .t .now) 0 (left-some S) (right-some S)
+    let zero = differing S none (omega (arith, c6 .if2 .left, c5 .if3 .left, A .weight, B .weight))
     (c .before .before .if4 .left)
     (sym (c .if5 .left) ∙ c .before .higher .ensures) in
     let differ = roots-differ _ (a .s .now) 0 (a .t .now) 0 (left-some S) (right-some S)
@@ -93,4 +111,4 @@ returns-6 c =
 pub mark-spec : {M : Type 1} → statement M
 mark-spec =
     tie.close (tie.spec first-oftener-requires returns returns-2 returns-3 shared-slice-read-f shared-slice-read-g
-    mark-prepared-requires (λ c. search needs) (λ c κs. search needs) returns-5 returns-6)
+    mark-prepared-requires (λ c. search needs) (λ c κs. search needs) (λ c κs. search needs) returns-5 returns-6)

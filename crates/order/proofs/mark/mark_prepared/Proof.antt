@@ -2,8 +2,8 @@
 use mathlib.Core.Path.{refl, sym, _∙_}
 use native.Mathlib.Omega.{arith}
 use Rattle.order.proofs.EquivalentLaws.{mark-of-equivalent}
-use Rattle.order.proofs.MarkLaws.{whole-root, whole-ten}
-use Rattle.order.proofs.WholeLaws.{left-some, right-some}
+use Rattle.order.proofs.MarkLaws.{whole-root, whole-ten, same-few}
+use Rattle.order.proofs.WholeLaws.{left-some, right-some, whole-scale}
 use Rattle.order.proofs.mark.mark_prepared.Statement.{statement}
 use Rattle.order.proofs.mark.mark_prepared.Tie as tie
 
@@ -16,7 +16,7 @@ returns : tie.Need-returns
 returns c =
     let c7 = c .before .before .before .before .before .before .before in
     let (S, R, N) = c7 .pre in
-    mark-of-equivalent _ (S .binary) _ _ (S .left .wellFormed) (S .right .wellFormed)
+    mark-of-equivalent _ (S .admissible .acBinary) _ _ (S .left .wellFormed) (S .right .wellFormed)
     (sym (c .before .prepare-both .ensures .0) ∙ c .if1 .taken)
 
 sum-up-requires : tie.Need-sum-up-requires
@@ -36,8 +36,7 @@ arguments-mark-requires c κs =
     let c9 = c6 .before .before .before in
     let c15 = c9 .before .before .before .before .before .before in
     let (S, R, N) = c15 .pre in (
-      record
-          { sides = c9 .prepare-both .ensures .1; left = c6 .sum-up .ensures .0; right = c4 .sum-up2 .ensures .0 },
+      whole-scale S (c9 .prepare-both .ensures .1) (c6 .sum-up .ensures .0) (c4 .sum-up2 .ensures .0),
       (left-some S, right-some S, R .root),
     )
 
@@ -46,7 +45,10 @@ returns-2 c =
     let c9 = c .before .before .before .before .before .before .before .before .before in
     let c17 = c9 .before .before .before .before .before .before .before .before in
     let (S, R, N) = c17 .pre in
+    let a = c17 .args in
+    let few = same-few (a .table .now) (a .s .now) 0 (a .t .now) 0 (left-some S) (right-some S) (R .root) in
     whole-root _ _ _ (R .few) refl refl (R .level) (c .before .arguments-mark .ensures) (omega arith)
+    (omega (arith, few, c .before .arguments-mark .ensures))
 
 returns-3 : tie.Need-returns-3
 returns-3 c =

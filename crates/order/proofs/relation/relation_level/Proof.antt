@@ -2,7 +2,7 @@
 use mathlib.Core.Path.{refl, sym, _∙_}
 use Rattle.order.proofs.EquivalentLaws.{mark-of-equivalent}
 use Rattle.order.proofs.MarkLaws.{relation-equivalent, level-greater, level-less, level-unrelated}
-use Rattle.order.proofs.WholeLaws.{level-turned, scales-turned}
+use Rattle.order.proofs.WholeLaws.{level-turned, scales-turned, whole-scale}
 use Rattle.order.proofs.relation.relation_level.Statement.{statement}
 use Rattle.order.proofs.relation.relation_level.Tie as tie
 
@@ -16,14 +16,15 @@ returns c =
     let c7 = c .before .before .before .before .before .before .before in
     let S = c7 .pre .0 .whole in
     let like = sym (c .before .prepare-both .ensures .0) ∙ c .if1 .taken in
-    let nine = mark-of-equivalent _ (S .binary) _ _ (S .left .wellFormed) (S .right .wellFormed) like in
-    relation-equivalent _ _ _ nine (S .binary) (S .left .wellFormed) (S .right .wellFormed) refl
+    let nine = mark-of-equivalent _ (S .admissible .acBinary) _ _ (S .left .wellFormed) (S .right .wellFormed) like in
+    relation-equivalent _ _ _ nine (S .admissible .acBinary) (S .left .wellFormed) (S .right .wellFormed) refl
 
 greater-level-requires : tie.Need-greater-level-requires
 greater-level-requires c κs =
     let c3 = c .before .before .before in
     let c9 = c3 .before .before .before .before .before .before in
-    let (L, (x, y)) = c9 .pre in (L, record { sides = c3 .prepare-both .ensures .1; left = x; right = y })
+    let (L, (x, y)) = c9 .pre in
+    (L, whole-scale (L .whole) (c3 .prepare-both .ensures .1) x y)
 
 returns-2 : tie.Need-returns-2
 returns-2 c =
@@ -34,7 +35,7 @@ greater-level-requires-2 c κs =
     let c7 = c .before .before .before .before .before .before .before in
     let c13 = c7 .before .before .before .before .before .before in
     let (L, (x, y)) = c13 .pre in
-    (level-turned L, scales-turned (record { sides = c7 .prepare-both .ensures .1; left = x; right = y }))
+    (level-turned L, scales-turned (whole-scale (L .whole) (c7 .prepare-both .ensures .1) x y))
 
 returns-3 : tie.Need-returns-3
 returns-3 c =

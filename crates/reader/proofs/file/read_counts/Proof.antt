@@ -14,12 +14,12 @@ use Rattle.reader.proofs.file.read_counts.Tie as tie
 
 returns : tie.Need-returns
 unfolding countsReader
-returns c form =
+returns c =
     rw (c .enum-told .given .1, sym (rw (c .enum-told .given .1) at (c .before .before .field-at-least .ensures .0)))
 
 returns-2 : tie.Need-returns-2
 unfolding countsReader
-returns-2 c form =
+returns-2 c =
     let c4 = c .before .before .before .before in
     let c6 = c4 .before .before in
     let count = sym (rw (c4 .read .given .1) at (c6 .field-at-least .ensures .0)) in
@@ -34,7 +34,7 @@ cast-w0 c =
 
 returns-3 : tie.Need-returns-3
 unfolding countsReader
-returns-3 c form =
+returns-3 c =
     let c4 = c .before .before .before .before in
     let c6 = c4 .before .before in
     let c8 = c6 .before .before in
@@ -44,9 +44,9 @@ returns-3 c form =
     let rules = sym (rw (c .enum-told3 .given .1) at (c .before .before .field .ensures .0)) in
     rw (c .enum-told3 .given .1, count, w0, rules)
 
-read-symbols-requires : tie.Need-read-symbols-requires
+read-table-requires : tie.Need-read-table-requires
 unfolding countsReader
-read-symbols-requires c κs =
+read-table-requires c κs =
     let c4 = c .before .before .before .before in
     let c6 = c4 .before .before in
     let c8 = c6 .before .before in
@@ -72,7 +72,7 @@ read-symbols-requires c κs =
 
 returns-4 : tie.Need-returns-4
 unfolding countsReader
-returns-4 c form =
+returns-4 c =
     let c5 = c .before .before .before .before .before in
     let c7 = c5 .before .before in
     let c9 = c7 .before .before in
@@ -91,11 +91,11 @@ returns-4 c form =
     let second = reach 1 8 _ _ _ (c19 .pre .0 .1) (count .0) in
     let few = rw (c13 .read .given .1) at (c15 .field-at-least .ensures .1) in
     let some = rw (c5 .read3 .given .1) at (c7 .field .ensures .1) in
-    rw (count-read, w0-read, rules) (head-answer form (a .packed) (a .book .now) (a .sheet .now) _ _ _ _ (a .table .now)
-    (c .before .before .read-symbols .last .1 .1 .1 .0) (c .before .before .read-symbols .result)
-    (c .before .before .read-symbols .ensures)
+    rw (count-read, w0-read, rules) (head-answer (a .form) (a .packed) (a .book .now) (a .sheet .now) _ _ _ _
+    (a .table .now) (c .before .before .read-table .last .1 .1 .1 .0) (c .before .before .read-table .result)
+    (c .before .before .read-table .ensures)
     (w0-stands (a .packed) (a .book .now) (a .sheet .now) 16 _ _ _ second (w0 .0))
-    (c .before .before .read-symbols .kept .1 .1 .1 .0)
+    (c .before .before .read-table .kept .1 .1 .1 .0)
     (room-le (a .packed) _ _ (a .table .now) (table-le _ few) (c19 .pre .1))
     (reach 3 10 _ _ _ (reach 2 16 _ _ _ second (w0 .0)) rules) (c19 .pre .0 .0) few some (leb-true 1 _ (w0 .1)))
 
@@ -116,6 +116,6 @@ read-counts-spec =
     (λ c. search needs)
     (λ c. search needs)
     returns-3
-    read-symbols-requires
+    read-table-requires
     (λ c. search needs)
     returns-4)

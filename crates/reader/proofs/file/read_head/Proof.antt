@@ -67,7 +67,7 @@ returns-4 c =
       read-parts (a .form) (a .packed) (a .book .now) (a .sheet .now),
       form,
       eq-eqb _ _ (c5 .if2 .left),
-    ) (c .before .before .read-counts .ensures (a .form))
+    ) (c .before .before .read-counts .ensures)
 
 pub read-head-spec : {M : Type 1} → statement M
 read-head-spec =

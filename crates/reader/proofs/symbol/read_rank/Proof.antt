@@ -3,7 +3,7 @@ use mathlib.Core.Path.{sym, ap, _∙_}
 use mathlib.Core.Bool.{not}
 use Prim.Native.Nat.{ℕ}
 use native.Mathlib.Omega.{arith}
-use Rattle.format.specs.Format.{heldBy}
+use Rattle.format.specs.Symbols.{heldBy}
 use Rattle.reader.specs.Source.{sourceOf}
 use Rattle.reader.proofs.SourceLaws.{tested-fault, tested-less, tested-got}
 use borrow.Author.Needs.{needs}

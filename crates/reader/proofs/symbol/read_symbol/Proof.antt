@@ -8,6 +8,7 @@ use Rattle.symbols.specs.Table.{symbolsAt}
 use Rattle.symbols.proofs.EntryLaws.{entry-words}
 use Rattle.format.specs.Errors.{weightInadmissible, rankTaken}
 use Rattle.format.specs.Layout.{weightWidth, rankWidth}
+use Rattle.format.specs.Symbols.{leastWeightIn}
 use Rattle.reader.specs.Source.{sourceOf, tableOf}
 use Rattle.reader.proofs.SourceLaws.{tested-field, entry-stands, reached-entry}
 use Rattle.reader.proofs.SymbolLaws.{not-false, symbol-parts, taken-put, stored-same}
@@ -142,7 +143,8 @@ returns-6 c =
     let weight = sym (rw (c10 .read3 .given .1, least) at (c12 .field-at-least .ensures .0)) in
     let rank = sym (rw (c5 .read4 .given .1) at (c7 .read-rank .ensures .0 earlier (c28 .pre .1 .1 .0))) in
     let small = rw (c5 .read4 .given .1) at (c7 .read-rank .ensures .1) in
-    let parts = symbol-parts (sourceOf (a .packed) (a .book .now) (a .sheet .now)) (a .w0) earlier (a .at) in
+    let parts = symbol-parts (sourceOf (a .packed) (a .book .now) (a .sheet .now)) (leastWeightIn (a .form) (a .w0))
+    earlier (a .at) in
     let s : Symbol = record {
       arity = c22 .read .given .0 .0;
       ac = eqb (c18 .read2 .given .0 .0) 1;

@@ -7,7 +7,7 @@ use Rattle.terms.specs.Signature.{Symbol}
 use Prim.Native.Nat.{_+_, _-_, _≤_}
 use native.Mathlib.Nat.{sub-zero}
 use lib.ListN.{length}
-use Rattle.format.specs.Format.{symbolsReader}
+use Rattle.format.specs.Symbols.{leastWeightIn, symbolsReader}
 use Rattle.symbols.specs.Table.{symbolsAt, tableWords, symbolsWords}
 use Rattle.symbols.proofs.TableLaws.{length-symbols}
 use Rattle.symbols.proofs.EntryLaws.{table-more, table-start}
@@ -20,16 +20,16 @@ use Rattle.reader.proofs.symbol.read_symbols_from.Statement.{statement}
 use Rattle.reader.proofs.symbol.read_symbols_from.Tie as tie
 
 abbrev Inv-loop : tie.InvT-loop
-Inv-loop book sheet packed table₀ w0 count at taken₀ here₀ number₀ table taken here number =
+Inv-loop book sheet packed table₀ form w0 count at taken₀ here₀ number₀ table taken here number =
     (number ≤ count) × (length table ≡ length table₀) × (length taken ≡ 256) ×
     TakenBy (symbolsAt (tableOf packed sheet table) 0 number) taken ×
-    (symbolsReader (sourceOf packed book sheet) w0 count [] at ≡
-    symbolsReader (sourceOf packed book sheet) w0 (count - number) (symbolsAt (tableOf packed sheet table) 0 number)
-    here) × Reached packed book sheet (tableWords number) here ×
+    (symbolsReader (sourceOf packed book sheet) (leastWeightIn form w0) count [] at ≡
+    symbolsReader (sourceOf packed book sheet) (leastWeightIn form w0) (count - number)
+    (symbolsAt (tableOf packed sheet table) 0 number) here) × Reached packed book sheet (tableWords number) here ×
     Stored packed 4 (symbolsWords (symbolsAt (tableOf packed sheet table) 0 number)) table₀ table
 
 abbrev μ-loop : tie.MeasureT-loop
-μ-loop book sheet packed table₀ w0 count at taken₀ here₀ number₀ table taken here number = count - number
+μ-loop book sheet packed table₀ form w0 count at taken₀ here₀ number₀ table taken here number = count - number
 
 loop-holds : tie.Need-loop-holds Inv-loop μ-loop
 loop-holds c =
@@ -70,8 +70,9 @@ returns c =
     let c9 = c5 .before .before .before .before in
     let c13 = c9 .before .before .before .before in
     let a = c13 .args in
+    let least = leastWeightIn (a .form) (a .w0) in
     let v = c9 .loop .inv in
-    v .4 ∙ symbols-fault (sourceOf (a .packed) (a .book .now) (a .sheet .now)) (a .w0) (a .count) (c9 .loop .number)
+    v .4 ∙ symbols-fault (sourceOf (a .packed) (a .book .now) (a .sheet .now)) least (a .count) (c9 .loop .number)
     (omega arith) (symbolsAt (tableOf (a .packed) (a .sheet .now) (c9 .loop .table)) 0 (c9 .loop .number))
     (c9 .loop .here) _ _
     (rw (c .before .offset .given .1) at (c5 .read-symbol .ensures .0))
@@ -82,16 +83,17 @@ loop-again c =
     let c9 = c5 .before .before .before .before in
     let c13 = c9 .before .before .before .before in
     let a = c13 .args in
+    let least = leastWeightIn (a .form) (a .w0) in
     let v = c9 .loop .inv in
     let (s, read, stored, taken, reached, put) = rw (c .before .value .given .1) at (c5 .read-symbol .ensures .0) in (
       omega arith,
       c5 .read-symbol .kept .1 .1 .1 .0 ∙ v .1,
       c5 .read-symbol .ensures .1,
       taken,
-      v .4 ∙ symbols-past (sourceOf (a .packed) (a .book .now) (a .sheet .now)) (a .w0) (a .count) (c9 .loop .number)
+      v .4 ∙ symbols-past (sourceOf (a .packed) (a .book .now) (a .sheet .now)) least (a .count) (c9 .loop .number)
           (omega arith) (symbolsAt (tableOf (a .packed) (a .sheet .now) (c9 .loop .table)) 0 (c9 .loop .number))
           (c9 .loop .here) s _ read ∙
-          ap (λ (ss : List Symbol). symbolsReader (sourceOf (a .packed) (a .book .now) (a .sheet .now)) (a .w0)
+          ap (λ (ss : List Symbol). symbolsReader (sourceOf (a .packed) (a .book .now) (a .sheet .now)) least
           (a .count - (c9 .loop .number + 1)) ss (c .before .value .given .0 .1 .0)) (sym stored),
       reached,
       rw stored (stored-more (a .packed) (a .table .now) (c9 .loop .table) _ (c9 .loop .number)
@@ -107,11 +109,12 @@ returns-2 : tie.Need-returns-2 Inv-loop μ-loop
 returns-2 c =
     let c5 = c .before .before .before .before .before in
     let a = c5 .args in
+    let least = leastWeightIn (a .form) (a .w0) in
     let v = c .before .loop .inv in
     let number = c .before .loop .number in
     let e : number ≡ a .count = omega arith in
     let z : a .count - number ≡ 0 = omega arith in (
-      v .4 ∙ symbols-done (sourceOf (a .packed) (a .book .now) (a .sheet .now)) (a .w0) (a .count - number)
+      v .4 ∙ symbols-done (sourceOf (a .packed) (a .book .now) (a .sheet .now)) least (a .count - number)
           (symbolsAt (tableOf (a .packed) (a .sheet .now) (c .before .loop .table)) 0 number)
           (c .before .loop .here) z ∙ rw e,
       sym (length-symbols _ 0 (a .count)),

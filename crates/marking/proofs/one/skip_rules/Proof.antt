@@ -1,0 +1,103 @@
+-- The loop keeps: the rules before `i` are read, and the next one begins at `here`.
+use mathlib.Core.List.{List, [], _∷_, _++_}
+use mathlib.Core.Path.{_≡_, refl, sym, _∙_}
+use Prim.Native.Nat.{_-_, _*_, _≤_}
+use native.Mathlib.Omega.{arith}
+use lib.ListN.{length}
+use Rattle.terms.specs.Signature.{Signature}
+use Rattle.format.specs.Layout.{formNumber}
+use Rattle.format.specs.Reading.{bitSource}
+use Rattle.format.specs.Format.{Sides, unusedOf}
+use Rattle.symbols.specs.Arities.{Arities}
+use Rattle.reader.proofs.RuleLaws.{Done, done-none, done-fault, done-more, done-all}
+use borrow.Author.Needs.{needs}
+use Rattle.marking.proofs.one.skip_rules.Statement.{statement}
+use Rattle.marking.proofs.one.skip_rules.Tie as tie
+
+abbrev Inv-loop : tie.InvT-loop
+Inv-loop book arities count at unused none₀ here₀ i₀ none here i =
+    (i ≤ count) × (here ≤ 8 * length book) × (length none ≡ 0)
+    × ((σ : Signature) → Arities σ arities →
+    (done : List Sides) × Done (bitSource book) (unusedOf formNumber) σ count at i here done)
+
+abbrev μ-loop : tie.MeasureT-loop
+μ-loop book arities count at unused none₀ here₀ i₀ none here i = count - i
+
+loop-holds : tie.Need-loop-holds Inv-loop μ-loop
+loop-holds c =
+    let c2 = c .before .before in
+    let a = c2 .args in (
+      omega arith,
+      c2 .pre .1,
+      refl,
+      λ σ k. ([], done-none (bitSource (a .book .now)) (unusedOf formNumber) σ (a .count) (a .at)),
+    )
+
+slice-aggregate : tie.Need-slice-aggregate-read-rule-into Inv-loop μ-loop
+slice-aggregate c =
+    let c2 = c .before .before in
+    sym (c2 .loop .inv .2)
+
+read-rule-into-requires : tie.Need-read-rule-into-requires Inv-loop μ-loop
+read-rule-into-requires c κs =
+    let c2 = c .before .before in
+    let c3 = c2 .before in
+    let c5 = c3 .before .before in
+    ((c5 .pre .0, c2 .loop .inv .1, omega arith), c3 .unused-at-start .ensures .1)
+
+returns : tie.Need-returns Inv-loop μ-loop
+returns c =
+    let c4 = c .before .before .before .before in
+    let c6 = c4 .before .before in
+    let c7 = c6 .before in
+    let c8 = c7 .before in
+    let c10 = c8 .before .before in
+    let a = c10 .args in
+    let l = c7 .loop in (
+      λ σ k. let (done, d) = l .inv .3 σ k in
+          done-fault (bitSource (a .book .now)) (unusedOf formNumber) σ (a .count) (a .at) (l .i) (l .here) done d
+          (c6 .loop-test .taken) _ _
+          (rw (c .before .offset .given .1, c8 .unused-at-start .ensures .0) at (c4 .read-rule-into .ensures .0 σ k)),
+      tt,
+    )
+
+loop-again : tie.Need-loop-again Inv-loop μ-loop
+loop-again c =
+    let c4 = c .before .before .before .before in
+    let c6 = c4 .before .before in
+    let c7 = c6 .before in
+    let c8 = c7 .before in
+    let c10 = c8 .before .before in
+    let a = c10 .args in
+    let l = c7 .loop in
+    let within = rw (c .before .next .given .1) at (c4 .read-rule-into .ensures .1) in (
+      omega arith,
+      within .1,
+      c4 .read-rule-into .kept .1 .1 .0 ∙ l .inv .2,
+      λ σ k. let (done, d) = l .inv .3 σ k in
+          let (r, read, long, put) =
+          rw (c .before .next .given .1, c8 .unused-at-start .ensures .0) at (c4 .read-rule-into .ensures .0 σ k)
+          in (
+            done ++ (r ∷ []),
+            done-more (bitSource (a .book .now)) (unusedOf formNumber) σ (a .count) (a .at) (l .i) (l .here) done d
+                (c6 .loop-test .taken) r _ read,
+          ),
+    )
+
+returns-2 : tie.Need-returns-2 Inv-loop μ-loop
+returns-2 c =
+    let c4 = c .before .before .before .before in
+    let a = c4 .args in
+    let l = c .before .loop in (
+      λ σ k. let (done, d) = l .inv .3 σ k in (
+        done,
+        done-all (bitSource (a .book .now)) (unusedOf formNumber) σ (a .count) (a .at) (l .i) (l .here) done d
+            (c .loop-test .left),
+      ),
+      (omega arith, l .inv .1),
+    )
+
+pub skip-rules-spec : {M : Type 1} → statement M
+skip-rules-spec =
+    tie.close (tie.spec Inv-loop μ-loop (λ c κs. search needs) loop-holds slice-aggregate read-rule-into-requires
+    (λ c. search needs) returns (λ c. search needs) (λ c. search needs) (λ c. search needs) loop-again returns-2)

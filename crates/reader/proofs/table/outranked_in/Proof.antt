@@ -1,0 +1,14 @@
+-- Each branch is the call for its source.
+use borrow.Author.Needs.{needs}
+use Rattle.reader.proofs.table.outranked_in.Statement.{statement}
+use Rattle.reader.proofs.table.outranked_in.Tie as tie
+
+returns : tie.Need-returns
+returns c = rw (c .before .if1 .taken) (c .first-outranked .ensures)
+
+returns-2 : tie.Need-returns-2
+returns-2 c = rw (c .before .if1 .left) (c .first-outranked2 .ensures)
+
+pub outranked-in-spec : {M : Type 1} → statement M
+outranked-in-spec =
+    tie.close (tie.spec (λ c κs. search needs) returns (λ c κs. search needs) returns-2)

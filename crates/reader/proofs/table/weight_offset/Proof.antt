@@ -1,0 +1,20 @@
+-- A field moves the offset on by its width in bits, and by one among words.
+use borrow.Author.Needs.{needs}
+use native.Mathlib.Omega.{arith}
+use Rattle.reader.specs.Source.{sourceOf}
+use Rattle.reader.proofs.table.weight_offset.Statement.{statement}
+use Rattle.reader.proofs.table.weight_offset.Tie as tie
+
+returns : tie.Need-returns
+unfolding sourceOf
+returns c bytes words = rw (c .if1 .taken) (omega arith)
+
+returns-2 : tie.Need-returns-2
+unfolding sourceOf
+returns-2 c bytes words = rw (c .if1 .left) (omega arith)
+
+pub weight-offset-spec : {M : Type 1} → statement M
+weight-offset-spec =
+    tie.close (tie.spec (λ c. search needs) (λ c. search needs) (λ c. search needs) (λ c. search needs)
+    (λ c. search needs) (λ c. search needs) returns (λ c. search needs) (λ c. search needs) (λ c. search needs)
+    returns-2)

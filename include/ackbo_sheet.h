@@ -8,20 +8,31 @@
 #include "ackbo.h"
 #include "ackbo_text.h"
 
-/* The words before the first symbol, and of a symbol; the most words before the rules, and the most bytes of a book
-   that has no rules. */
+/* The words before the first symbol, and of a symbol but for its coefficients; the form whose symbols have some, one for
+   each argument; the most words before the rules, and the most bytes of a book that has no rules. */
 enum {
     ACKBO_HEADER_WORDS = 4,
     ACKBO_SYMBOL_WORDS = 4,
-    ACKBO_MAX_HEAD_WORDS = ACKBO_HEADER_WORDS + ACKBO_SYMBOL_WORDS * ACKBO_MAX_SYMBOLS,
-    ACKBO_MAX_HEAD_BYTES = 898
+    ACKBO_FORM_OF_COEFFICIENTS = 3,
+    ACKBO_MAX_HEAD_WORDS = ACKBO_HEADER_WORDS + (ACKBO_SYMBOL_WORDS + ACKBO_MAX_ARITY) * ACKBO_MAX_SYMBOLS,
+    ACKBO_MAX_HEAD_BYTES = 1790
 };
+
+/* The word of a sheet where its symbol of a number begins, or where the rules do for the count of symbols; the length
+   of the sheet where it is shorter. */
+static inline size_t ackbo_symbol_start(const uint16_t *sheet, size_t sheet_len, size_t number) {
+    size_t start = ACKBO_HEADER_WORDS;
+    if (sheet_len > 0 && sheet[0] == ACKBO_FORM_OF_COEFFICIENTS) {
+        for (; number > 0 && start < sheet_len; number--) start += (size_t)ACKBO_SYMBOL_WORDS + sheet[start];
+    } else {
+        start += ACKBO_SYMBOL_WORDS * number;
+    }
+    return start < sheet_len ? start : sheet_len;
+}
 
 /* The count of words before the rules of a sheet, at most as many as it has. */
 static inline size_t ackbo_head_length(const uint16_t *sheet, size_t sheet_len) {
-    size_t symbols = sheet_len > 1 ? sheet[1] : 0;
-    size_t length = ACKBO_HEADER_WORDS + ACKBO_SYMBOL_WORDS * symbols;
-    return length < sheet_len ? length : sheet_len;
+    return ackbo_symbol_start(sheet, sheet_len, sheet_len > 1 ? sheet[1] : 0);
 }
 
 /* The count of words of the term at the front of words, under the symbols of a sheet: of a side of a rule, if the words
@@ -34,7 +45,7 @@ static inline size_t ackbo_term_length(const uint16_t *sheet, size_t sheet_len, 
         if (length == words_len) return 0;
         owed--;
         if (words[length] >= ACKBO_FIRST_VARIABLE) continue;
-        symbol = ACKBO_HEADER_WORDS + (size_t)ACKBO_SYMBOL_WORDS * words[length];
+        symbol = ackbo_symbol_start(sheet, sheet_len, words[length]);
         if (symbol >= head) return 0;
         owed += sheet[symbol];
     }

@@ -8,7 +8,7 @@ use crate::repeats::{self, Repeat};
 use crate::sheet::Rule;
 use crate::words::Mark;
 
-/// The marks that no change of weights or ranks follows.
+/// The marks that no change of weights or ranks follows; coefficients may change the first.
 pub const VARIABLE_ADDED: u8 = 7;
 pub const SIDES_EQUAL: u8 = 9;
 
@@ -64,7 +64,7 @@ pub struct Finding<'a> {
     pub oftener: Vec<usize>,
     /// Whether the rule falls turned round.
     pub turned: bool,
-    /// The changes of ranks and weights that make the rule fall; none where none is looked for.
+    /// The changes of ranks, weights and coefficients that make the rule fall; none where none is looked for.
     pub offers: Option<Vec<Offer>>,
     /// Whether the changes that a run tries are used up.
     pub untried: bool,
@@ -103,11 +103,20 @@ pub fn findings<'a>(loaded: &'a Loaded, marking: &'a Marking) -> Vec<Finding<'a>
 fn advised<'a>(adviser: &mut Adviser, finding: Finding<'a>) -> Finding<'a> {
     let Finding { rule, mark, margin, .. } = finding;
     let oftener = if mark == VARIABLE_ADDED { adviser.oftener(rule) } else { Vec::new() };
-    let looked_for = !matches!(mark, VARIABLE_ADDED | SIDES_EQUAL);
+    // Only coefficients change how often a variable is counted.
+    let looked_for = match mark {
+        VARIABLE_ADDED => adviser.sheet.has_coefficients(),
+        _ => mark != SIDES_EQUAL,
+    };
     let offers = looked_for.then(|| {
-        let mut offers = if margin == 0 { adviser.ranks(rule) } else { Vec::new() };
-        offers.extend(adviser.weights(rule, margin.unsigned_abs() as usize));
-        offers.extend(adviser.wrappers(rule));
+        let mut offers = if margin == 0 && oftener.is_empty() { adviser.ranks(rule) } else { Vec::new() };
+        if oftener.is_empty() {
+            offers.extend(adviser.weights(rule, margin.unsigned_abs() as usize));
+        }
+        offers.extend(adviser.coefficients(rule));
+        if oftener.is_empty() {
+            offers.extend(adviser.wrappers(rule));
+        }
         offers
     });
     let untried = looked_for && !adviser.can_try();

@@ -1,13 +1,9 @@
 //! The operations with room of their own: what they write comes back in a vector.
 
-use alloc::vec;
-use alloc::vec::Vec;
-
 use crate::layout::{head_len, rules, HEADER_WORDS, MAX_BYTES, MAX_RULES, MAX_WORDS};
-use crate::{compare, convert, decode, encode, mark, page, Error, Mark, Marked, LINE_BYTES};
+use crate::{compare, convert, decode, encode, mark, Error, Mark, Marked};
 
-/// The fewest bits of a book, on the whole, for a word of its sheet: those of a variable. A coefficient has fewer, but
-/// not with the other fields of its symbol.
+/// The fewest bits of a book, on the whole, for a word of its sheet: those of a variable.
 const LEAST_BITS: usize = 5;
 
 /// The sheet of a book, by [`decode`].
@@ -89,25 +85,6 @@ pub fn marked_with_margins(book: &[u8]) -> Result<(Marked, Vec<(Mark, i64)>), Er
     let margin = |(left, right)| compare(&symbols, left, right).map(|comparison| comparison.margin);
     let margins = rules(&sheet).map(margin).collect::<Result<Vec<_>, _>>()?;
     Ok((reply, marks.into_iter().zip(margins).collect()))
-}
-
-/// The page of a book, by [`page`].
-///
-/// # Errors
-/// Those of the book, input 0.
-///
-/// ```
-/// // Two constants of weight 1 with ranks 1 and 0; the rules 0 -> 1 and 1 -> 0.
-/// let book = ackbo::encoded(&[2, 2, 1, 2, 0, 0, 1, 1, 0, 0, 1, 0, 0, 1, 1, 0]).unwrap();
-/// let page = ackbo::paged(&book).unwrap();
-/// assert!(page.starts_with(b"   0 falls by rank "));
-/// assert_eq!(page.len(), 2 * ackbo::LINE_BYTES);
-/// ```
-pub fn paged(book: &[u8]) -> Result<Vec<u8>, Error> {
-    let mut text = vec![0; MAX_RULES * LINE_BYTES];
-    let count = page(book, &mut text)?;
-    text.truncate(count);
-    Ok(text)
 }
 
 /// The example of `README.md` compiles.

@@ -3,15 +3,14 @@
 //! Each table has a row a number. `include/ackbo_text.h` has the same rows for C, and `docs/MARKS.md` an entry for
 //! each; the tests of this crate hold the three to one another.
 
-use core::fmt;
+use std::fmt;
 
 use crate::Error;
 
-/// Makes an enum of a table, to which later versions add rows, whose rows are a variant, its number, and its words.
+/// Makes an enum of a table whose rows are a variant, its number, and its words.
 macro_rules! numbered {
     ($(#[$about:meta])* $name:ident { $($variant:ident = $number:literal, $text:literal;)* }) => {
         $(#[$about])*
-        #[non_exhaustive]
         #[derive(Clone, Copy, Debug, PartialEq, Eq, Hash, PartialOrd, Ord)]
         #[repr(u8)]
         pub enum $name {
@@ -109,8 +108,6 @@ numbered! {
         OldForm = 17, "the form is 1, which the converter alone reads";
         VariableOutOfTurn = 18, "a variable is out of turn in its rule";
         PageTooShort = 19, "the page is shorter than 65 times the count of rules";
-        CoefficientInadmissible = 20, "a coefficient is 0, or not 1 on an AC symbol";
-        SideTooHeavy = 21, "a side or a term weighs more than 4,294,967,295";
         SizeOutOfRange = 22, "the count of nodes is not 1 to 7";
         NoRoomForTerms = 23, "the terms are too many, or have more words than there is room for";
         NoSuchJob = 24, "there are not 1 to 32 jobs, or the last served is none";

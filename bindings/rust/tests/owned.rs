@@ -6,7 +6,7 @@ use ackbo::{layout, Mark, Refusal};
 use common::{bytes, text};
 
 /// The samples that the operations read.
-const READ: [&str; 5] = ["accepted", "coefficients", "listing", "sample", "wrapper"];
+const READ: [&str; 3] = ["accepted", "listing", "sample"];
 
 fn book(sample: &str) -> Vec<u8> {
     bytes(&format!("samples/{sample}.book"))
@@ -22,12 +22,6 @@ fn opening_and_closing() {
         assert_eq!(sheet, words[..count], "{sample}");
         assert_eq!(ackbo::encoded(&sheet).unwrap(), book, "{sample}");
     }
-}
-
-#[test]
-fn paging() {
-    assert_eq!(ackbo::paged(&book("listing")).unwrap(), bytes("samples/listing.page"));
-    assert_eq!(ackbo::paged(&[]).unwrap_err().refusal(), Some(Refusal::FieldMissing));
 }
 
 #[test]

@@ -14,10 +14,10 @@ ghost use Rattle.comparing.specs.Related.{RelatedRead};
 use inputs::Ends;
 use measures::SUMS;
 use measures::sums::sum_up;
-use measures::totals::margin;
 use operations::CompareReply;
 use operations::Comparison;
 use order::relation::relation;
+use weights::totals::margin;
 
 mod variables;
 
@@ -45,8 +45,8 @@ fn compare_read(table: &[u16], left: &[u16], right: &[u16]) -> Comparison
 {
     let mut left_sums = [0u64; SUMS];
     let mut right_sums = [0u64; SUMS];
-    let mut adds = [0u64; measures::NODE_SUMS];
-    measures::nodes::put_node_sums(table, &mut adds);
+    let mut adds = [0u64; weights::NODE_SUMS];
+    weights::nodes::put_node_sums(table, &mut adds);
     let s = sum_up(table, &adds, left, &mut left_sums);
     let t = sum_up(table, &adds, right, &mut right_sums);
     Comparison {

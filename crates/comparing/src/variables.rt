@@ -9,8 +9,8 @@ ghost use Rattle.symbols.specs.Table.{signatureOf, maxTableWords};
 ghost use Rattle.operations.specs.Variables.{oftener as oftenerOf};
 ghost use Rattle.operations.specs.Enums.{numberReply};
 use inputs::Ends;
-use measures::totals::total;
 use operations::NumberReply;
+use weights::totals::total;
 
 // The variable test of two terms that were read.
 fn oftener_read(table: &[u16], left: &[u16], right: &[u16]) -> usize
@@ -22,11 +22,11 @@ fn oftener_read(table: &[u16], left: &[u16], right: &[u16]) -> usize
         (termOf (signatureOf (now (table .entry))) (now (right .entry)))
         ⌝ }
 {
-    let mut adds = [0u64; measures::NODE_SUMS];
-    measures::nodes::put_node_sums(table, &mut adds);
+    let mut adds = [0u64; weights::NODE_SUMS];
+    weights::nodes::put_node_sums(table, &mut adds);
     let s = total(table, &adds, left);
     let t = total(table, &adds, right);
-    measures::totals::first_oftener(s, t)
+    weights::totals::first_oftener(s, t)
 }
 
 // The first variable that occurs oftener in the right term, 16 if none does, under a packed rule file.

@@ -13,15 +13,17 @@ use Rattle.format.specs.Layout.{firstForm, maxBytes}
 use Rattle.format.specs.Reading.Reading.{got, fault}
 use Rattle.format.specs.Format.{RuleFile}
 use Rattle.format.specs.Files.{readBytesIn}
-use Rattle.format.specs.Packing.{Item, itemBits, bytesOf, packedIn, packed, unpacked}
+use Rattle.format.specs.Packing.{Item, itemBits, bytesOf, packed, unpacked}
 use Rattle.format.specs.Conversion.{convertedFile}
 use Rattle.format.proofs.PackingLaws.{length-bytesOf}
-use Rattle.format.proofs.FileLaws.{bytes-length}
+use Rattle.format.proofs.FileLaws.{bytes-taken, bytes-length}
 use Rattle.format.proofs.ConversionLaws.{converted-length}
 use Rattle.operations.specs.Replies.Reply.{accepted, refused}
 use Rattle.operations.specs.Converting.{converted}
 use Rattle.symbols.specs.Table.{tableWords, maxTableWords}
 use Rattle.sides.proofs.UnpackedLaws.{unpacked-length}
+use Rattle.reader.specs.File.{storedFile}
+use Rattle.reader.proofs.StoredLaws.{stored-old}
 use Rattle.decoder.specs.Sheet.{SheetAt}
 use Rattle.encoder.specs.Items.{bitsTo}
 use Rattle.encoder.proofs.ItemsLaws.{file-items}
@@ -58,30 +60,36 @@ module _ (bytes output : List ℕ) where
 -- ---- the sheet of the converted file
 
 module _ (bytes sheet stored : List ℕ) (file : RuleFile) (total front : ℕ)
-    (parts : SheetAt firstForm bytes sheet stored file total front)
+    (parts : SheetAt bytes sheet stored file total front)
     (room : length bytes ≤ maxBytes → 5 * maxTableWords + 8 * length bytes ≤ 5 * length sheet) where
   pub sheet-short : total ≤ length sheet
   sheet-short = omega (arith, parts .few, room (parts .short))
 
-  pub sheet-begin : ((symbols : ℕ) × (front ≡ 4 + 4 * symbols)) × (front ≤ total)
-  unfolding tableWords
-  sheet-begin =
-      ((_, parts .begin), omega (arith, parts .begin, parts .size, unpacked-length (convertedFile file)))
+  module _ (end : ℕ) (read : readBytesIn firstForm bytes ≡ got file end) where
+    same : storedFile file ≡ convertedFile file
+    same = stored-old file (bytes-taken firstForm bytes file end read)
 
-  pub sheet-front : take total stored ≡ unpacked (convertedFile file)
-  sheet-front =
-      let words = unpacked (convertedFile file) in
-      rw (parts .stored sheet-short, parts .size, sets-eq words sheet 0 (omega (arith, parts .size, sheet-short)))
-      (take-append-seam words (drop (0 + length words) sheet))
+    size : total ≡ length (unpacked (convertedFile file))
+    size = parts .size ∙ ap (λ (f : RuleFile). length (unpacked f)) same
 
-  abbrev bits : List ℕ
-  bits = bitsTo (take total stored) front (length (take total stored))
+    pub sheet-begin : ((symbols : ℕ) × (front ≡ 4 + 4 * symbols)) × (front ≤ total)
+    unfolding tableWords
+    sheet-begin = ((_, parts .begin), omega (arith, parts .begin, size, unpacked-length (convertedFile file)))
 
-  pub sheet-packed : bytesOf bits ≡ packed (convertedFile file)
-  unfolding packedIn tableWords
-  sheet-packed =
-      rw (sheet-front, parts .begin)
-      (ap (λ (is : List Item). bytesOf (flatMap itemBits is)) (file-items (convertedFile file)))
+    pub sheet-front : take total stored ≡ unpacked (convertedFile file)
+    sheet-front =
+        let words = unpacked (convertedFile file) in
+        rw (parts .stored sheet-short, same, size, sets-eq words sheet 0 (omega (arith, size, sheet-short)))
+        (take-append-seam words (drop (0 + length words) sheet))
 
-  pub sheet-bits : (end : ℕ) → readBytesIn firstForm bytes ≡ got file end → length bytes ≡ (length bits + 7) / 8
-  sheet-bits end e = sym (as-long bytes [] file end e) ∙ sym (ap length sheet-packed) ∙ length-bytesOf bits
+    abbrev bits : List ℕ
+    bits = bitsTo (take total stored) front (length (take total stored))
+
+    pub sheet-packed : bytesOf bits ≡ packed (convertedFile file)
+    unfolding packed tableWords
+    sheet-packed =
+        rw (sheet-front, parts .begin)
+        (ap (λ (is : List Item). bytesOf (flatMap itemBits is)) (file-items (convertedFile file)))
+
+    pub sheet-bits : length bytes ≡ (length bits + 7) / 8
+    sheet-bits = sym (as-long bytes [] file end read) ∙ sym (ap length sheet-packed) ∙ length-bytesOf bits

@@ -28,8 +28,8 @@ use Rattle.symbols.proofs.EntryLaws.{table-entries}
 use Rattle.answers.specs.declared.Answer.the-variants.{Got}
 use Rattle.sides.specs.Side.{rulesWords}
 use Rattle.sides.proofs.UnpackedLaws.{unpacked-parts, unpacked-length}
-use Rattle.reader.specs.File.{PackedParts, rulesIn}
-use Rattle.decoder.specs.Sheet.{fileIn, Unpacked}
+use Rattle.reader.specs.File.{PackedParts, rulesIn, storedForm, storedFile}
+use Rattle.decoder.specs.Sheet.{Unpacked}
 
 -- ---- a file whose words were stored in two parts
 
@@ -44,16 +44,16 @@ stored-parts words half whole table nodes front count room first second =
 as-many : (form : ℕ) (rules : List Sides) → length (rulesIn form rules) ≡ length rules
 as-many form rules = byTest (eqb form firstForm) (λ e. rw e (length-map rules _)) λ e. rw e
 
-module _ (form : ℕ) (bytes table before after : List ℕ) (file : RuleFile) (nodes front : ℕ)
-    (parts : PackedParts form bytes table before after file nodes front) where
-  word-count : front + nodes ≡ length (unpacked (fileIn form file))
+module _ (bytes table before after : List ℕ) (file : RuleFile) (nodes front : ℕ)
+    (parts : PackedParts bytes table before after file nodes front) where
+  word-count : front + nodes ≡ length (unpacked (storedFile file))
   word-count =
       omega (
         arith,
         parts .size,
         table-entries (length (file .signature .symbols)),
         parts .nodeCount,
-        unpacked-length (fileIn form file),
+        unpacked-length (storedFile file),
       )
 
   words-few : 5 * (front + nodes) ≤ 5 * maxTableWords + 8 * length bytes
@@ -61,7 +61,7 @@ module _ (form : ℕ) (bytes table before after : List ℕ) (file : RuleFile) (n
 
   -- The words were not stored, for want of room.
   pub sheet-unstored : (words : List ℕ) (end : ℕ) (reading : Reading RuleFile) → reading ≡ got file end →
-      length words < front + nodes → Unpacked form bytes reading (Got (front + nodes) front) words words
+      length words < front + nodes → Unpacked bytes reading (Got (front + nodes) front) words words
   sheet-unstored words end reading read short = (
     file,
     end,
@@ -80,19 +80,19 @@ module _ (form : ℕ) (bytes table before after : List ℕ) (file : RuleFile) (n
     pub nodes-few : nodes ≤ length before
     nodes-few = omega (arith, parts .narrow, room (parts .short))
 
-    nodes-front : take nodes after ≡ rulesWords (rulesIn form (file .rules))
+    nodes-front : take nodes after ≡ rulesWords (rulesIn (file .form) (file .rules))
     nodes-front =
-        let l = rulesWords (rulesIn form (file .rules)) in
+        let l = rulesWords (rulesIn (file .form) (file .rules)) in
         rw (parts .stored nodes-few, parts .nodeCount, sets-eq l before 0 (omega (arith, nodes-few, parts .nodeCount)))
         (take-append-seam l (drop (0 + length l) before))
 
-    sheet-words : take front table ++ take nodes after ≡ unpacked (fileIn form file)
-    sheet-words = rw (parts .words, nodes-front, unpacked-parts (fileIn form file), as-many form (file .rules))
+    sheet-words : take front table ++ take nodes after ≡ unpacked (storedFile file)
+    sheet-words = rw (parts .words, nodes-front, unpacked-parts (storedFile file), as-many (file .form) (file .rules))
 
     -- They were stored.
     pub sheet-stored : (words whole : List ℕ) (end : ℕ) (reading : Reading RuleFile) → reading ≡ got file end →
         front + nodes ≤ length words → whole ≡ sets words 0 (take front table ++ take nodes after) →
-        Unpacked form bytes reading (Got (front + nodes) front) words whole
+        Unpacked bytes reading (Got (front + nodes) front) words whole
     sheet-stored words whole end reading read fits all = (
       file,
       end,

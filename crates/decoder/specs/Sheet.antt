@@ -12,23 +12,20 @@ use Rattle.format.specs.Packing.{unpacked}
 use Rattle.symbols.specs.Table.{tableWords, maxTableWords}
 use Rattle.answers.specs.declared.Answer.{Answer}
 use Rattle.answers.specs.declared.Answer.the-variants.{Got, Fault}
-use Rattle.reader.specs.File.{rulesIn}
+use Rattle.reader.specs.File.{storedFile}
 
--- A file of that form with its variables in order of first use.
-abbrev pub fileIn : ℕ → RuleFile → RuleFile
-fileIn form file = record { signature = file .signature; rules = rulesIn form (file .rules) }
-
--- The sheet of a file is stored where there is room for it; it has so many words, and so many before its rules.
-pub record SheetAt (form : ℕ) (bytes before after : List ℕ) (file : RuleFile) (total front : ℕ) : Type 0 where
-  pub size : total ≡ length (unpacked (fileIn form file))
+-- The sheet of a file, of one of the first form that of the converted one, is stored where there is room for it; it has
+-- so many words, and so many before its rules.
+pub record SheetAt (bytes before after : List ℕ) (file : RuleFile) (total front : ℕ) : Type 0 where
+  pub size : total ≡ length (unpacked (storedFile file))
   pub begin : front ≡ tableWords (length (file .signature .symbols))
   pub short : length bytes ≤ maxBytes
   pub few : 5 * total ≤ 5 * maxTableWords + 8 * length bytes
-  pub stored : total ≤ length before → after ≡ sets before 0 (unpacked (fileIn form file))
+  pub stored : total ≤ length before → after ≡ sets before 0 (unpacked (storedFile file))
   pub kept : length before < total → after ≡ before
 
 -- What was read, the answer, and the words before and after.
-abbrev pub Unpacked : ℕ → List ℕ → Reading RuleFile → Answer → List ℕ → List ℕ → Type 0
-Unpacked form bytes reading (Got total front) before after =
-    (file : RuleFile) × (end : ℕ) × (reading ≡ got file end) × SheetAt form bytes before after file total front
-Unpacked form bytes reading (Fault offset code) before after = (reading ≡ fault code offset) × (after ≡ before)
+abbrev pub Unpacked : List ℕ → Reading RuleFile → Answer → List ℕ → List ℕ → Type 0
+Unpacked bytes reading (Got total front) before after =
+    (file : RuleFile) × (end : ℕ) × (reading ≡ got file end) × SheetAt bytes before after file total front
+Unpacked bytes reading (Fault offset code) before after = (reading ≡ fault code offset) × (after ≡ before)

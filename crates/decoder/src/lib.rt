@@ -14,8 +14,8 @@ use answers::refusal;
 use operations::NumberReply;
 use sides::put_words;
 
-// A node takes five bits or more: so many nodes at most are in a file of at most 256 bytes, in one of at most 2,048, and
-// in any.
+// A node takes five bits or more: so many nodes at most are in a file of at most 256 bytes, in one of at most 2,048,
+// and in any.
 const SHORT_NODES: usize = 410;
 
 pub const MIDDLE_NODES: usize = 3277;
@@ -38,13 +38,13 @@ fn put_sheet(words: &mut [u16], table: &[u16], front: usize, nodes: &[u16], coun
     put_words(words, front, &nodes[..count]);
 }
 
-// Reads a packed file of that form, and stores its sheet at the front of the words, where there is room for it. The
-// nodes are kept elsewhere until no fault is left to find. The value is how many words the sheet has, and in place of
-// an offset how many stand before its rules.
+// Reads a packed file that a reader of that form takes, and stores its sheet at the front of the words, where there is
+// room for it. The nodes are kept elsewhere until no fault is left to find. The value is how many words the sheet has,
+// and in place of an offset how many stand before its rules.
 fn unpack_through(book: &[u8], form: u16, nodes: &mut [u16], words: &mut [u16]) -> Answer
     requires { ⌜ (length (now book) ≤ maxBytes → 8 * length (now book) ≤ 5 * length (now nodes)) ⌝ }
     ensures { λ r. ⌜
-        Unpacked form (now (book .entry)) (readBytesIn form (now (book .entry))) r (now (words .entry))
+        Unpacked (now (book .entry)) (readBytesIn form (now (book .entry))) r (now (words .entry))
         (now (words .exit))
         ⌝ }
 {
@@ -64,7 +64,7 @@ fn unpack_through(book: &[u8], form: u16, nodes: &mut [u16], words: &mut [u16]) 
 // The same, with room for the nodes by the length of the file.
 pub fn unpack(book: &[u8], form: u16, words: &mut [u16]) -> Answer
     ensures { λ r. ⌜
-        Unpacked form (now (book .entry)) (readBytesIn form (now (book .entry))) r (now (words .entry))
+        Unpacked (now (book .entry)) (readBytesIn form (now (book .entry))) r (now (words .entry))
         (now (words .exit))
         ⌝ }
 {

@@ -10,7 +10,7 @@ use borrow.Author.Tests.{le-leb, lt-leb}
 use Rattle.format.specs.Reading.Reading.{got, fault}
 use Rattle.format.specs.Format.{RuleFile}
 use Rattle.format.specs.Files.{readWords}
-use Rattle.format.specs.Packing.{Item, items, itemBits, bytesOf, packedIn, packed}
+use Rattle.format.specs.Packing.{Item, items, itemBits, bytesOf, packed}
 use Rattle.format.proofs.FileLaws.{words-unpacked}
 use Rattle.format.proofs.PackingLaws.{length-bytesOf}
 use Rattle.operations.specs.Replies.{Reply}
@@ -60,7 +60,7 @@ module _ (words bytes : List ℕ) where
     count = (length bits + 7) / 8
 
     same-packed : packed file ≡ bytesOf bits
-    unfolding packedIn
+    unfolding packed
     same-packed = ap (λ (is : List Item). bytesOf (flatMap itemBits is)) (listed .all)
 
     size : length (packed file) ≡ count

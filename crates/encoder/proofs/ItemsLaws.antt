@@ -12,9 +12,8 @@ use lib.ListN.{length, length-append, getD, drop}
 use lib.Seq.{getD-drop, drop-drop, drop-append-seam}
 use borrow.Author.Tests.{lt-ltb, le-ltb}
 use Rattle.terms.specs.Signature.{Symbol}
-use Rattle.format.specs.Layout.{formNumber}
 use Rattle.format.specs.Format.{RuleFile}
-use Rattle.format.specs.Packing.{Item, itemWord, symbolItems, itemsIn, items, unpacked}
+use Rattle.format.specs.Packing.{Item, itemWord, symbolItems, items, unpacked}
 use Rattle.format.specs.Packing.Item.{field, node}
 use Rattle.symbols.specs.Table.{symbolsWords}
 use Rattle.symbols.proofs.EntryLaws.{length-symbolsWords}
@@ -96,17 +95,17 @@ module _ (file : RuleFile) where
   rest = symbolsWords ss ++ rulesWords (file .rules)
 
   abbrev whole : List ℕ
-  whole = formNumber ∷ length ss ∷ file .signature .w0 ∷ length (file .rules) ∷ rest
+  whole = file .form ∷ length ss ∷ file .signature .w0 ∷ length (file .rules) ∷ rest
 
   abbrev header : List Item
-  header = field 4 formNumber ∷ field 8 (length ss) ∷ field 16 (file .signature .w0) ∷ field 10
+  header = field 4 (file .form) ∷ field 8 (length ss) ∷ field 16 (file .signature .w0) ∷ field 10
       (length (file .rules)) ∷ []
 
   abbrev begin : ℕ
   begin = 4 + 4 * length ss
 
   whole-items : itemsFrom whole begin 0 (length whole) ≡ items file
-  unfolding itemsIn
+  unfolding items
   whole-items =
       let from = itemsFrom whole begin in
       let n = length (rulesWords (file .rules)) in

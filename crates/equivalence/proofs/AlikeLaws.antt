@@ -22,13 +22,14 @@ use Rattle.multisets.proofs.Relations.{byTest, byOrder, eqb-self}
 use Rattle.terms.proofs.TermLaws.{row-arguments, size-pos}
 use Rattle.terms.proofs.EquivalenceLaws.{isEquivalent-app, isEquivalent-equivalence, isEquivalentTo-depth}
 use Rattle.symbols.specs.Table.{signatureOf}
-use Rattle.equivalence.specs.Parts.{partAt, partsAt, elementsAt, Stands}
+use Rattle.subterms.specs.Parts.{partAt, partsAt, elementsAt, Stands}
 use Rattle.equivalence.specs.Offsets.{Offsets, First, deleted, alikeAt, rowsAlike, elementsAlike, termsAt}
-use Rattle.equivalence.specs.Keys.{rootWord, BothPrepared, sizeIn}
+use Rattle.subterms.specs.Parts.{rootWord}
+use Rattle.equivalence.specs.Keys.{BothPrepared, sizeIn}
 use Rattle.symbols.proofs.TableLaws.{few-at}
-use Rattle.equivalence.proofs.PartLaws.{variable, symbol}
+use Rattle.subterms.proofs.PartLaws.{variable, symbol}
 use Rattle.terms.proofs.EquivalenceSound.{isEquivalent→Equivalent}
-use Rattle.equivalence.proofs.FormedLaws.{part-formed}
+use Rattle.subterms.proofs.FormedLaws.{part-formed}
 use Rattle.equivalence.proofs.StepLaws.{row-next, elements-own, elements-other, stands-inner, prepared-size}
 use Rattle.equivalence.proofs.StepLaws.{part-root, keyed-root}
 use Rattle.equivalence.proofs.KeyLaws.{key-of-equivalent}

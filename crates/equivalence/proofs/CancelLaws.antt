@@ -14,7 +14,7 @@ use Rattle.multisets.proofs.Relations.{byOrder}
 use Rattle.terms.specs.Term.{Term}
 use Rattle.terms.specs.Equivalence.{isEquivalent}
 use Rattle.symbols.specs.Table.{signatureOf}
-use Rattle.equivalence.specs.Parts.{partAt}
+use Rattle.subterms.specs.Parts.{partAt}
 use Rattle.equivalence.specs.Offsets.{Offsets, First, deleted, alikeAt, termsAt, leftAt}
 use Rattle.equivalence.proofs.OffsetLaws.{offset-added}
 use Rattle.equivalence.proofs.RemovalLaws.{removed-none, removed-one, removed-offsets}

@@ -16,11 +16,11 @@ use Rattle.terms.specs.Term.Term.{var, app}
 use Rattle.terms.specs.Term.Terms.{nil, cons}
 use Rattle.symbols.specs.Table.{signatureOf}
 use Rattle.symbols.proofs.TableLaws.{few-at}
-use Rattle.equivalence.specs.Parts.{partAt, partsAt, elementsAt, Stands}
+use Rattle.subterms.specs.Parts.{partAt, partsAt, elementsAt, Stands}
 use Rattle.equivalence.specs.Keys.{Prepared, sizeIn}
 use Rattle.equivalence.specs.Offsets.{Offsets, termsAt}
-use Rattle.equivalence.proofs.PartLaws.{symbol}
-use Rattle.equivalence.proofs.FormedLaws.{part-formed}
+use Rattle.subterms.proofs.PartLaws.{symbol}
+use Rattle.subterms.proofs.FormedLaws.{part-formed}
 use Rattle.equivalence.proofs.OffsetLaws.{offset-added, offsets-length}
 use Rattle.equivalence.proofs.StepLaws.{elements-own, elements-other, prepared-size, part-small}
 use Rattle.equivalence.proofs.StepLaws.{step-next}

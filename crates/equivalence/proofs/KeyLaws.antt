@@ -16,7 +16,8 @@ use Rattle.terms.specs.Equivalence.Equivalent.{same, back, then, under, exchang
 use Rattle.terms.specs.Equivalence.Equivalents.{none, each}
 use Rattle.terms.proofs.EquivalenceMeasures.{measure-resp-equivalent}
 use Rattle.multisets.proofs.Relations.{eqb-self}
-use Rattle.equivalence.specs.Keys.{rootWord, mixed, added, hash, hashes, keyOf}
+use Rattle.subterms.specs.Parts.{rootWord}
+use Rattle.equivalence.specs.Keys.{mixed, added, hash, hashes, keyOf}
 
 -- ---- AC-equivalent terms
 

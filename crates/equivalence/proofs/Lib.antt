@@ -1,6 +1,4 @@
 -- The laws that the functions' proofs cite, in reading order.
-pub mod PartLaws
-pub mod FormedLaws
 pub mod KeyLaws
 pub mod OffsetLaws
 pub mod StepLaws

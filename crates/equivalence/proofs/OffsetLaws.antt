@@ -12,7 +12,7 @@ use lib.Seq.{length-take-le, take-suc-set, getD-set-same, getD-set-other}
 use Rattle.multisets.proofs.Relations.{byOrder}
 use Rattle.terms.specs.Signature.{Signature}
 use Rattle.terms.specs.Term.{Term}
-use Rattle.equivalence.specs.Parts.{partAt}
+use Rattle.subterms.specs.Parts.{partAt}
 use Rattle.equivalence.specs.Offsets.{Offsets, deleted}
 
 -- ---- delete

@@ -13,10 +13,10 @@ use Rattle.terms.specs.Signature.{Symbol, Signature, symbolOf}
 use Rattle.terms.specs.Term.{size, arguments}
 use Rattle.symbols.specs.Table.{signatureOf}
 use Rattle.symbols.proofs.TableLaws.{few-at}
-use Rattle.equivalence.specs.Parts.{partAt, partsAt, Stand, Complete}
+use Rattle.subterms.specs.Parts.{partAt, partsAt, Stand, Complete}
 use Rattle.equivalence.specs.Keys.{added, hash, hashes, KeyedFrom, sizeIn, offsetAfter}
 use Rattle.equivalence.specs.Keys.{hashAfter}
-use Rattle.equivalence.proofs.PartLaws.{total, inside, next-parts, next-stand, variable, symbol, inner-stand}
+use Rattle.subterms.proofs.PartLaws.{total, inside, next-parts, next-stand, variable, symbol, inner-stand}
 use Rattle.equivalence.proofs.StepLaws.{part-root, part-small, keyed-size, keyed-hash}
 
 -- ---- gathering

@@ -17,7 +17,7 @@ use Rattle.multisets.specs.Multiset.Removal.{without, absent}
 use Rattle.terms.specs.Term.{Term}
 use Rattle.terms.specs.Equivalence.{isEquivalent}
 use Rattle.symbols.specs.Table.{signatureOf}
-use Rattle.equivalence.specs.Parts.{partAt}
+use Rattle.subterms.specs.Parts.{partAt}
 use Rattle.equivalence.specs.Offsets.{Offsets, First, deleted, termsAt}
 
 module _ {A : Type 0} (p : A → Bool) (g : ℕ → A) where

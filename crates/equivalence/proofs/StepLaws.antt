@@ -4,21 +4,20 @@
 --     keyed-size, keyed-hash, prepared-size           what the key at an offset tells
 --     step-some, step-next, step-own                  where the next terms stand
 use mathlib.Core.List.{List, [], _∷_}
-use mathlib.Core.Logic.{inl, inr}
 use mathlib.Core.Path.{_≡_, ap, _∙_}
 use Prim.Native.Nat.{ℕ, suc, zero, _+_, _-_, _/_, _%_, _≤_, _<_}
 use native.Mathlib.Omega.{arith}
 use lib.ListN.{length, getD, take}
-use lib.Seq.{drop-cons}
 use Rattle.multisets.proofs.Relations.{byOrder}
 use Rattle.terms.specs.Signature.{Signature, symbolOf}
 use Rattle.terms.specs.Term.{Term, size}
 use Rattle.terms.proofs.TermLaws.{size-pos}
-use Rattle.equivalence.specs.Parts.{partAt, partsAt, elementsAt, IsNode, Stands, Complete}
-use Rattle.equivalence.specs.Keys.{rootWord, hash, keyOf, Prepared, sizeIn}
-use Rattle.equivalence.proofs.PartLaws.{total, complete-drop, next-parts, next-stand, variable, symbol}
-use Rattle.equivalence.proofs.PartLaws.{stand-one}
-use Rattle.equivalence.proofs.PartLaws.{inner-stand, own-stand, own-elements, other-elements, stands, size-fits}
+use Rattle.subterms.specs.Parts.{partAt, partsAt, elementsAt, Stands, Complete}
+use Rattle.subterms.specs.Parts.{rootWord}
+use Rattle.equivalence.specs.Keys.{hash, keyOf, Prepared, sizeIn}
+use Rattle.subterms.proofs.PartLaws.{total, next-parts, next-stand, variable, symbol}
+use Rattle.subterms.proofs.PartLaws.{stand-one, node-range}
+use Rattle.subterms.proofs.PartLaws.{inner-stand, own-stand, own-elements, other-elements, stands, size-fits}
 
 pub total-take : (n : ℕ) (l : List Term) → total (take n l) ≤ total l
 total-take zero l = omega arith
@@ -73,22 +72,15 @@ module _ (σ : Signature) (ws : List ℕ) (c : Complete σ ws) (k : ℕ) (h : k 
       byOrder (getD ws k 0) 256 (λ v. ap rootWord (symbol σ ws k h v)) λ v. ap rootWord (variable σ ws k h v) ∙ omega
       arith
 
-  pub node-range : length (σ .symbols) ≤ 256 → getD ws k 0 < 272
-  node-range few = let d = rw (drop-cons ws k 0 h) at (complete-drop σ ws k c) in go few (d .0)
-    where
-      go : length (σ .symbols) ≤ 256 → IsNode σ (getD ws k 0) → getD ws k 0 < 272
-      go few (inl a) = omega arith
-      go few (inr a) = omega arith
-
   module _ (keys : List ℕ) (e : getD keys k 0 ≡ keyOf σ (partAt σ ws k)) (short : length ws ≤ 128) where
     pub keyed-size : sizeIn keys k ≡ size (partAt σ ws k)
     keyed-size = omega (arith, part-small)
 
     pub keyed-hash : length (σ .symbols) ≤ 256 → getD keys k 0 / 16777216 ≡ hash σ (partAt σ ws k)
-    keyed-hash few = omega (arith, part-small, part-root, node-range few)
+    keyed-hash few = omega (arith, part-small, part-root, node-range σ ws c k h few)
 
     pub keyed-root : length (σ .symbols) ≤ 256 → getD keys k 0 / 256 % 65536 ≡ getD ws k 0
-    keyed-root few = omega (arith, part-small, part-root, node-range few)
+    keyed-root few = omega (arith, part-small, part-root, node-range σ ws c k h few)
 
 module _ {σ : Signature} {ws keys : List ℕ} (P : Prepared σ ws keys) where
   pub prepared-size : (i : ℕ) → i < length ws → sizeIn keys i ≡ size (partAt σ ws i)

@@ -9,13 +9,8 @@ use Rattle.terms.specs.Signature.{Signature, symbolOf, AcBinary}
 use Rattle.terms.specs.Term.{Term, Terms, size}
 use Rattle.terms.specs.Term.Term.{var, app}
 use Rattle.terms.specs.Term.Terms.{nil, cons}
-use Rattle.terms.specs.Words.{firstVariable}
 use Rattle.symbols.specs.Table.{signatureOf}
-use Rattle.equivalence.specs.Parts.{Complete, partAt}
-
-abbrev pub rootWord : Term → ℕ
-rootWord (var x) = firstVariable + x
-rootWord (app f ts) = f
+use Rattle.subterms.specs.Parts.{rootWord, Complete, partAt}
 
 -- 32 bits from the middle of the square.
 unfoldable pub middleSquare : ℕ → ℕ

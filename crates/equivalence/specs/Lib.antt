@@ -1,4 +1,3 @@
 -- What the contracts of the AC-equivalence test say.
-pub mod Parts
 pub mod Keys
 pub mod Offsets

@@ -9,7 +9,7 @@ use Rattle.terms.specs.Signature.{Signature}
 use Rattle.terms.specs.Term.{Term}
 use Rattle.terms.specs.Equivalence.{isEquivalent}
 use Rattle.symbols.specs.Table.{signatureOf}
-use Rattle.equivalence.specs.Parts.{partAt, partsAt, elementsAt}
+use Rattle.subterms.specs.Parts.{partAt, partsAt, elementsAt}
 
 -- The first m of offsets are offsets in ws, and the terms there are ts.
 pub record Offsets (σ : Signature) (ws offsets : List ℕ) (m : ℕ) (ts : List Term) : Type 0 where

@@ -7,7 +7,7 @@ ghost use mathlib.Core.Path.{_≡_};
 ghost use Prim.Native.Nat.{_≤_, _<_};
 ghost use lib.ListN.{length};
 ghost use Rattle.symbols.specs.Table.{signatureOf};
-ghost use Rattle.equivalence.specs.Parts.{elementsAt, Stands};
+ghost use Rattle.subterms.specs.Parts.{elementsAt, Stands};
 ghost use Rattle.equivalence.specs.Keys.{Prepared};
 ghost use Rattle.equivalence.specs.Offsets.{Offsets};
 

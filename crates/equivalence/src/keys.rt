@@ -8,7 +8,7 @@ ghost use mathlib.Core.Path.{_≡_};
 ghost use Prim.Native.Nat.{_+_, _*_, _^_, _%_, _≤_, _<_};
 ghost use lib.ListN.{length, getD};
 ghost use Rattle.symbols.specs.Table.{signatureOf};
-ghost use Rattle.equivalence.specs.Parts.{Complete};
+ghost use Rattle.subterms.specs.Parts.{Complete};
 ghost use Rattle.equivalence.specs.Keys.{middleSquare, mixed, added as addedTo, Prepared, sizeIn};
 ghost use Rattle.equivalence.specs.Keys.{offsetAfter, hashAfter};
 

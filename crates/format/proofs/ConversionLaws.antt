@@ -3,8 +3,8 @@
 --     renumbered-fit                       the new numbers are such as a variable may have
 --     converted-readable                   the converted file is readable
 --     converted-bits, converted-length     it has as many bits, and as many bytes
---     readable-before, converted-same      a file of form 2 is readable in form 1, if no unary symbol weighs 0, and
---                                          unchanged
+--     fileBefore, readable-before, converted-same    a file of form 2 as one of form 1 is readable, if no unary symbol
+--                                          weighs 0, and converts to itself
 use mathlib.Core.Path.{_≡_, refl, sym, ap, ap₂, _∙_}
 use mathlib.Core.List.{List, [], _∷_, _++_, map, map-append, flatMap, List·Memᴰ, List·Memᴰ·head, List·Memᴰ·tail}
 use mathlib.Core.Bool.{true}
@@ -23,17 +23,18 @@ use Rattle.terms.proofs.FirstUseLaws.{byWord, renameWord-symbol, renameWord-var
 use Rattle.terms.proofs.FirstUseCount.{firstUses-few}
 use Rattle.terms.proofs.FirstUseLaws.{place-lt, seen-word, renumbered-inOrder, inOrder-renumbered}
 use Rattle.format.specs.Layout.{formNumber, firstForm, tagWidth, variableWidth}
-use Rattle.format.specs.Symbols.{leastWeightIn}
-use Rattle.format.specs.Format.{Sides, RuleFile, allUsed}
-use Rattle.format.specs.Packing.{Item, symbolItems, ruleItems, itemsIn, itemBits, packedIn, packed}
+use Rattle.format.specs.Forms.{allUsed, unusedOf, leastWeightIn}
+use Rattle.format.specs.Format.{Sides, RuleFile}
+use Rattle.format.specs.Packing.{Item, symbolItems, ruleItems, items, itemBits, packed}
 use Rattle.format.specs.Packing.Item.{node}
 use Rattle.format.specs.Conversion.{convertedSides, convertedFile}
+use Rattle.format.proofs.FormLaws.{taken-own, taken-old}
 use Rattle.format.proofs.ForestLaws.{known, argumentCount}
 use Rattle.format.proofs.SpellingLaws.{AllFit, all-fit-append, all-fit-split}
 use Rattle.format.proofs.FormatLaws.{SymbolsOk, Forest, RulesOk}
 use Rattle.format.proofs.FormatLaws.Forest.{noTerm, termNode}
 use Rattle.format.proofs.PackingLaws.{length-bytesOf}
-use Rattle.format.proofs.FileLaws.{Readable, fileBitsIn}
+use Rattle.format.proofs.FileLaws.{Readable, fileBits}
 use Rattle.format.proofs.SymbolLaws.{weighs-at, symbols-weigh}
 use Rattle.format.proofs.TermReading.{fit-in-order}
 
@@ -144,18 +145,19 @@ converted-rules unused σ (r ∷ rs) (f, g, o, ok) fits =
     )
 
 pub converted-readable : (f : RuleFile) → Readable firstForm f → Readable formNumber (convertedFile f)
-unfolding itemsIn
+unfolding items
 converted-readable f r =
     let σ = f .signature in
     let (count, (w0, (rules, rest))) = r .fits .1 in
     let (symbols, nodes) = all-fit-split (flatMap symbolItems (σ .symbols)) (flatMap ruleItems (f .rules)) rest in
-    let (ok, fits) = converted-rules allUsed σ (f .rules) (r .ok .rulesOk) nodes in
+    let (ok, fits) = converted-rules (unusedOf (f .form)) σ (f .rules) (r .ok .rulesOk) nodes in
     let all = all-fit-append (flatMap symbolItems (σ .symbols)) _ symbols fits in
     record {
       ok = record {
+        formTaken = taken-own formNumber;
         someSymbol = r .ok .someSymbol;
         variableWeighs = r .ok .variableWeighs;
-        symbolsOk = symbols-now σ (r .ok .symbolsOk);
+        symbolsOk = symbols-now σ (rw (taken-old (f .form) (r .ok .formTaken)) at (r .ok .symbolsOk));
         noneOutranked = r .ok .noneOutranked;
         rulesOk = ok;
       };
@@ -204,8 +206,8 @@ rules-length (r ∷ rs) =
     )
 
 pub converted-bits : (f : RuleFile) →
-    length (fileBitsIn formNumber (convertedFile f)) ≡ length (fileBitsIn firstForm f)
-unfolding itemsIn flatMap
+    length (fileBits (convertedFile f)) ≡ length (fileBits f)
+unfolding items flatMap
 converted-bits f =
     let symbols = flatMap symbolItems (f .signature .symbols) in
     omega (
@@ -215,12 +217,12 @@ converted-bits f =
       rules-length (f .rules),
     )
 
-pub converted-length : (f : RuleFile) → length (packed (convertedFile f)) ≡ length (packedIn firstForm f)
-unfolding packedIn
+pub converted-length : (f : RuleFile) → length (packed (convertedFile f)) ≡ length (packed f)
+unfolding packed
 converted-length f =
-    length-bytesOf (fileBitsIn formNumber (convertedFile f))
+    length-bytesOf (fileBits (convertedFile f))
     ∙ ap (λ (n : ℕ). (n + 7) / 8) (converted-bits f)
-    ∙ sym (length-bytesOf (fileBitsIn firstForm f))
+    ∙ sym (length-bytesOf (fileBits f))
 
 -- ---- a file of form 2
 
@@ -233,18 +235,24 @@ rules-in-any-order σ (r ∷ rs) (f, g, o, ok) fits =
     let (here, later) = all-fit-split (ruleItems r) (flatMap ruleItems rs) fits in
     (f, g, fit-in-order (r .left ++ r .right) (rw (rule-items r) at here), rules-in-any-order σ rs ok later)
 
-pub readable-before : (f : RuleFile) → NoZeroWeightUnary (f .signature) → Readable formNumber f → Readable firstForm f
-unfolding itemsIn
-readable-before f heavy r =
+-- The file as one of form 1.
+abbrev pub fileBefore : RuleFile → RuleFile
+fileBefore f = record { form = firstForm; signature = f .signature; rules = f .rules }
+
+pub readable-before : (f : RuleFile) → f .form ≡ formNumber → NoZeroWeightUnary (f .signature) → Readable formNumber f →
+    Readable firstForm (fileBefore f)
+unfolding items
+readable-before f now heavy r =
     let symbols = flatMap symbolItems (f .signature .symbols) in
     let nodes = all-fit-split symbols (flatMap ruleItems (f .rules)) (r .fits .1 .1 .1 .1) .1 in
     record {
       ok = record {
+        formTaken = taken-own firstForm;
         someSymbol = r .ok .someSymbol;
         variableWeighs = r .ok .variableWeighs;
-        symbolsOk = symbols-before (f .signature) heavy (r .ok .symbolsOk);
+        symbolsOk = symbols-before (f .signature) heavy (rw now at (r .ok .symbolsOk));
         noneOutranked = r .ok .noneOutranked;
-        rulesOk = rules-in-any-order (f .signature) (f .rules) (r .ok .rulesOk) nodes;
+        rulesOk = rules-in-any-order (f .signature) (f .rules) (rw now at (r .ok .rulesOk)) nodes;
       };
       fits = (lit< tt, r .fits .1);
     }
@@ -264,7 +272,7 @@ rules-same : (σ : Signature) (rs : List Sides) → RulesOk 0 σ rs → map conv
 rules-same σ [] ok = refl
 rules-same σ (r ∷ rs) (f, g, o, ok) = ap₂ _∷_ (sides-same r o) (rules-same σ rs ok)
 
-pub converted-same : (f : RuleFile) → Readable formNumber f → convertedFile f ≡ f
-converted-same f r =
-    ap (λ (rs : List Sides). record { signature = f .signature; rules = rs })
-    (rules-same (f .signature) (f .rules) (r .ok .rulesOk))
+pub converted-same : (f : RuleFile) → f .form ≡ formNumber → Readable formNumber f → convertedFile (fileBefore f) ≡ f
+converted-same f now r =
+    ap₂ (λ (form : ℕ) (rs : List Sides). record { form = form; signature = f .signature; rules = rs }) (sym now)
+    (rules-same (f .signature) (f .rules) (rw now at (r .ok .rulesOk)))

@@ -24,9 +24,10 @@ use Rattle.format.specs.Layout.{formNumber}
 use Rattle.format.specs.Reading.{Reading, Reader, andThen, require, Node, Source, isPadding}
 use Rattle.format.specs.Reading.{bitField, bitSource, wordBelow, wordSource}
 use Rattle.format.specs.Reading.Reading.{got, fault}
-use Rattle.format.specs.Symbols.{heldBy, leastWeightIn, firstOutranked, weightOffset}
+use Rattle.format.specs.Forms.{isTaken, allUsed, unusedOf, leastWeightIn}
+use Rattle.format.specs.Symbols.{heldBy, firstOutranked, weightOffset}
 use Rattle.format.specs.Symbols.{symbolReader, symbolsReader, symbolTableReader}
-use Rattle.format.specs.Format.{forestReader, ruleReader, rulesReader, allUsed, unusedOf, bodyReader, fileReader}
+use Rattle.format.specs.Format.{forestReader, sideReader, ruleReader, rulesReader, bodyReader, fileReader}
 use Rattle.format.specs.Files.{wholeReader, readBytesIn, readWords, readFirstTerm, readTerm}
 use Rattle.format.specs.Packing.{Item}
 use Rattle.format.proofs.ReadingLaws.{HoldsOf}
@@ -118,13 +119,17 @@ module _ (limit : ℕ) where
         let owed = argumentCount σ (v .word) + n in
         within-then (forestReader source after σ a owed next) _ (forest-within after σ a owed next l) λ ws end e. e))
 
+    side-within : (most unused : ℕ) (σ : Signature) (at : ℕ) → at ≤ limit →
+        Within (sideReader source most unused σ at)
+    side-within most unused σ at h = forest-within unused σ most 1 at h
+
     rule-within : (unused : ℕ) (σ : Signature) (at : ℕ) → at ≤ limit → Within (ruleReader source unused σ at)
     unfolding ruleReader Within
     rule-within unused σ at h =
-        within-then (forestReader source unused σ maxNodes 1 at) _
-        (forest-within unused σ maxNodes 1 at h) λ left at₁ h₁.
+        within-then (sideReader source maxNodes unused σ at) _
+        (side-within maxNodes unused σ at h) λ left at₁ h₁.
         let after = unusedAfterAll unused left in
-        within-then (forestReader source after σ maxNodes 1 at₁) _ (forest-within after σ maxNodes 1 at₁ h₁)
+        within-then (sideReader source maxNodes after σ at₁) _ (side-within maxNodes after σ at₁ h₁)
         λ right end e. e
 
     pub rules-within : (unused : ℕ) (σ : Signature) (n at : ℕ) → at ≤ limit →
@@ -184,13 +189,13 @@ module _ (limit : ℕ) where
     unfolding fileReader Within
     file-within form at h =
         within-then (source .field formWidth at) _ (b .field formWidth at h) λ read at₁ h₁.
-        within-require (eqb read form) _ at at₁ _ h
+        within-require (isTaken form read) _ at at₁ _ h
         (within-then (source .field symbolCountWidth at₁) _ (b .field symbolCountWidth at₁ h₁) λ k at₂ h₂.
         within-require (ltb 0 k) _ at₁ at₂ _ h₁
         (within-then (source .field weightWidth at₂) _ (b .field weightWidth at₂ h₂) λ w0 at₃ h₃.
         within-require (ltb 0 w0) _ at₂ at₃ _ h₂
         (within-then (source .field ruleCountWidth at₃) _ (b .field ruleCountWidth at₃ h₃) λ n at₄ h₄.
-        body-within form w0 k n at₄ h₄)))
+        body-within read w0 k n at₄ h₄)))
 
     pub whole-within : (form at : ℕ) → at ≤ limit → Within (wholeReader form source at)
     unfolding wholeReader Within
@@ -233,8 +238,8 @@ module _ (words : List ℕ) where
   term-within : (σ : Signature) → Within (length words) (readTerm σ words)
   unfolding readTerm Within
   term-within σ =
-      within-then (length words) (forestReader (wordSource words) allUsed σ maxNodes 1 0) _
-      (forest-within (length words) (wordSource words) words-bounded allUsed σ maxNodes 1 0 (omega arith)) λ ws end h.
+      within-then (length words) (sideReader (wordSource words) maxNodes allUsed σ 0) _
+      (side-within (length words) (wordSource words) words-bounded maxNodes allUsed σ 0 (omega arith)) λ ws end h.
       within-require (length words) (eqb end (length words)) _ end end _ h h
 
   pub term-fault : (σ : Signature) (code offset : ℕ) → readTerm σ words ≡ fault code offset → offset ≤ length words
@@ -244,7 +249,7 @@ module _ (words : List ℕ) where
       offset ≤ length words
   unfolding readFirstTerm
   first-fault σ code offset = within-fault (length words) (readFirstTerm σ words) code offset
-      (forest-within (length words) (wordSource words) words-bounded allUsed σ maxNodes 1 0 (omega arith))
+      (side-within (length words) (wordSource words) words-bounded maxNodes allUsed σ 0 (omega arith))
 
 module _ (bytes : List ℕ) where
   abbrev bitCount : ℕ

@@ -1,12 +1,13 @@
 -- What a file that is read from bytes or from words is, and that each form of such a file reads as it.
 --     Readable                        the tests of reading, and every value within its width
 --     source-read, source-reads       both directions over any source of cells
---     bytes-readable, bytes-length, bytes-packed    a file read from bytes is readable, and packed it is those bytes
+--     bytes-readable, bytes-taken, bytes-length, bytes-packed    a file read from bytes is readable, of a form that is
+--                                     taken, and packed it is those bytes
 --     words-readable, words-unpacked  the same for words
 --     packed-reads, unpacked-reads    the forms of a readable file read as it
 use mathlib.Core.Path.{_≡_, refl, sym, ap, _∙_}
 use mathlib.Core.List.{List, [], _∷_, map, flatMap}
-use mathlib.Core.Bool.{_&&_, and-eq-true-iff as both}
+use mathlib.Core.Bool.{true, _&&_, and-eq-true-iff as both}
 use Prim.Native.Nat.{ℕ, _+_, _-_, _*_, _/_, _^_, _≤_, _<_}
 use native.Mathlib.Nat.{zero-add}
 use native.Mathlib.Omega.{arith}
@@ -16,11 +17,12 @@ use lib.Dec.{eqb, ltb, leb}
 use borrow.Author.Tests.{ltb-true, leb-true, eqb-true, lt-ltb, le-leb, eq-eqb}
 use Rattle.multisets.proofs.Relations.{byTest, byOrder}
 use Rattle.format.specs.Layout.{formNumber, maxBytes}
+use Rattle.format.specs.Forms.{isTaken}
 use Rattle.format.specs.Reading.{Source, spelt, bitAt, bitSource, wordSource}
 use Rattle.format.specs.Reading.Reading.{got}
 use Rattle.format.specs.Format.{RuleFile, fileReader}
 use Rattle.format.specs.Files.{wholeReader, readBytesIn, readWords}
-use Rattle.format.specs.Packing.{Item, itemsIn, items, itemWord, itemBits, bytesOf, packedIn, unpacked}
+use Rattle.format.specs.Packing.{Item, items, itemWord, itemBits, bytesOf, packed, unpacked}
 use Rattle.format.specs.Packing.Item.{field, node}
 use Rattle.format.proofs.ReadingLaws.{HoldsOf, holds-got, holds-then, holds-require}
 use Rattle.format.proofs.SpellingLaws.{AllFit, Agrees, agrees-at, agrees-of, Coding, spells→coded}
@@ -30,10 +32,10 @@ use Rattle.format.proofs.CodingLaws.{wordAt, word-coding, bit-coding}
 use Rattle.format.proofs.PackingLaws.{items-bits, length-bytesOf, bitAt-bytesOf, Padded, padded-zero}
 use Rattle.format.proofs.PackingLaws.{zero-padded, bytesOf-bitAt}
 
--- A file of that form.
+-- By a reader of that form.
 pub record Readable (form : ℕ) (f : RuleFile) : Type 0 where
   pub ok : FileOk form f
-  pub fits : AllFit (itemsIn form f)
+  pub fits : AllFit (items f)
 
 -- ---- any source
 
@@ -41,8 +43,8 @@ module _ {source : Source} {cell : ℕ → ℕ} {limit : ℕ} {code : Item → L
     (form : ℕ) where
   -- A file read from the start is readable, and the cells hold its code.
   pub source-read : (f : RuleFile) (end : ℕ) → fileReader form source 0 ≡ got f end →
-      Readable form f × (end ≡ length (flatMap code (itemsIn form f))) × (end ≤ limit)
-      × Agrees cell 0 (flatMap code (itemsIn form f))
+      Readable form f × (end ≡ length (flatMap code (items f))) × (end ≤ limit)
+      × Agrees cell 0 (flatMap code (items f))
   source-read f end e =
       let field-fits : (width at v next : ℕ) → source .field width at ≡ got v next → v < 2 ^ width =
       λ width at v next r. C .read→code (field width v) at next r .0 in
@@ -50,12 +52,12 @@ module _ {source : Source} {cell : ℕ → ℕ} {limit : ℕ} {code : Item → L
       let (fits, ends, l, a) = spells→coded C p (omega arith) in
       (record { ok = ok; fits = fits }, omega arith, l, a)
 
-  pub source-reads : (f : RuleFile) → Readable form f → length (flatMap code (itemsIn form f)) ≤ limit →
-      Agrees cell 0 (flatMap code (itemsIn form f)) →
-      fileReader form source 0 ≡ got f (length (flatMap code (itemsIn form f)))
+  pub source-reads : (f : RuleFile) → Readable form f → length (flatMap code (items f)) ≤ limit →
+      Agrees cell 0 (flatMap code (items f)) →
+      fileReader form source 0 ≡ got f (length (flatMap code (items f)))
   source-reads f r l a =
-      let n = length (flatMap code (itemsIn form f)) in
-      let p = coded→spells C (itemsIn form f) 0 (r .fits) (omega arith) a in
+      let n = length (flatMap code (items f)) in
+      let p = coded→spells C (items f) 0 (r .fits) (omega arith) a in
       file-reads source form f 0 n (r .ok) (rw (zero-add n) at p)
 
 -- ---- words
@@ -104,11 +106,8 @@ unpacked-reads f r =
 
 -- ---- bytes
 
-abbrev pub fileBitsIn : ℕ → RuleFile → List ℕ
-fileBitsIn form f = flatMap itemBits (itemsIn form f)
-
 abbrev pub fileBits : RuleFile → List ℕ
-fileBits = fileBitsIn formNumber
+fileBits f = flatMap itemBits (items f)
 
 bytes-read : (form : ℕ) (bytes : List ℕ) → HoldsOf (λ (f : RuleFile) (end : ℕ).
     (fileReader form (bitSource bytes) 0 ≡ got f end) × (length bytes ≤ maxBytes) × Padded bytes end)
@@ -130,23 +129,26 @@ module _ (form : ℕ) (bytes : List ℕ) (f : RuleFile) (end : ℕ) (e : readByt
   pub bytes-readable : Readable form f
   bytes-readable = source-read (bit-coding bytes) form f end (holds-got _ _ f end (bytes-read form bytes) e .0) .0
 
+  pub bytes-taken : isTaken form (f .form) ≡ true
+  bytes-taken = bytes-readable .ok .formTaken
+
   pub bytes-short : length bytes ≤ maxBytes
   bytes-short = holds-got _ _ f end (bytes-read form bytes) e .1
 
-  bits-length : length bytes ≡ (length (fileBitsIn form f) + 7) / 8
+  bits-length : length bytes ≡ (length (fileBits f) + 7) / 8
   bits-length =
       let (r, short, pad) = holds-got _ _ f end (bytes-read form bytes) e in
       let (x, ends, l, a) = source-read (bit-coding bytes) form f end r in
       omega (arith, pad .0)
 
-  pub bytes-length : length (packedIn form f) ≡ length bytes
-  unfolding packedIn
-  bytes-length = length-bytesOf (fileBitsIn form f) ∙ sym bits-length
+  pub bytes-length : length (packed f) ≡ length bytes
+  unfolding packed
+  bytes-length = length-bytesOf (fileBits f) ∙ sym bits-length
 
-  pub bytes-packed : ((j : ℕ) → getD bytes j 0 < 256) → packedIn form f ≡ bytes
-  unfolding packedIn
+  pub bytes-packed : ((j : ℕ) → getD bytes j 0 < 256) → packed f ≡ bytes
+  unfolding packed
   bytes-packed small =
-      let bits = fileBitsIn form f in
+      let bits = fileBits f in
       let (r, short, pad) = holds-got _ _ f end (bytes-read form bytes) e in
       let (x, ends, l, a) = source-read (bit-coding bytes) form f end r in
       let same : (i : ℕ) → bitAt bytes i ≡ getD bits i 0 =
@@ -155,14 +157,14 @@ module _ (form : ℕ) (bytes : List ℕ) (f : RuleFile) (end : ℕ) (e : readByt
       λ h. padded-zero bytes end pad i (omega arith) ∙ sym (List·getD-eq-default bits 0 h) in
       bytesOf-bitAt bits bytes small bits-length same
 
-pub packed-reads : (form : ℕ) (f : RuleFile) → Readable form f → length (packedIn form f) ≤ maxBytes →
-    readBytesIn form (packedIn form f) ≡ got f (length (fileBitsIn form f))
-unfolding readBytesIn wholeReader packedIn
+pub packed-reads : (form : ℕ) (f : RuleFile) → Readable form f → length (packed f) ≤ maxBytes →
+    readBytesIn form (packed f) ≡ got f (length (fileBits f))
+unfolding readBytesIn wholeReader packed
 packed-reads form f r short =
-    let bits = fileBitsIn form f in
+    let bits = fileBits f in
     let bytes = bytesOf bits in
     let n = length-bytesOf bits in
-    let cells = bitAt-bytesOf bits (items-bits (itemsIn form f)) in
+    let cells = bitAt-bytesOf bits (items-bits (items f)) in
     let a = agrees-of (bitAt bytes) 0 bits (λ i h. ap (bitAt bytes) (zero-add i) ∙ cells i) in
     let e = source-reads (bit-coding bytes) form f r (omega arith) a in
     let (few, zeros) = zero-padded bytes (length bits) (omega arith)

@@ -12,8 +12,6 @@ use Prim.Native.Nat.{ℕ, suc, zero, _+_, _<_, _^_}
 use native.Mathlib.Omega.{arith}
 use lib.ListN.{length}
 use lib.Dec.{eqb, ltb, leb}
-use borrow.Author.Tests.{eqb-true}
-use Rattle.multisets.proofs.Relations.{eqb-self}
 use Rattle.terms.specs.Signature.{Symbol, Signature}
 use Rattle.terms.specs.Words.{firstVariable}
 use Rattle.terms.specs.FirstUse.{unusedAfter, unusedAfterAll, inOrderFrom}
@@ -22,11 +20,12 @@ use Rattle.format.specs.Layout.{formWidth, symbolCountWidth, weightWidth
 use Rattle.format.specs.Layout.{acWidth, rankWidth, maxNodes}
 use Rattle.format.specs.Reading.{Source}
 use Rattle.format.specs.Reading.Reading.{got}
-use Rattle.format.specs.Symbols.{heldBy, leastWeightIn, firstOutranked}
+use Rattle.format.specs.Forms.{isTaken, unusedOf, leastWeightIn}
+use Rattle.format.specs.Symbols.{heldBy, firstOutranked}
 use Rattle.format.specs.Symbols.{symbolReader, symbolsReader, weightOffset, symbolTableReader}
-use Rattle.format.specs.Format.{Sides, RuleFile, unusedOf}
-use Rattle.format.specs.Format.{forestReader, ruleReader, rulesReader, bodyReader, fileReader}
-use Rattle.format.specs.Packing.{symbolItems, ruleItems, itemsIn}
+use Rattle.format.specs.Format.{Sides, RuleFile}
+use Rattle.format.specs.Format.{forestReader, sideReader, ruleReader, rulesReader, bodyReader, fileReader}
+use Rattle.format.specs.Packing.{symbolItems, ruleItems, items}
 use Rattle.format.specs.Packing.Item.{field, node}
 use Rattle.format.proofs.ReadingLaws.{HoldsOf, holds-got, holds-map, holds-then, holds-require}
 use Rattle.format.proofs.ForestLaws.{known, argumentCount, nothing-owed}
@@ -58,12 +57,14 @@ RulesOk unused σ (r ∷ rs) =
     Forest σ maxNodes 1 (r .left) × Forest σ maxNodes 1 (r .right) × (inOrderFrom unused (r .left ++ r .right) ≡ true)
     × RulesOk unused σ rs
 
+-- By a reader of that form.
 pub record FileOk (form : ℕ) (f : RuleFile) : Type 0 where
+  pub formTaken : isTaken form (f .form) ≡ true
   pub someSymbol : ltb 0 (length (f .signature .symbols)) ≡ true
   pub variableWeighs : ltb 0 (f .signature .w0) ≡ true
-  pub symbolsOk : SymbolsOk (leastWeightIn form (f .signature .w0)) [] (f .signature .symbols)
+  pub symbolsOk : SymbolsOk (leastWeightIn (f .form) (f .signature .w0)) [] (f .signature .symbols)
   pub noneOutranked : eqb (firstOutranked (f .signature .symbols)) (length (f .signature .symbols)) ≡ true
-  pub rulesOk : RulesOk (unusedOf form) (f .signature) (f .rules)
+  pub rulesOk : RulesOk (unusedOf (f .form)) (f .signature) (f .rules)
 
 ac-back : (ac : ℕ) → ac < 2 ^ acWidth → cond (eqb ac 1) 1 0 ≡ ac
 ac-back zero h = refl
@@ -106,6 +107,17 @@ module _ (source : Source) where
       let (t, rest) = both (leb w (firstVariable + unused)) _ .0 o in
       rw (e .1, k, t, forest-reads (unusedAfter unused w) σ f rest p)
 
+  -- ---- a side
+
+  pub side-read : (limit unused : ℕ) (σ : Signature) (at : ℕ) →
+      HoldsOf (ForestRead unused σ limit 1 at) (sideReader source limit unused σ at)
+  side-read limit unused σ at = forest-read unused σ limit 1 at
+
+  pub side-reads : (limit unused : ℕ) (σ : Signature) {ws : List ℕ} → Forest σ limit 1 ws →
+      inOrderFrom unused ws ≡ true → {at end : ℕ} → Spells source (map node ws) at end →
+      sideReader source limit unused σ at ≡ got ws end
+  side-reads limit unused σ f o p = forest-reads unused σ f o p
+
   -- ---- rules
 
   module _ (unused : ℕ) (σ : Signature) where
@@ -117,11 +129,11 @@ module _ (source : Source) where
     pub rule-read : (at : ℕ) → HoldsOf (RuleRead at) (ruleReader source unused σ at)
     unfolding ruleReader HoldsOf
     rule-read at =
-        holds-then _ (forestReader source unused σ maxNodes 1 at) _ λ ls mid e₁.
+        holds-then _ (sideReader source maxNodes unused σ at) _ λ ls mid e₁.
         let after = unusedAfterAll unused ls in
-        holds-then _ (forestReader source after σ maxNodes 1 mid) _ λ rs end e₂.
-        let (f, o, p) = holds-got _ _ ls mid (forest-read unused σ maxNodes 1 at) e₁ in
-        let (g, o′, q) = holds-got _ _ rs end (forest-read after σ maxNodes 1 mid) e₂ in
+        holds-then _ (sideReader source maxNodes after σ mid) _ λ rs end e₂.
+        let (f, o, p) = holds-got _ _ ls mid (side-read maxNodes unused σ at) e₁ in
+        let (g, o′, q) = holds-got _ _ rs end (side-read maxNodes after σ mid) e₂ in
         (f, g, inOrder-append unused ls rs ∙ both _ _ .1 (o, o′), spells-append source p q)
 
     rule-reads : (r : Sides) (at end : ℕ) → RuleRead at r end → ruleReader source unused σ at ≡ got r end
@@ -130,7 +142,7 @@ module _ (source : Source) where
         let (mid, p₁, p₂) = spells-split source (map node (r .left)) p in
         let (o₁, o₂) =
         both (inOrderFrom unused (r .left)) _ .0 (sym (inOrder-append unused (r .left) (r .right)) ∙ o) in
-        rw (forest-reads unused σ f o₁ p₁, forest-reads (unusedAfterAll unused (r .left)) σ g o₂ p₂)
+        rw (side-reads maxNodes unused σ f o₁ p₁, side-reads maxNodes (unusedAfterAll unused (r .left)) σ g o₂ p₂)
 
     abbrev pub RulesRead : ℕ → ℕ → List Sides → ℕ → Type 0
     RulesRead n at rs end = (length rs ≡ n) × RulesOk unused σ rs × Spells source (flatMap ruleItems rs) at end
@@ -222,18 +234,18 @@ module _ (source : Source) where
         (e, t)
 
     pub file-read : (form at : ℕ) →
-        HoldsOf (λ f end. FileOk form f × Spells source (itemsIn form f) at end) (fileReader form source at)
-    unfolding fileReader bodyReader symbolTableReader itemsIn HoldsOf
+        HoldsOf (λ f end. FileOk form f × Spells source (items f) at end) (fileReader form source at)
+    unfolding fileReader bodyReader symbolTableReader items HoldsOf
     file-read form at =
-        let unused = unusedOf form in
         holds-then _ (source .field formWidth at) _ λ read at₁ e₁.
-        holds-require _ (eqb read form) _ at at₁ _ λ isForm.
+        holds-require _ (isTaken form read) _ at at₁ _ λ formTaken.
+        let unused = unusedOf read in
         holds-then _ (source .field symbolCountWidth at₁) _ λ k at₂ e₂.
         holds-require _ (ltb 0 k) _ at₁ at₂ _ λ some.
         holds-then _ (source .field weightWidth at₂) _ λ w0 at₃ e₃.
         holds-require _ (ltb 0 w0) _ at₂ at₃ _ λ weighs.
         holds-then _ (source .field ruleCountWidth at₃) _ λ n at₄ e₄.
-        let least = leastWeightIn form w0 in
+        let least = leastWeightIn read w0 in
         holds-then _ (symbolTableReader source least k at₄) _ λ ss at₅ table.
         holds-then _ (rulesReader source unused (record { w0 = w0; symbols = ss }) n at₅) _ λ rs end e₆.
         let (e₅, noneOutranked) = holds-got _ _ ss at₅ (table-read least k at₄) table in
@@ -242,23 +254,23 @@ module _ (source : Source) where
         let (length-rs, rulesOk, q) = holds-got _ _ rs end (rules-read unused σ n at₅) e₆ in
         let length-ss : length ss ≡ k = ap length a ∙ length-new in
         let symbolsOk : SymbolsOk least [] ss = rw (← a) at oks in
-        let r₁ : source .field formWidth at ≡ got form at₁ = rw (eqb-true read form isForm) at e₁ in
         let r₂ : source .field symbolCountWidth at₁ ≡ got (length ss) at₂ = rw (← length-ss) at e₂ in
         let r₄ : source .field ruleCountWidth at₃ ≡ got (length rs) at₄ = rw (← length-rs) at e₄ in
-        let ok : FileOk form (record { signature = σ; rules = rs }) = record {
+        let ok : FileOk form (record { form = read; signature = σ; rules = rs }) = record {
+          formTaken = formTaken;
           someSymbol = rw length-ss some;
           variableWeighs = weighs;
           symbolsOk = symbolsOk;
           noneOutranked = noneOutranked;
           rulesOk = rulesOk;
         } in
-        (ok, more r₁ (more r₂ (more e₃ (more r₄ (spells-append source (rw (← a) at p) q)))))
+        (ok, more e₁ (more r₂ (more e₃ (more r₄ (spells-append source (rw (← a) at p) q)))))
 
-  pub file-reads : (form : ℕ) (f : RuleFile) (at end : ℕ) → FileOk form f → Spells source (itemsIn form f) at end →
+  pub file-reads : (form : ℕ) (f : RuleFile) (at end : ℕ) → FileOk form f → Spells source (items f) at end →
       fileReader form source at ≡ got f end
-  unfolding fileReader bodyReader symbolTableReader itemsIn
+  unfolding fileReader bodyReader symbolTableReader items
   file-reads form f at end ok (more e₁ (more e₂ (more e₃ (more e₄ p)))) =
       let (mid, q, r) = spells-split source (flatMap symbolItems (f .signature .symbols)) p in
       let symbols = symbols-reads (ok .symbolsOk) _ mid q in
-      let rules = rules-reads (unusedOf form) (f .signature) (f .rules) mid end (ok .rulesOk) r in
-      rw (e₁, eqb-self form, e₂, ok .someSymbol, e₃, ok .variableWeighs, e₄, symbols, ok .noneOutranked, rules)
+      let rules = rules-reads (unusedOf (f .form)) (f .signature) (f .rules) mid end (ok .rulesOk) r in
+      rw (e₁, ok .formTaken, e₂, ok .someSymbol, e₃, ok .variableWeighs, e₄, symbols, ok .noneOutranked, rules)

@@ -6,7 +6,7 @@ use Rattle.format.specs.Reading.Reading.{got}
 use Rattle.format.specs.Symbols.{symbolReader, symbolsReader, symbolTableReader}
 use Rattle.format.specs.Format.{forestReader, ruleReader, rulesReader, bodyReader, fileReader}
 use Rattle.format.specs.Files.{wholeReader, readBytesIn, readBytes, readWords}
-use Rattle.format.specs.Packing.{itemsIn, packedIn, packed, unpacked}
+use Rattle.format.specs.Packing.{items, packed, unpacked}
 use Rattle.format.specs.Listing.{listing, listingFile, listingWords}
 
 pub listing-reads : readBytes listing ≡ got listingFile 130
@@ -15,11 +15,11 @@ unfolding readBytesIn wholeReader fileReader bodyReader symbolTableReader symbol
 listing-reads = refl
 
 pub listing-packs : packed listingFile ≡ listing
-unfolding packedIn itemsIn flatMap
+unfolding packed items flatMap
 listing-packs = refl
 
 pub listing-unpacks : unpacked listingFile ≡ listingWords
-unfolding unpacked itemsIn flatMap
+unfolding unpacked items flatMap
 listing-unpacks = refl
 
 pub listing-words-read : readWords listingWords ≡ got listingFile 16

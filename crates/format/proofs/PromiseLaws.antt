@@ -19,14 +19,15 @@ use Rattle.terms.specs.Rewriting.{WellFormedRules}
 use Rattle.format.specs.Layout.{maxNodes}
 use Rattle.format.specs.Reading.{wordSource}
 use Rattle.format.specs.Reading.Reading.{got}
-use Rattle.format.specs.Format.{Sides, RuleFile, unusedOf, allUsed, systemOf, forestReader}
+use Rattle.format.specs.Forms.{allUsed, unusedOf}
+use Rattle.format.specs.Format.{Sides, RuleFile, systemOf, sideReader}
 use Rattle.format.specs.Files.{readFirstTerm, readTerm}
-use Rattle.format.specs.Packing.{itemsIn, symbolItems, ruleItems}
+use Rattle.format.specs.Packing.{items, symbolItems, ruleItems}
 use Rattle.format.specs.Packing.Item.{node}
-use Rattle.format.specs.Statements.{IsTerm, WellFormedIn}
+use Rattle.format.specs.Statements.{IsTerm, WellFormedFile}
 use Rattle.format.proofs.ReadingLaws.{HoldsOf, holds-got, holds-then, holds-require}
 use Rattle.format.proofs.SpellingLaws.{AllFit, all-fit-split, Agrees, agrees-at, spells→coded}
-use Rattle.format.proofs.FormatLaws.{Forest, RulesOk, forest-read}
+use Rattle.format.proofs.FormatLaws.{Forest, RulesOk, side-read}
 use Rattle.format.proofs.CodingLaws.{wordAt, word-coding}
 use Rattle.format.proofs.FileLaws.{Readable, nodes-each}
 use Rattle.format.proofs.SideLaws.{side-formed, forest-le}
@@ -52,8 +53,8 @@ rules-at unused σ (q ∷ rs) ok fits r (List·Memᴰ·tail m) =
     rules-at unused σ rs (ok .3) (all-fit-split (ruleItems q) (flatMap ruleItems rs) fits .1) r m
 
 module _ (form : ℕ) (f : RuleFile) (r : Readable form f) where
-  pub readable-formed : WellFormedIn form f
-  unfolding itemsIn
+  pub readable-formed : WellFormedFile f
+  unfolding items
   readable-formed =
       let σ = f .signature in
       let (count, (w0, (rules, rest))) = r .fits .1 in
@@ -61,7 +62,7 @@ module _ (form : ℕ) (f : RuleFile) (r : Readable form f) where
       let each = fits-at (σ .symbols) symbols in
       record {
         admissible =
-            admissible-of-symbols form σ (r .ok .symbolsOk) (r .ok .noneOutranked)
+            admissible-of-symbols (f .form) σ (r .ok .symbolsOk) (r .ok .noneOutranked)
             (ltb-true 0 (σ .w0) (r .ok .variableWeighs));
         someSymbol = ltb-true 0 (length (σ .symbols)) (r .ok .someSymbol);
         within = record {
@@ -72,8 +73,8 @@ module _ (form : ℕ) (f : RuleFile) (r : Readable form f) where
           weight = λ g. each g .1 .1 .0;
           precedence = λ g. each g .1 .1 .1 .0;
         };
-        sides = λ s m. rules-at (unusedOf form) σ (f .rules) (r .ok .rulesOk) nodes s m .0;
-        inTurn = λ s m. rules-at (unusedOf form) σ (f .rules) (r .ok .rulesOk) nodes s m .1;
+        sides = λ s m. rules-at (unusedOf (f .form)) σ (f .rules) (r .ok .rulesOk) nodes s m .0;
+        inTurn = λ s m. rules-at (unusedOf (f .form)) σ (f .rules) (r .ok .rulesOk) nodes s m .1;
       }
 
   pub readable-system : WellFormedRules (systemOf f)
@@ -89,7 +90,7 @@ module _ (σ : Signature) (input nodes : List ℕ) (end : ℕ) where
       (nodes ≡ take end input) × (end ≡ length nodes) × IsTerm σ nodes × (end ≤ length input)
   unfolding readFirstTerm
   first-term e =
-      let (f, o, p) = holds-got _ _ nodes end (forest-read (wordSource input) allUsed σ maxNodes 1 0) e in
+      let (f, o, p) = holds-got _ _ nodes end (side-read (wordSource input) maxNodes allUsed σ 0) e in
       let (fits, ends, l, a) = spells→coded (word-coding input) p (omega arith) in
       let same = nodes-each nodes in
       let cells : Agrees (wordAt input) 0 nodes = rw same at a in
@@ -103,7 +104,7 @@ module _ (σ : Signature) (input nodes : List ℕ) (end : ℕ) where
   term-read : HoldsOf (λ ws at. (readFirstTerm σ input ≡ got ws at) × (at ≡ length input)) (readTerm σ input)
   unfolding readFirstTerm readTerm HoldsOf
   term-read =
-      holds-then _ (forestReader (wordSource input) allUsed σ maxNodes 1 0) _ λ ws at e.
+      holds-then _ (sideReader (wordSource input) maxNodes allUsed σ 0) _ λ ws at e.
       holds-require _ (eqb at (length input)) _ at at _ λ t.
       (e, eqb-true at (length input) t)
 

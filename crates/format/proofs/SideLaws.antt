@@ -2,7 +2,7 @@
 --     TermsOf           so many well-formed terms and their words
 --     forest-formed     what is read as a forest is spelled by the terms of `forestOf`
 --     side-formed       what is read as one term is the words of `termOf`
---     forest-le, forest-short    it has no more nodes than are allowed
+--     forest-le, forest-short, side-short    it has no more nodes than are allowed
 --     rule-fits         a rule that is read from bits fits
 use mathlib.Core.Path.{_≡_, refl, sym, ap, _∙_}
 use mathlib.Core.List.{List, [], _∷_, _++_, map, append-nil, append-assoc}
@@ -20,7 +20,7 @@ use Rattle.terms.specs.Words.{firstVariable, words, wordsOf, grow, forestOf, te
 use Rattle.terms.proofs.TermLaws.{row-arguments}
 use Rattle.format.specs.Reading.{Source, bitSource}
 use Rattle.format.specs.Reading.Reading.{got}
-use Rattle.format.specs.Format.{Sides, forestReader, ruleReader}
+use Rattle.format.specs.Format.{Sides, forestReader, sideReader, ruleReader}
 use Rattle.format.specs.Packing.{ruleItems}
 use Rattle.format.specs.Packing.Item.{node}
 use Rattle.format.proofs.ReadingLaws.{holds-got}
@@ -107,6 +107,10 @@ pub forest-short : (source : Source) (unused : ℕ) (σ : Signature) (a n at : �
     forestReader source unused σ a n at ≡ got ws end → length ws ≤ a
 forest-short source unused σ a n at ws end e =
     forest-le σ (holds-got _ _ ws end (forest-read source unused σ a n at) e .0)
+
+pub side-short : (source : Source) (limit unused : ℕ) (σ : Signature) (at : ℕ) (ws : List ℕ) (end : ℕ) →
+    sideReader source limit unused σ at ≡ got ws end → length ws ≤ limit
+side-short source limit unused σ at ws end e = forest-short source unused σ limit 1 at ws end e
 
 pub rule-fits : (bytes : List ℕ) (unused : ℕ) (σ : Signature) (at : ℕ) (r : Sides) (end : ℕ) →
     ruleReader (bitSource bytes) unused σ at ≡ got r end → AllFit (ruleItems r)

@@ -18,9 +18,11 @@ use borrow.Author.Tests.{eqb-true, leb-true, eq-eqb, le-leb, not-true}
 use Rattle.multisets.proofs.Relations.{byOrder, byTest, eqb-self}
 use Rattle.terms.specs.Signature.{Symbol, Signature, symbolOf, leastWeight, ZeroWeightUnary, Admissible}
 use Rattle.format.specs.Layout.{formNumber}
-use Rattle.format.specs.Symbols.{heldBy, leastWeightIn, firstOutranked}
+use Rattle.format.specs.Forms.{isTaken, leastWeightIn}
+use Rattle.format.specs.Symbols.{heldBy, firstOutranked}
 use Rattle.format.specs.Packing.{symbolItems}
 use Rattle.format.proofs.SpellingLaws.{AllFit, all-fit-append, all-fit-split}
+use Rattle.format.proofs.FormLaws.{taken-least}
 use Rattle.format.proofs.FormatLaws.{SymbolOk, SymbolsOk}
 use Rattle.format.proofs.FormatLaws.SymbolsOk.{noSymbol, symbol}
 use Rattle.format.proofs.RankLaws.{absent, outranks-false, outranks-none, ranked-of, of-ranked}
@@ -130,12 +132,17 @@ module _ (σ : Signature) (A : Admissible σ) where
       absurd (omega (arith, A .precedencesDiffer f g l (omega arith) (h ∙ same))))
       λ e. rw e
 
-  -- In the form that is read now.
-  pub symbols-of-admissible : SymbolsOk (leastWeightIn formNumber (σ .w0)) [] (σ .symbols)
-  symbols-of-admissible =
-      symbols-of (leastWeightIn formNumber (σ .w0)) [] (σ .symbols) λ f l. record {
+  -- In a form that is read now.
+  pub symbols-of-admissible : (form : ℕ) → isTaken formNumber form ≡ true →
+      SymbolsOk (leastWeightIn form (σ .w0)) [] (σ .symbols)
+  symbols-of-admissible form t =
+      let enough : (f : ℕ) → f < length (σ .symbols) →
+      leastWeightIn form (σ .w0) (symbolOf σ f .arity) ≤ symbolOf σ f .weight =
+      λ f l. rw (taken-least formNumber form t (σ .w0) (symbolOf σ f .arity))
+      (least-now (σ .w0) (symbolOf σ f .arity) (symbolOf σ f .weight) (A .weighsEnough f l)) in
+      symbols-of (leastWeightIn form (σ .w0)) [] (σ .symbols) λ f l. record {
         acBinary = binary-test _ _ (A .acBinary f);
-        weighs = le-leb _ _ (least-now (σ .w0) (symbolOf σ f .arity) (symbolOf σ f .weight) (A .weighsEnough f l));
+        weighs = le-leb _ _ (enough f l);
         fresh = fresh-at f l;
       }
 

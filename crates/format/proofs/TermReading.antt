@@ -27,13 +27,14 @@ use Rattle.format.specs.Errors.{tooManyNodes}
 use Rattle.format.specs.Layout.{maxNodes}
 use Rattle.format.specs.Reading.{Source, wordSource}
 use Rattle.format.specs.Reading.Reading.{got, fault}
-use Rattle.format.specs.Format.{allUsed, forestReader}
+use Rattle.format.specs.Forms.{allUsed}
+use Rattle.format.specs.Format.{forestReader, sideReader}
 use Rattle.format.specs.Files.{readFirstTerm, readTerm}
 use Rattle.format.specs.Packing.Item.{node}
 use Rattle.format.proofs.ForestLaws.{known, argumentCount}
 use Rattle.format.proofs.SpellingLaws.{AllFit, all-fit-append, Spells, agrees-of, coded→spells}
 use Rattle.format.proofs.SpellingLaws.Spells.{none, more}
-use Rattle.format.proofs.FormatLaws.{Forest, forest-reads}
+use Rattle.format.proofs.FormatLaws.{Forest, side-reads}
 use Rattle.format.proofs.FormatLaws.Forest.{noTerm, termNode}
 use Rattle.format.proofs.CodingLaws.{wordAt, word-coding}
 use Rattle.format.proofs.FileLaws.{nodes-each}
@@ -137,12 +138,12 @@ module _ (σ : Signature) (few : length (σ .symbols) ≤ firstVariable) (t : Te
       let p = front-spells (words t) rest (words-fit σ few t h) in
       let f = rw all at (nodes-form (maxNodes - size t)) in
       let o = fit-in-order (words t) (words-fit σ few t h) in
-      rw (forest-reads (wordSource (words t ++ rest)) allUsed σ f o p, length-words t)
+      rw (side-reads (wordSource (words t ++ rest)) maxNodes allUsed σ f o p, length-words t)
 
   pub term-reads : size t ≤ maxNodes → readTerm σ (words t) ≡ got (words t) (size t)
   unfolding readFirstTerm readTerm
   term-reads l =
-      let p : forestReader (wordSource (words t)) allUsed σ maxNodes 1 0 ≡ got (words t) (size t) =
+      let p : sideReader (wordSource (words t)) maxNodes allUsed σ 0 ≡ got (words t) (size t) =
       rw (append-nil (words t)) at (first-reads l []) in
       rw (p, length-words t, eqb-self (size t))
 

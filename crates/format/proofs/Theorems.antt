@@ -30,11 +30,12 @@ readable file (fromWords input end e) = words-readable input file end e
 
 pub readable-well-formed : ReadableWellFormed
 readable-well-formed file h =
-    let r = readable file h in (readable-formed formNumber file r, readable-system formNumber file r)
+    let r = readable file h in
+    (readable-formed formNumber file r, readable-system formNumber file r, r .ok .formTaken)
 
 pub well-formed-files-read : WellFormedFilesRead
-well-formed-files-read file w =
-    let r = well-formed-readable file w in
+well-formed-files-read file t w =
+    let r = well-formed-readable file t w in
     (λ short. (length (fileBits file), packed-reads formNumber file r short), unpacked-reads file r)
 
 pub read-term-well-formed : ReadTermWellFormed

@@ -16,11 +16,13 @@ use Rattle.terms.specs.Words.{firstVariable, termOf}
 use Rattle.terms.specs.FirstUse.{inOrderFrom}
 use Rattle.terms.proofs.WordsLaws.{length-words}
 use Rattle.format.specs.Layout.{formNumber, acWidth, maxNodes}
-use Rattle.format.specs.Format.{Sides, RuleFile, unusedOf}
-use Rattle.format.specs.Packing.{symbolItems, ruleItems, itemsIn}
+use Rattle.format.specs.Forms.{unusedOf}
+use Rattle.format.specs.Format.{Sides, RuleFile}
+use Rattle.format.specs.Packing.{symbolItems, ruleItems, items}
 use Rattle.format.specs.Packing.Item.{node}
-use Rattle.format.specs.Statements.{IsTerm, WellFormedFile}
+use Rattle.format.specs.Statements.{IsTerm, WellFormedFile, IsCurrent}
 use Rattle.format.proofs.SpellingLaws.{AllFit, all-fit-append}
+use Rattle.format.proofs.FormLaws.{taken-fits}
 use Rattle.format.proofs.FormatLaws.{Forest, RulesOk}
 use Rattle.format.proofs.FileLaws.{Readable}
 use Rattle.format.proofs.SymbolLaws.{symbols-of-admissible, ranked-of-admissible, fits-of}
@@ -53,13 +55,13 @@ bit-fits : (b : Bool) → cond b 1 0 < 2 ^ acWidth
 bit-fits true = lit< tt
 bit-fits false = lit< tt
 
-pub well-formed-readable : (file : RuleFile) → WellFormedFile file → Readable formNumber file
-unfolding itemsIn
-well-formed-readable file w =
+pub well-formed-readable : (file : RuleFile) → IsCurrent file → WellFormedFile file → Readable formNumber file
+unfolding items
+well-formed-readable file t w =
     let σ = file .signature in
     let within = w .within in
     let few : length (σ .symbols) ≤ firstVariable = omega (arith, within .symbolCount) in
-    let (ok, rules) = rules-of σ few (unusedOf formNumber) (file .rules) (w .sides) (w .inTurn) in
+    let (ok, rules) = rules-of σ few (unusedOf (file .form)) (file .rules) (w .sides) (w .inTurn) in
     let symbols = fits-of (σ .symbols) (λ f. (
       within .arity f,
       (bit-fits (symbolOf σ f .ac), (within .weight f, (within .precedence f, tt))),
@@ -67,11 +69,12 @@ well-formed-readable file w =
     let rest = all-fit-append (flatMap symbolItems (σ .symbols)) (flatMap ruleItems (file .rules)) symbols rules in
     record {
       ok = record {
+        formTaken = t;
         someSymbol = lt-ltb 0 (length (σ .symbols)) (w .someSymbol);
         variableWeighs = lt-ltb 0 (σ .w0) (w .admissible .variableWeighs);
-        symbolsOk = symbols-of-admissible σ (w .admissible);
+        symbolsOk = symbols-of-admissible σ (w .admissible) (file .form) t;
         noneOutranked = ranked-of-admissible σ (w .admissible);
         rulesOk = ok;
       };
-      fits = (lit< tt, (within .symbolCount, (within .w0, (within .ruleCount, rest))));
+      fits = (taken-fits (file .form) t, (within .symbolCount, (within .w0, (within .ruleCount, rest))));
     }

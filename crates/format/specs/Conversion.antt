@@ -2,6 +2,7 @@
 -- Renders: 02, order 4: "a converter, which renumbers and changes no other bit but the form".
 use mathlib.Core.List.{_++_, map}
 use Rattle.terms.specs.FirstUse.{firstUses, placeIn, renameWord}
+use Rattle.format.specs.Layout.{formNumber}
 use Rattle.format.specs.Format.{Sides, RuleFile}
 
 -- A rule with its variables numbered in order of first use, left side first.
@@ -11,4 +12,4 @@ convertedSides r =
     record { left = map word (r .left); right = map word (r .right) }
 
 abbrev pub convertedFile : RuleFile → RuleFile
-convertedFile f = record { signature = f .signature; rules = map convertedSides (f .rules) }
+convertedFile f = record { form = formNumber; signature = f .signature; rules = map convertedSides (f .rules) }

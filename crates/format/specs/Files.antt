@@ -11,9 +11,10 @@ use Rattle.format.specs.Errors.{fileTooLong}
 use Rattle.format.specs.Layout.{formNumber, maxBytes, maxNodes}
 use Rattle.format.specs.Reading.{Reading, Reader, _>>=_, _>>_, give, Source, bitSource, wordSource}
 use Rattle.format.specs.Reading.Reading.{fault}
-use Rattle.format.specs.Format.{RuleFile, allUsed, fileReader, forestReader}
+use Rattle.format.specs.Forms.{allUsed}
+use Rattle.format.specs.Format.{RuleFile, fileReader, sideReader}
 
--- A file of that form, and what may stand after its last rule.
+-- A file that a reader of that form takes, and what may stand after its last rule.
 unfoldable pub wholeReader : ℕ → Source → Reader RuleFile
 wholeReader form source = do
   file ← fileReader form source
@@ -33,13 +34,13 @@ readWords words = wholeReader formNumber (wordSource words) 0
 
 -- The node words of the term that stands first among the words. Its variables are in any order: it is no rule.
 unfoldable pub readFirstTerm : Signature → List ℕ → Reading (List ℕ)
-readFirstTerm σ words = forestReader (wordSource words) allUsed σ maxNodes 1 0
+readFirstTerm σ words = sideReader (wordSource words) maxNodes allUsed σ 0
 
 -- The same where nothing may stand after it.
 unfoldable pub readTerm : Signature → List ℕ → Reading (List ℕ)
 readTerm σ words =
     let whole : Reader (List ℕ) = do
-      nodes ← forestReader (wordSource words) allUsed σ maxNodes 1
+      nodes ← sideReader (wordSource words) maxNodes allUsed σ
       wordSource words .end
       give nodes
     in

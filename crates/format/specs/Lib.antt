@@ -1,6 +1,7 @@
 -- The file format, in its packed form and as words.
 pub mod Errors
 pub mod Layout
+pub mod Forms
 pub mod Reading
 pub mod Symbols
 pub mod Format

@@ -19,7 +19,8 @@ use Rattle.format.specs.Layout.{formNumber, maxBytes}
 use Rattle.format.specs.Reading.{bitSource, wordSource}
 use Rattle.format.specs.Reading.Reading.{got, fault}
 use Rattle.format.specs.Symbols.{symbolsReader, weightOffset}
-use Rattle.format.specs.Format.{Sides, RuleFile, unusedOf, systemOf}
+use Rattle.format.specs.Forms.{isTaken, unusedOf}
+use Rattle.format.specs.Format.{Sides, RuleFile, systemOf}
 use Rattle.format.specs.Packing.{packed, unpacked}
 use Rattle.format.specs.Files.{readBytes, readWords, readFirstTerm, readTerm}
 
@@ -47,25 +48,28 @@ pub record IsTerm (σ : Signature) (ws : List ℕ) : Type 0 where
 
 -- An admissible signature of from 1 to 255 symbols, and rules whose sides are the words of terms, with the variables in
 -- the order that the form asks for.
-pub record WellFormedIn (form : ℕ) (file : RuleFile) : Type 0 where
+pub record WellFormedFile (file : RuleFile) : Type 0 where
   pub admissible : Admissible (file .signature)
   pub someSymbol : 0 < length (file .signature .symbols)
   pub within : WithinWidths file
   pub sides : (r : Sides) → List·Memᴰ r (file .rules) →
       IsTerm (file .signature) (r .left) × IsTerm (file .signature) (r .right)
-  pub inTurn : (r : Sides) → List·Memᴰ r (file .rules) → inOrderFrom (unusedOf form) (r .left ++ r .right) ≡ true
+  pub inTurn : (r : Sides) → List·Memᴰ r (file .rules) →
+      inOrderFrom (unusedOf (file .form)) (r .left ++ r .right) ≡ true
 
-abbrev pub WellFormedFile : RuleFile → Type 0
-WellFormedFile = WellFormedIn formNumber
+-- A file of a form that every operation but the converter takes.
+abbrev pub IsCurrent : RuleFile → Type 0
+IsCurrent file = isTaken formNumber (file .form) ≡ true
 
--- A file that is read is well formed, and so are the rules that it means.
+-- A file that is read is well formed, and so are the rules that it means; and it has such a form.
 abbrev pub ReadableWellFormed : Type 0
-ReadableWellFormed = (file : RuleFile) → IsRead file → WellFormedFile file × WellFormedRules (systemOf file)
+ReadableWellFormed = (file : RuleFile) → IsRead file →
+    WellFormedFile file × WellFormedRules (systemOf file) × IsCurrent file
 
--- Demand 1: everything else is accepted. A well-formed file is read from its words, and from its packed form where that
--- is no longer than a file may be.
+-- Demand 1: everything else is accepted. A well-formed file of such a form is read from its words, and from its packed
+-- form where that is no longer than a file may be.
 abbrev pub WellFormedFilesRead : Type 0
-WellFormedFilesRead = (file : RuleFile) → WellFormedFile file →
+WellFormedFilesRead = (file : RuleFile) → IsCurrent file → WellFormedFile file →
     (length (packed file) ≤ maxBytes → (end : ℕ) × (readBytes (packed file) ≡ got file end))
     × (readWords (unpacked file) ≡ got file (length (unpacked file)))
 

@@ -9,19 +9,12 @@ use lib.ListN.{length}
 use lib.Dec.{eqb, ltb, leb}
 use Rattle.terms.specs.Signature.{Symbol}
 use Rattle.format.specs.Errors.{acNotBinary, weightInadmissible, rankTaken}
-use Rattle.format.specs.Layout.{weightWidth, arityWidth, acWidth, rankWidth, firstForm}
+use Rattle.format.specs.Layout.{weightWidth, arityWidth, acWidth, rankWidth}
 use Rattle.format.specs.Reading.{Reader, _>>=_, _>>_, give, here, require, Source}
 
 abbrev pub heldBy : List Symbol → ℕ → Bool
 heldBy [] rank = false
 heldBy (s ∷ ss) rank = eqb rank (s .precedence) || heldBy ss rank
-
--- The least weight of a symbol of that arity in a file of that form, which is tested at the symbol. In form 1 a symbol
--- of arity 1 weighs at least 1, as 01 has it.
-abbrev pub leastWeightIn : ℕ → ℕ → ℕ → ℕ
-leastWeightIn form w0 zero = w0
-leastWeightIn form w0 (suc zero) = cond (eqb form firstForm) 1 0
-leastWeightIn form w0 (suc (suc n)) = 0
 
 -- Some symbol has a higher rank.
 abbrev pub outranks : List Symbol → ℕ → Bool

@@ -11,7 +11,7 @@ use mathlib.Core.Bool.{false}
 use Prim.Native.Nat.{ℕ, suc, zero, _≤_, _<_}
 use native.Mathlib.Omega.{arith}
 use lib.ListN.{length, getD}
-use lib.Dec.{eqb, leb}
+use lib.Dec.{leb}
 use borrow.Author.Tests.{le-leb, eqb-true}
 use Rattle.multisets.proofs.Relations.{byTest}
 use Rattle.terms.specs.Signature.{Signature, NoZeroWeightUnary}
@@ -26,18 +26,21 @@ use Rattle.theory.specs.RenamingStatements.{Converted}
 use Rattle.theory.proofs.Theorems.{rules-converted}
 use Rattle.format.specs.Errors.{bytesTooShort}
 use Rattle.format.specs.Layout.{firstForm, formNumber, formWidth, maxBytes}
+use Rattle.format.specs.Forms.{isTaken}
 use Rattle.format.specs.Reading.{Reading, bitAt, bitField, isPadding, bitSource}
 use Rattle.format.specs.Reading.Reading.{got, fault}
 use Rattle.format.specs.Format.{Sides, RuleFile, systemOf, fileReader}
 use Rattle.format.specs.Files.{wholeReader, readBytesIn}
-use Rattle.format.specs.Packing.{itemsIn, packedIn, packed}
+use Rattle.format.specs.Packing.{items, packed}
 use Rattle.format.specs.Conversion.{convertedSides, convertedFile}
 use Rattle.format.specs.Statements.{IsTerm}
 use Rattle.format.proofs.ReadingLaws.{HoldsOf, holds-got, holds-then, holds-require}
 use Rattle.format.proofs.PackingLaws.{items-bits, bitAt-bytesOf}
-use Rattle.format.proofs.FileLaws.{Readable, bytes-readable, bytes-short, bytes-packed, fileBitsIn, packed-reads}
+use Rattle.format.proofs.FormLaws.{taken-old}
+use Rattle.format.proofs.FileLaws.{Readable, bytes-readable, bytes-short, bytes-packed, fileBits, packed-reads}
 use Rattle.format.proofs.PromiseLaws.{readable-formed}
-use Rattle.format.proofs.ConversionLaws.{converted-readable, converted-length, readable-before, converted-same}
+use Rattle.format.proofs.ConversionLaws.{converted-readable, converted-length, fileBefore, readable-before}
+use Rattle.format.proofs.ConversionLaws.{converted-same}
 use Rattle.operations.specs.Replies.{outcome}
 use Rattle.operations.specs.Coding.{write}
 use Rattle.operations.specs.Marking.{summaryOf}
@@ -142,7 +145,7 @@ module _ (bytes : List ℕ) (old : RuleFile) (h : HeldBefore bytes old) where
   all-terms = readable-formed firstForm old was-readable .sides
 
   module _ (small : (i : ℕ) → getD bytes i 0 < 256) where
-    was-packed : packedIn firstForm old ≡ bytes
+    was-packed : packed old ≡ bytes
     was-packed = bytes-packed firstForm bytes old (h .0) (h .1) small
 
     pub as-long : length (packed (convertedFile old)) ≡ length bytes
@@ -155,12 +158,12 @@ module _ (bytes : List ℕ) (old : RuleFile) (h : HeldBefore bytes old) where
 
     other-bits : (i : ℕ) → getD (convertedBits old) i false ≡ false →
         bitAt (packed (convertedFile old)) i ≡ bitAt bytes i
-    unfolding packedIn
+    unfolding packed
     other-bits i m =
         let new = convertedFile old in
-        bitAt-bytesOf (fileBitsIn formNumber new) (items-bits (itemsIn formNumber new)) i
+        bitAt-bytesOf (fileBits new) (items-bits (items new)) i
         ∙ kept-at (file-kept old) i m
-        ∙ sym (bitAt-bytesOf (fileBitsIn firstForm old) (items-bits (itemsIn firstForm old)) i)
+        ∙ sym (bitAt-bytesOf (fileBits old) (items-bits (items old)) i)
         ∙ ap (λ (b : List ℕ). bitAt b i) was-packed
 
     pub conversion : Conversion bytes (packed (convertedFile old)) old (convertedFile old)
@@ -197,7 +200,8 @@ books-agree bytes bytes' output file file' small small' h h' e p =
     let rules = rules-agree (file .signature) (few-symbols bytes file h) (file .rules) (file' .rules)
     (all-terms bytes file h) terms' p' in
     let same : convertedFile file ≡ convertedFile file' =
-    ap₂ (λ (σ : Signature) (rs : List Sides). record { signature = σ; rules = rs }) (sym e) rules in
+    ap₂ (λ (σ : Signature) (rs : List Sides). record { form = formNumber; signature = σ; rules = rs }) (sym e)
+    rules in
     converted-written bytes file h small output
     ∙ ap (λ (f : RuleFile). outcome (write bytesTooShort (packed f) output) output) same
     ∙ sym (converted-written bytes' file' h' small' output)
@@ -217,14 +221,16 @@ pub new-kept : (bytes output : List ℕ) (file : RuleFile) → ((i : ℕ) → ge
 new-kept bytes output file small (at, e) heavy room =
     let r = bytes-readable formNumber bytes file at e in
     let now = bytes-packed formNumber bytes file at e small in
-    let before : inFirstForm bytes ≡ packedIn firstForm file = ap inFirstForm (sym now) ∙ first-byte file in
+    let form : file .form ≡ formNumber = eqb-true (file .form) formNumber (r .ok .formTaken) in
+    let old = fileBefore file in
+    let before : inFirstForm bytes ≡ packed old = ap inFirstForm (sym now) ∙ first-byte file form in
     let n = length-first bytes in
-    let short : length (packedIn firstForm file) ≤ maxBytes =
+    let short : length (packed old) ≤ maxBytes =
     omega (arith, bytes-short formNumber bytes file at e, ap length before) in
-    let held : HeldBefore (inFirstForm bytes) file = rw before
-    (length (fileBitsIn firstForm file), packed-reads firstForm file (readable-before file heavy r) short) in
-    rw (converted-same file r, now) at
-    (converted-wrote (inFirstForm bytes) file held (small-first bytes small) output (omega arith))
+    let held : HeldBefore (inFirstForm bytes) old = rw before
+    (length (fileBits old), packed-reads firstForm old (readable-before file form heavy r) short) in
+    rw (converted-same file form r, now) at
+    (converted-wrote (inFirstForm bytes) old held (small-first bytes small) output (omega arith))
 
 -- ---- other operations
 
@@ -241,8 +247,8 @@ file-form : (bytes : List ℕ) → HoldsOf (FormRead bytes) (fileReader firstFor
 unfolding fileReader
 file-form bytes =
     holds-then _ (bitField bytes formWidth 0) _ λ read next e.
-    holds-require _ (eqb read firstForm) _ 0 next _ λ t.
-    holds-any _ _ λ file at. (next, rw (eqb-true read firstForm t) at e)
+    holds-require _ (isTaken firstForm read) _ 0 next _ λ t.
+    holds-any _ _ λ file at. (next, rw (taken-old read t) at e)
 
 bytes-form : (bytes : List ℕ) → HoldsOf (FormRead bytes) (readBytesIn firstForm bytes)
 unfolding readBytesIn wholeReader HoldsOf

@@ -18,11 +18,12 @@ use Rattle.format.specs.Layout.{formWidth, firstForm, formNumber, symbolCountWi
 use Rattle.format.specs.Layout.{arityWidth, acWidth, rankWidth, tagWidth, symbolWidth, variableWidth}
 use Rattle.format.specs.Reading.{spelt}
 use Rattle.format.specs.Format.{Sides, RuleFile}
-use Rattle.format.specs.Packing.{Item, symbolItems, ruleItems, itemsIn, bitsOf, itemBits, bytesFrom, bytesOf, packedIn}
+use Rattle.format.specs.Packing.{Item, symbolItems, ruleItems, items, bitsOf, itemBits, bytesFrom, bytesOf, packed}
 use Rattle.format.specs.Packing.Item.{node}
 use Rattle.format.specs.Conversion.{convertedSides, convertedFile}
 use Rattle.format.proofs.PackingLaws.{Bits, items-bits}
-use Rattle.format.proofs.FileLaws.{fileBitsIn}
+use Rattle.format.proofs.FileLaws.{fileBits}
+use Rattle.format.proofs.ConversionLaws.{fileBefore}
 use Rattle.guarantees.specs.Conversions.{numberBits, convertedBits, inFirstForm}
 
 -- ---- bits off a mask
@@ -104,15 +105,15 @@ symbols-kept (s ∷ ss) =
     (kept-append (kept-bits weightWidth _) (kept-append (kept-bits rankWidth _) (symbols-kept ss))))
 
 pub file-kept : (f : RuleFile) →
-    KeptOff (convertedBits f) (fileBitsIn firstForm f) (fileBitsIn formNumber (convertedFile f))
-unfolding itemsIn flatMap
+    KeptOff (convertedBits f) (fileBits f) (fileBits (convertedFile f))
+unfolding items flatMap
 file-kept f =
     let symbols = flatMap symbolItems (f .signature .symbols) in
     let rules = flatMap ruleItems (f .rules) in
     let new = flatMap ruleItems (map convertedSides (f .rules)) in
     let all = items-append symbols symbols rules new (symbols-kept (f .signature .symbols)) (rules-kept (f .rules)) in
     rw (length-map (f .rules) convertedSides)
-    (kept-append (free-bits formWidth firstForm formNumber) (kept-append (kept-bits symbolCountWidth _)
+    (kept-append (free-bits formWidth (f .form) formNumber) (kept-append (kept-bits symbolCountWidth _)
     (kept-append (kept-bits weightWidth _) (kept-append (kept-bits ruleCountWidth _) all))))
 
 -- ---- the first byte
@@ -156,8 +157,8 @@ forms-apart bits small =
     λ i h. getD-headed formNumber firstForm bits i (omega arith))
     ∙ sym (bytes-headed firstForm bits)
 
-pub first-byte : (f : RuleFile) → inFirstForm (packedIn formNumber f) ≡ packedIn firstForm f
-unfolding packedIn itemsIn flatMap
-first-byte f =
-    let later = drop 1 (itemsIn firstForm f) in
-    forms-apart (flatMap itemBits later) (items-bits later)
+pub first-byte : (f : RuleFile) → f .form ≡ formNumber → inFirstForm (packed f) ≡ packed (fileBefore f)
+unfolding packed items flatMap
+first-byte f now =
+    let later = drop 1 (items f) in
+    rw now (forms-apart (flatMap itemBits later) (items-bits later))

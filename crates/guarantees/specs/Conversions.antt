@@ -19,7 +19,7 @@ use Rattle.format.specs.Reading.{bitAt}
 use Rattle.format.specs.Reading.Reading.{got, fault}
 use Rattle.format.specs.Format.{RuleFile, systemOf}
 use Rattle.format.specs.Files.{readBytesIn, readBytes}
-use Rattle.format.specs.Packing.{Item, itemsIn}
+use Rattle.format.specs.Packing.{Item, items}
 use Rattle.format.specs.Packing.Item.{field, node}
 use Rattle.operations.specs.Replies.Reply.{accepted}
 use Rattle.operations.specs.Marking.{marksOf, marginsOf, summaryOf}
@@ -62,7 +62,7 @@ numberBits (node w) =
 
 -- Whether each bit of a file of form 1 is one of the form, or of a variable's number.
 abbrev pub convertedBits : RuleFile → List Bool
-convertedBits file = replicate formWidth true ++ flatMap numberBits (drop 1 (itemsIn firstForm file))
+convertedBits file = replicate formWidth true ++ flatMap numberBits (drop 1 (items file))
 
 -- The new book beside the old one: what it holds, and what is unchanged.
 pub record Conversion (bytes book : List ℕ) (old new : RuleFile) : Type 0 where

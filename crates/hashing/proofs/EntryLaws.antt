@@ -18,7 +18,7 @@ use Rattle.terms.specs.Words.{firstVariable}
 use Rattle.terms.specs.Fingerprint.{rowFactor, bagFactor, wrapped, inRow, inBag, fingerprint}
 use Rattle.terms.proofs.TermLaws.{row-arguments}
 use Rattle.terms.proofs.FingerprintLaws.{inRow-lt, inBag-append, fingerprint-var, fingerprint-app}
-use Rattle.equivalence.specs.Keys.{rootWord}
+use Rattle.subterms.specs.Parts.{rootWord}
 use Rattle.hashing.specs.Entries.{rootIn, keptIn, keptOf, termEntry, fingerprintIn, addedIn, keptBy}
 
 module _ (σ : Signature) (few : length (σ .symbols) ≤ firstVariable) where

@@ -18,8 +18,8 @@ use Rattle.terms.specs.Term.Term.{var}
 use Rattle.terms.specs.Words.{firstVariable, grow, forestOf, termOf}
 use Rattle.terms.specs.Fingerprint.{fingerprint}
 use Rattle.format.specs.Statements.{IsTerm}
-use Rattle.equivalence.proofs.PartLaws.{grown, inner-stand, stands, stand-one, complete-drop}
-use Rattle.equivalence.proofs.FormedLaws.{term-complete, term-some, take-formed, forest-formed}
+use Rattle.subterms.proofs.PartLaws.{grown, inner-stand, stands, stand-one, complete-drop}
+use Rattle.subterms.proofs.FormedLaws.{term-complete, term-some, take-formed, forest-formed}
 use Rattle.hashing.specs.Entries.{entryWith, termEntry, fingerprintIn, keptBy}
 use Rattle.hashing.proofs.EntryLaws.{past-last, fingerprintIn-entry, keptBy-symbol, keptBy-variable}
 

@@ -8,7 +8,7 @@ use Rattle.terms.specs.Term.{Term, row, flattenings}
 use Rattle.terms.specs.Term.Term.{var, app}
 use Rattle.terms.specs.Words.{firstVariable}
 use Rattle.terms.specs.Fingerprint.{bagFactor, wrapped, inRow, inBag, fingerprint}
-use Rattle.equivalence.specs.Keys.{rootWord}
+use Rattle.subterms.specs.Parts.{rootWord}
 
 -- The entry of a term with that root, and what of the term is kept; and both from an entry.
 abbrev pub entryWith : ℕ → ℕ → ℕ

@@ -10,7 +10,6 @@ use native.Mathlib.Omega.{arith}
 use lib.ListN.{length, take}
 use lib.Seq.{length-take-le, take-all}
 use Rattle.terms.specs.Signature.{Signature}
-use Rattle.format.specs.Layout.{formNumber}
 use Rattle.format.specs.Reading.{Reading}
 use Rattle.format.specs.Reading.Reading.{got, fault}
 use Rattle.format.specs.Format.{RuleFile}
@@ -95,7 +94,7 @@ module _ (whole : Bool) (σ : Signature) (left right : List ℕ) where
 -- ---- the file, and then the terms
 
 pub book-answer : (bytes table before after : List ℕ) (reading : Reading RuleFile) (r : Answer) →
-    maxTableWords ≤ length table → PackedRead formNumber bytes reading r table before after → BookRead table reading r
+    maxTableWords ≤ length table → PackedRead bytes reading r table before after → BookRead table reading r
 book-answer bytes table before after reading (Got nodes front) room (file, end, read, parts) = record {
   file = file;
   end = end;

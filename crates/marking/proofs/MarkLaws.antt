@@ -12,7 +12,8 @@ use lib.ListN.{length, take, length-map}
 use lib.Seq.{sets, sets-eq}
 use borrow.Author.Tests.{le-leb, lt-leb}
 use Rattle.format.specs.Errors.{marksTooShort}
-use Rattle.format.specs.Format.{systemOf}
+use Rattle.format.specs.Reading.{Reading}
+use Rattle.format.specs.Format.{RuleFile, systemOf}
 use Rattle.format.specs.Files.{readBytes}
 use Rattle.operations.specs.declared.Error.{Error}
 use Rattle.operations.specs.Replies.Reply.{accepted, refused}
@@ -26,10 +27,11 @@ use Rattle.marking.specs.declared.walk.FileMarked.the-variants.{Marked, 
 use Rattle.marking.specs.Rule.{IsTable, WholeMarked}
 use Rattle.marking.proofs.WalkLaws.{stored-front}
 
-pub is-table : (bytes table : List ℕ) (symbols rules offset : ℕ) → maxTableWords ≡ length table →
-    HeadParts true bytes [] table symbols rules offset → IsTable (take (tableWords symbols) table)
-is-table bytes table symbols rules offset n head =
-    let (short, admissible) = table-of bytes [] table symbols rules offset n head in
+pub is-table : (reader : ℕ) (bytes : List ℕ) (reading : Reading RuleFile) (table : List ℕ) (symbols rules offset : ℕ) →
+    maxTableWords ≡ length table → HeadParts reader true bytes [] reading table symbols rules offset →
+    IsTable (take (tableWords symbols) table)
+is-table reader bytes reading table symbols rules offset n head =
+    let (short, admissible) = table-of reader bytes [] reading table symbols rules offset n head in
     record { short = short; admissible = admissible }
 
 module _ (bytes marks : List ℕ) (x : FileMarked) (before found : List ℕ) (margins₀ margins : List ℤ)

@@ -12,7 +12,8 @@ use Rattle.terms.specs.Signature.{Signature}
 use Rattle.format.specs.Layout.{formNumber}
 use Rattle.format.specs.Reading.{Reading, andThen, give, Source, bitSource}
 use Rattle.format.specs.Reading.Reading.{got, fault}
-use Rattle.format.specs.Format.{Sides, RuleFile, unusedOf, ruleReader, rulesReader, systemOf}
+use Rattle.format.specs.Forms.{isTaken, unusedOf}
+use Rattle.format.specs.Format.{Sides, RuleFile, ruleReader, rulesReader, systemOf}
 use Rattle.format.specs.Files.{readBytes}
 use Rattle.format.proofs.FormatLaws.{rules-length}
 use Rattle.operations.specs.Marking.{marksOf}
@@ -128,29 +129,32 @@ module _ (bytes : List ℕ) (index : ℕ) where
   unfolding bookMarks
   one-unread code offset e h = absurd (omega (arith, rw e at h))
 
-  pub one-marked : (σ : Signature) (count at mark : ℕ) →
-      readBytes bytes ≡ restReader formNumber true bytes [] σ count at →
+  pub one-marked : (form : ℕ) → isTaken formNumber form ≡ true → (σ : Signature) (count at mark : ℕ) →
+      readBytes bytes ≡ restReader form true bytes [] σ count at →
       ((n : ℕ) (rules : List Sides) (end : ℕ) →
       rulesReader (bitSource bytes) (unusedOf formNumber) σ n at ≡ got rules end → index < n →
       mark ≡ getD (map (sidesMark σ) rules) index 0) →
       index < length (bookMarks bytes) → mark ≡ getD (bookMarks bytes) index 0
   unfolding bookMarks sourceOf
-  one-marked σ count at mark read marks h = go (rulesReader (bitSource bytes) (unusedOf formNumber) σ count at) refl
+  one-marked form taken σ count at mark read marks h =
+      go (rulesReader (bitSource bytes) (unusedOf formNumber) σ count at) refl
     where
       ended : (rules : List Sides) (next : ℕ) →
           rulesReader (bitSource bytes) (unusedOf formNumber) σ count at ≡ got rules next →
           (y : Reading (Unit {0})) → bitSource bytes .end next ≡ y → mark ≡ getD (bookMarks bytes) index 0
       ended rules next e (got u last) f =
-          let whole : readBytes bytes ≡ got (record { signature = σ; rules = rules }) last =
-          read ∙ rest-ended formNumber true bytes [] σ count at rules next e last f in
-          let few = rw (whole, marks-sides σ rules) at h in
+          let whole : readBytes bytes ≡ got (record { form = form; signature = σ; rules = rules }) last =
+          read ∙ rest-ended formNumber form taken true bytes [] σ count at rules next e last f in
+          let few = rw (whole, marks-sides form σ rules) at h in
           let n = rules-length (bitSource bytes) (unusedOf formNumber) σ count at rules next e in
-          rw (whole, marks-sides σ rules) (marks count rules next e (omega (arith, length-map rules (sidesMark σ))))
+          rw (whole, marks-sides form σ rules)
+          (marks count rules next e (omega (arith, length-map rules (sidesMark σ))))
       ended rules next e (fault code offset) f =
-          one-unread code offset (read ∙ rest-unended formNumber true bytes [] σ count at rules next e code offset f) h
+          one-unread code offset
+          (read ∙ rest-unended formNumber form taken true bytes [] σ count at rules next e code offset f) h
 
       go : (x : Reading (List Sides)) → rulesReader (bitSource bytes) (unusedOf formNumber) σ count at ≡ x →
           mark ≡ getD (bookMarks bytes) index 0
       go (got rules next) e = ended rules next e (bitSource bytes .end next) refl
       go (fault code offset) e =
-          one-unread code offset (read ∙ rest-unread formNumber true bytes [] σ count at code offset e) h
+          one-unread code offset (read ∙ rest-unread formNumber form taken true bytes [] σ count at code offset e) h

@@ -9,10 +9,10 @@ use Rattle.terms.specs.FirstUse.{unusedAfterAll}
 use Rattle.format.specs.Layout.{maxNodes}
 use Rattle.format.specs.Reading.{Reading, Source, bitSource}
 use Rattle.format.specs.Reading.Reading.{got, fault}
-use Rattle.format.specs.Format.{forestReader, ruleReader}
+use Rattle.format.specs.Format.{sideReader, ruleReader}
 use Rattle.format.specs.Statements.{IsTerm}
 use Rattle.format.proofs.ReadingLaws.{holds-got}
-use Rattle.format.proofs.FormatLaws.{forest-read}
+use Rattle.format.proofs.FormatLaws.{side-read}
 use Rattle.format.proofs.CodingLaws.{spells-fit}
 use Rattle.format.proofs.SideLaws.{side-formed, forest-le}
 use Rattle.marking.specs.declared.rule.MarkedRule.{MarkedRule}
@@ -22,10 +22,10 @@ use Rattle.marking.specs.Rule.{Marks, MarksRead}
 use Rattle.marking.proofs.WalkLaws.{sidesThemselves}
 
 module _ (bytes : List ℕ) (unused : ℕ) (σ : Signature) where
-  pub side-term : (at end : ℕ) (ws : List ℕ) → forestReader (bitSource bytes) unused σ maxNodes 1 at ≡ got ws end →
+  pub side-term : (at end : ℕ) (ws : List ℕ) → sideReader (bitSource bytes) maxNodes unused σ at ≡ got ws end →
       IsTerm σ ws
   side-term at end ws e =
-      let (f, o, p) = holds-got _ _ ws end (forest-read (bitSource bytes) unused σ maxNodes 1 at) e in
+      let (f, o, p) = holds-got _ _ ws end (side-read (bitSource bytes) maxNodes unused σ at) e in
       let (s, w) = side-formed σ f (spells-fit bytes p) in
       record { spelled = sym s; wellFormed = w; short = forest-le σ f }
 
@@ -39,16 +39,16 @@ module _ (σ : Signature) where
   right-marked reading left right n m e same x = (right, rw same e, x)
 
   module _ (source : Source) (unused at : ℕ) where
-    pub left-unread : (code offset : ℕ) → forestReader source unused σ maxNodes 1 at ≡ fault code offset →
+    pub left-unread : (code offset : ℕ) → sideReader source maxNodes unused σ at ≡ fault code offset →
         ruleReader source unused σ at ≡ fault code offset
     unfolding ruleReader
     left-unread code offset e = rw e
 
     -- A rule whose left side was read is what its right side makes it.
-    pub rule-marked : (left : List ℕ) (middle used : ℕ) → forestReader source unused σ maxNodes 1 at ≡ got left middle →
+    pub rule-marked : (left : List ℕ) (middle used : ℕ) → sideReader source maxNodes unused σ at ≡ got left middle →
         used ≡ unusedAfterAll unused left → (r : RuleReading) →
         MarksRead σ (λ (right : List ℕ). record { left = left; right = right })
-        (forestReader source used σ maxNodes 1 middle) r →
+        (sideReader source maxNodes used σ middle) r →
         MarksRead σ sidesThemselves (ruleReader source unused σ at) r
     unfolding ruleReader
     rule-marked left middle used e u (Got m) (right, f, x) = (record { left = left; right = right }, rw (e, ← u, f), x)

@@ -104,9 +104,9 @@ sides-map : {A B C : Type 0} (g : B → C) (f : A → B) (l : List A) → map g 
 sides-map g f [] = refl
 sides-map g f (a ∷ l) = ap (_∷_ (g (f a))) (sides-map g f l)
 
-module _ (σ : Signature) (rs : List Sides) where
+module _ (form : ℕ) (σ : Signature) (rs : List Sides) where
   abbrev pub listedFile : RuleFile
-  listedFile = record { signature = σ; rules = rs }
+  listedFile = record { form = form; signature = σ; rules = rs }
 
   pub marks-sides : marksOf (systemOf listedFile) ≡ map (sidesMark σ) rs
   marks-sides = sides-map _ _ rs

@@ -7,7 +7,8 @@ ghost use Rattle.terms.specs.Signature.{Signature};
 ghost use Rattle.format.specs.Layout.{formNumber, maxBytes};
 ghost use Rattle.format.specs.Reading.{bitSource};
 ghost use Rattle.format.specs.Reading.Reading.{got};
-ghost use Rattle.format.specs.Format.{Sides, unusedOf, rulesReader};
+ghost use Rattle.format.specs.Forms.{unusedOf};
+ghost use Rattle.format.specs.Format.{Sides, rulesReader};
 ghost use Rattle.operations.specs.Jobs.{bookMarks};
 ghost use Rattle.symbols.specs.Table.{signatureOf};
 ghost use Rattle.symbols.specs.Arities.{Arities};
@@ -57,8 +58,8 @@ fn mark_after(book: &[u8], table: &[u16], index: usize, at: usize) -> u8
     match skip_rules(book, &arities, index, at) {
         Answer::Fault { .. } => 0,
         Answer::Got { value: _, next } => {
-            let mut adds = [0u64; measures::NODE_SUMS];
-            measures::nodes::put_node_sums(table, &mut adds);
+            let mut adds = [0u64; weights::NODE_SUMS];
+            weights::nodes::put_node_sums(table, &mut adds);
             match crate::rule::mark_rule(book, table, &arities, &adds, next) {
                 RuleReading::Fault { .. } => 0,
                 RuleReading::Got(rule) => rule.mark,

@@ -5,15 +5,16 @@ ghost use Prim.Native.Nat.{ℕ, _*_, _≤_};
 ghost use lib.ListN.{length};
 ghost use Rattle.format.specs.Layout.{formNumber, maxBytes, maxNodes};
 ghost use Rattle.format.specs.Reading.{bitSource};
-ghost use Rattle.format.specs.Format.{Sides, unusedOf, forestReader, ruleReader};
+ghost use Rattle.format.specs.Forms.{unusedOf};
+ghost use Rattle.format.specs.Format.{Sides, sideReader, ruleReader};
 ghost use Rattle.format.specs.Statements.{IsTerm};
 ghost use Rattle.symbols.specs.Table.{signatureOf};
 ghost use Rattle.symbols.specs.Arities.{Arities};
-ghost use Rattle.measures.specs.Nodes.{NodeSums};
+ghost use Rattle.weights.specs.Nodes.{NodeSums};
 ghost use Rattle.marking.specs.Rule.{IsTable, Marks, MarksRead, MarkedWithin};
 use answers::Answer;
-use measures::NODE_SUMS;
-use measures::totals::total;
+use weights::NODE_SUMS;
+use weights::totals::total;
 
 // A rule's mark and margin, and the offset past it.
 pub struct MarkedRule {
@@ -49,7 +50,7 @@ fn mark_sides(
     let t = total(table, adds, right);
     MarkedRule {
         mark: order::mark::mark(table, adds, left, s, right, t),
-        margin: measures::totals::margin(s, t),
+        margin: weights::totals::margin(s, t),
         next,
     }
 }
@@ -74,7 +75,7 @@ fn mark_right(
     ensures { λ r. ⌜
         MarksRead (signatureOf (now (table .entry)))
         (λ (right : List ℕ). record { left = now (left .entry); right = right })
-        (forestReader (bitSource (now (book .entry))) unused (signatureOf (now (table .entry))) maxNodes 1 (at)) r
+        (sideReader (bitSource (now (book .entry))) maxNodes unused (signatureOf (now (table .entry))) (at)) r
         ⌝ }
     ensures { λ r. ⌜ MarkedWithin (8 * length (now (book .entry))) r ⌝ }
 {

@@ -2,17 +2,18 @@
 ghost use mathlib.Core.Path.{_≡_};
 ghost use mathlib.Core.List.{[], _∷_};
 ghost use mathlib.Core.Bool.{true};
-ghost use Prim.Native.Nat.{_*_, _≤_, _<_};
+ghost use Prim.Native.Nat.{ℕ, _*_, _≤_, _<_};
 ghost use lib.ListN.{length, set};
 ghost use Rattle.format.specs.Layout.{formNumber, maxBytes};
 ghost use Rattle.format.specs.Reading.{bitSource};
-ghost use Rattle.format.specs.Format.{unusedOf, rulesReader};
+ghost use Rattle.format.specs.Forms.{isTaken, unusedOf};
+ghost use Rattle.format.specs.Format.{rulesReader};
 ghost use Rattle.format.specs.Files.{readBytes};
 ghost use Rattle.operations.specs.Marking.{decreasingCount};
 ghost use Rattle.symbols.specs.Table.{signatureOf};
 ghost use Rattle.symbols.specs.Arities.{Arities};
 ghost use Rattle.answers.specs.Answer.{Within};
-ghost use Rattle.measures.specs.Nodes.{NodeSums};
+ghost use Rattle.weights.specs.Nodes.{NodeSums};
 ghost use Rattle.reader.specs.File.{restReader};
 ghost use Rattle.marking.specs.Rule.{IsTable, AllMarked, WholeMarked};
 use crate::rule::RuleReading;
@@ -58,7 +59,7 @@ fn mark_rules(
     book: &[u8],
     table: &[u16],
     arities: &[u32; format::NODE_WORDS],
-    adds: &[u64; measures::NODE_SUMS],
+    adds: &[u64; weights::NODE_SUMS],
     marks: &mut [u8],
     margins: &mut [i64],
     count: usize,
@@ -72,7 +73,7 @@ fn mark_rules(
     requires { ⌜ (count ≤ length (now marks)) × (count < 1024) ⌝ }
     ensures { λ r. ⌜
         AllMarked (signatureOf (now (table .entry)))
-        (rulesReader (bitSource (now (book .entry))) (unusedOf formNumber) (signatureOf (now (table .entry))) count (at))
+        (rulesReader (bitSource (now (book .entry))) (unusedOf formNumber) (signatureOf (now (table .entry))) count at)
         r (now (marks .entry)) (now (marks .exit)) (now (margins .entry)) (now (margins .exit))
         ⌝ }
     ensures { λ r. ⌜ Within count (8 * length (now (book .entry))) r ⌝ }
@@ -110,13 +111,14 @@ fn mark_under(
     requires { ⌜ (length (now book) ≤ maxBytes) × (at ≤ 8 * length (now book)) ⌝ }
     requires { ⌜ IsTable (now table) × (count < 1024) × (1023 ≤ length (now marks)) ⌝ }
     ensures { λ r. ⌜
-        WholeMarked (restReader formNumber true (now (book .entry)) [] (signatureOf (now (table .entry))) count (at)) r
-        (now (marks .entry)) (now (marks .exit)) (now (margins .entry)) (now (margins .exit))
+        ((form : ℕ) → isTaken formNumber form ≡ true →
+        WholeMarked (restReader form true (now (book .entry)) [] (signatureOf (now (table .entry))) count (at)) r
+        (now (marks .entry)) (now (marks .exit)) (now (margins .entry)) (now (margins .exit)))
         ⌝ }
 {
     let arities = symbols::arities(table);
-    let mut adds = [0u64; measures::NODE_SUMS];
-    measures::nodes::put_node_sums(table, &mut adds);
+    let mut adds = [0u64; weights::NODE_SUMS];
+    weights::nodes::put_node_sums(table, &mut adds);
     match mark_rules(book, table, &arities, &adds, marks, margins, count, at) {
         Answer::Fault { code, offset } => FileMarked::Fault { code, offset },
         Answer::Got { value, next } => {

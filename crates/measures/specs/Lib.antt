@@ -1,5 +1,2 @@
--- What the contracts of the weighing say. The crates above cite NodeSums, Totalled, SummedUp and Scale alone.
-pub mod Digits
-pub mod Nodes
-pub mod Totals
+-- What the contracts of the weighing of parts say: SummedUp and Scale.
 pub mod Sums

@@ -6,7 +6,7 @@ use lib.ListN.{length, getD, drop}
 use Rattle.terms.specs.Signature.{Signature, Admissible}
 use Rattle.symbols.specs.Table.{signatureOf}
 use Rattle.equivalence.specs.Keys.{BothPrepared}
-use Rattle.measures.specs.Nodes.{wordSum}
+use Rattle.weights.specs.Nodes.{wordSum}
 
 -- How many numbers are stored for the offsets in a term and the one past it, three for each.
 abbrev pub sumsLength : ℕ

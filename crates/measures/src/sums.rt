@@ -1,19 +1,19 @@
 // Sums by offset, prepared once from right to left, and the totals of a part.
-use crate::NODE_SUMS;
 use crate::SUMS;
-use crate::totals::Totals;
-use crate::totals::with_node;
 use format::MAX_NODES;
+use weights::NODE_SUMS;
+use weights::totals::Totals;
+use weights::totals::with_node;
 ghost use mathlib.Core.Path.{_≡_};
 ghost use Prim.Native.Nat.{_<_};
 ghost use lib.ListN.{length};
 ghost use Rattle.terms.specs.Term.{weight};
 ghost use Rattle.format.specs.Statements.{IsTerm};
 ghost use Rattle.symbols.specs.Table.{signatureOf};
-ghost use Rattle.equivalence.specs.Parts.{partAt};
+ghost use Rattle.subterms.specs.Parts.{partAt};
 ghost use Rattle.equivalence.specs.Keys.{Prepared};
-ghost use Rattle.measures.specs.Nodes.{NodeSums, triple};
-ghost use Rattle.measures.specs.Totals.{Counted, Totalled};
+ghost use Rattle.weights.specs.Nodes.{NodeSums, triple};
+ghost use Rattle.weights.specs.Totals.{Counted, Totalled};
 ghost use Rattle.measures.specs.Sums.{sumsLength, SummedUp};
 
 // Stores the sums for an offset.

@@ -13,7 +13,7 @@ use Rattle.format.specs.Reading.{bitField, wordBelow}
 use Rattle.format.specs.Symbols.{symbolReader, symbolsReader, symbolTableReader}
 use Rattle.format.specs.Format.{forestReader, ruleReader, rulesReader, bodyReader, fileReader}
 use Rattle.format.specs.Files.{wholeReader, readBytesIn, readWords}
-use Rattle.format.specs.Packing.{Item, itemBits, itemWord, bytesOf, itemsIn, packedIn, unpacked}
+use Rattle.format.specs.Packing.{Item, itemBits, itemWord, bytesOf, items, packed, unpacked}
 use Rattle.format.specs.Packing.Item.{field, node}
 use Rattle.operations.specs.Replies.{Outcome}
 use Rattle.operations.specs.Replies.Reply.{accepted, refused}
@@ -109,7 +109,7 @@ decodeCases =
 
 decode-errors : map (λ (c : ErrorCase). decoded (c .read) (c .lent)) decodeCases ≡ map refusal decodeCases
 unfolding decoded readBytesIn wholeReader fileReader bodyReader symbolTableReader symbolsReader symbolReader rulesReader
-    ruleReader forestReader bitField unpacked itemsIn flatMap
+    ruleReader forestReader bitField unpacked items flatMap
 decode-errors = refl
 
 abbrev encodeCases : List ErrorCase
@@ -144,5 +144,5 @@ encodeCases =
 
 encode-errors : map (λ (c : ErrorCase). encoded (c .read) (c .lent)) encodeCases ≡ map refusal encodeCases
 unfolding encoded readWords wholeReader fileReader bodyReader symbolTableReader symbolsReader symbolReader rulesReader
-    ruleReader forestReader wordBelow packedIn itemsIn flatMap
+    ruleReader forestReader wordBelow packed items flatMap
 encode-errors = refl

@@ -11,7 +11,7 @@ use Rattle.format.specs.Reading.{bitField}
 use Rattle.format.specs.Symbols.{symbolReader, symbolsReader, symbolTableReader}
 use Rattle.format.specs.Format.{forestReader, ruleReader, rulesReader, bodyReader, fileReader}
 use Rattle.format.specs.Files.{wholeReader, readBytesIn}
-use Rattle.format.specs.Packing.{itemsIn, packedIn}
+use Rattle.format.specs.Packing.{items, packed}
 use Rattle.format.specs.Listing.{listing, wrapping}
 use Rattle.operations.specs.Replies.{Outcome}
 use Rattle.operations.specs.Replies.Reply.{accepted, refused}
@@ -33,12 +33,12 @@ oldListing = 0x10 ∷ drop 1 listing
 
 converts : converted outOfTurn (replicate 18 7) ≡ record { reply = accepted 16; output = inTurn ++ (7 ∷ 7 ∷ []) }
 unfolding converted readBytesIn wholeReader fileReader bodyReader symbolTableReader symbolsReader symbolReader
-    rulesReader ruleReader forestReader bitField seeAll see placeIn renameWord packedIn itemsIn flatMap
+    rulesReader ruleReader forestReader bitField seeAll see placeIn renameWord packed items flatMap
 converts = refl
 
 listing-converts : converted oldListing (replicate 17 7) ≡ record { reply = accepted 17; output = listing }
 unfolding converted readBytesIn wholeReader fileReader bodyReader symbolTableReader symbolsReader symbolReader
-    rulesReader ruleReader forestReader bitField seeAll see placeIn renameWord packedIn itemsIn flatMap
+    rulesReader ruleReader forestReader bitField seeAll see placeIn renameWord packed items flatMap
 listing-converts = refl
 
 -- What is read, and the error's code, input and offset.

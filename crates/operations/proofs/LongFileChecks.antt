@@ -13,7 +13,7 @@ use Rattle.format.specs.Reading.Reading.{got}
 use Rattle.format.specs.Symbols.{symbolReader, symbolsReader, symbolTableReader}
 use Rattle.format.specs.Format.{RuleFile, forestReader, ruleReader, rulesReader, bodyReader, fileReader}
 use Rattle.format.specs.Files.{wholeReader, readWords}
-use Rattle.format.specs.Packing.{itemsIn, packedIn, packed, unpacked}
+use Rattle.format.specs.Packing.{items, packed, unpacked}
 use Rattle.format.specs.Statements.{WellFormedFile}
 use Rattle.format.specs.Statements.IsRead.{fromWords}
 use Rattle.format.proofs.Theorems.{readable-well-formed, well-formed-files-read}
@@ -26,6 +26,7 @@ side = replicate 127 0 ++ (1 ∷ [])
 -- As many rules over a symbol of arity 1 and a constant.
 abbrev file : ℕ → RuleFile
 file n = record {
+  form = 2;
   signature = record {
     w0 = 1;
     symbols = record { arity = 1; ac = false; weight = 1; precedence = 1 } ∷
@@ -36,7 +37,7 @@ file n = record {
 
 one-reads : readWords (unpacked (file 1)) ≡ got (file 1) 268
 unfolding readWords wholeReader fileReader bodyReader symbolTableReader symbolsReader symbolReader rulesReader
-    ruleReader forestReader wordBelow unpacked itemsIn flatMap
+    ruleReader forestReader wordBelow unpacked items flatMap
 one-reads = refl
 
 one-formed : WellFormedFile (file 1)
@@ -66,10 +67,10 @@ long-formed =
     }
 
 too-long : leb (length (packed (file 114))) maxBytes ≡ false
-unfolding packedIn itemsIn flatMap
+unfolding packed items flatMap
 too-long = refl
 
 long-refused : (output : List ℕ) → encoded (unpacked (file 114)) output ≡
     record { reply = refused (record { code = fileTooLong; input = 0; offset = 0 }); output = output }
 unfolding encoded
-long-refused output = rw (well-formed-files-read (file 114) long-formed .1, too-long)
+long-refused output = rw (well-formed-files-read (file 114) refl long-formed .1, too-long)

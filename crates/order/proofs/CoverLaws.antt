@@ -20,7 +20,7 @@ use Rattle.terms.specs.Term.{Term, size}
 use Rattle.terms.specs.Equivalence.{isEquivalent}
 use Rattle.terms.specs.Order.{isGreater}
 use Rattle.symbols.specs.Table.{signatureOf}
-use Rattle.equivalence.specs.Parts.{partAt}
+use Rattle.subterms.specs.Parts.{partAt}
 use Rattle.equivalence.specs.Offsets.{Offsets, termsAt}
 use Rattle.equivalence.proofs.OffsetLaws.{offsets-length}
 use Rattle.order.specs.Compared.{greaterAt, covered, multisetOutcome}

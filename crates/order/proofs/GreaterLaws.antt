@@ -19,7 +19,7 @@ use Rattle.terms.proofs.OrderLaws.{isGreater-unfolds}
 use Rattle.terms.proofs.OftenerLaws.{oftener-some}
 use Rattle.symbols.specs.Table.{signatureOf}
 use Rattle.symbols.proofs.TableLaws.{few-at}
-use Rattle.equivalence.specs.Parts.{partAt}
+use Rattle.subterms.specs.Parts.{partAt}
 use Rattle.measures.specs.Sums.{Scale}
 use Rattle.order.specs.Compared.{weightAt, noneOftenerAt, higherMark, isHigher, greaterAt, rootAt, rowsGreater}
 use Rattle.order.specs.Compared.{flattenedAt}

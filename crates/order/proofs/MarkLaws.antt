@@ -30,7 +30,7 @@ use Rattle.operations.specs.declared.Relation.the-variants.{Greater, Less, Equi
 use Rattle.operations.specs.Comparing.{relation}
 use Rattle.operations.specs.Marking.{isDecreasing}
 use Rattle.symbols.specs.Table.{signatureOf}
-use Rattle.equivalence.proofs.PartLaws.{symbol}
+use Rattle.subterms.proofs.PartLaws.{symbol}
 use Rattle.order.specs.Compared.{higherMark, rootAt}
 use Rattle.order.proofs.RootLaws.{root-variable}
 use Rattle.order.proofs.GreaterLaws.{byNone, root, unfolds}

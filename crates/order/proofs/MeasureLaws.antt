@@ -24,10 +24,10 @@ use Rattle.terms.specs.Term.Terms.{nil, cons}
 use Rattle.terms.specs.Equivalence.{isEquivalent}
 use Rattle.terms.specs.Order.{variables, rootAbove, highPart, joinedHigh}
 use Rattle.symbols.specs.Table.{signatureOf}
-use Rattle.equivalence.specs.Parts.{partAt, partsAt, elementsAt, Stands}
+use Rattle.subterms.specs.Parts.{partAt, partsAt, elementsAt, Stands}
 use Rattle.equivalence.specs.Keys.{Prepared, BothPrepared, sizeIn}
 use Rattle.equivalence.specs.Offsets.{Offsets, termsAt}
-use Rattle.equivalence.proofs.PartLaws.{total, symbol}
+use Rattle.subterms.proofs.PartLaws.{total, symbol}
 use Rattle.equivalence.proofs.StepLaws.{row-next, prepared-size}
 use Rattle.equivalence.proofs.AlikeLaws.{ac-small, inner-left, inner-right}
 use Rattle.equivalence.proofs.ElementLaws.{elements-few}

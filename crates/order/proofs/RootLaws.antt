@@ -21,11 +21,11 @@ use Rattle.terms.proofs.TermLaws.{row-arguments}
 use Rattle.terms.proofs.OrderLaws.{noneOftener-facts}
 use Rattle.terms.proofs.IteratedLaws.{power-of-balanced}
 use Rattle.symbols.specs.Table.{signatureOf}
-use Rattle.equivalence.specs.Parts.{partAt, partsAt, Complete, Stands}
+use Rattle.subterms.specs.Parts.{partAt, partsAt, Complete, Stands}
 use Rattle.equivalence.specs.Keys.{BothPrepared, sizeIn}
 use Rattle.equivalence.specs.Offsets.{alikeAt}
-use Rattle.equivalence.proofs.PartLaws.{variable, symbol}
-use Rattle.equivalence.proofs.FormedLaws.{part-formed}
+use Rattle.subterms.proofs.PartLaws.{variable, symbol}
+use Rattle.subterms.proofs.FormedLaws.{part-formed}
 use Rattle.equivalence.proofs.StepLaws.{row-next, prepared-size}
 use Rattle.order.proofs.MeasureLaws.{rowNodes}
 use Rattle.order.specs.Compared.{weightAt, noneOftenerAt, higherMark, isHigher, greaterAt, rootAt, rowsGreater}

@@ -18,9 +18,9 @@ use Rattle.terms.specs.Term.{Term, isVar}
 use Rattle.terms.specs.Equivalence.{isEquivalent}
 use Rattle.terms.specs.Order.{rootAbove, rootBelow}
 use Rattle.symbols.specs.Table.{signatureOf}
-use Rattle.equivalence.specs.Parts.{partAt}
+use Rattle.subterms.specs.Parts.{partAt}
 use Rattle.equivalence.specs.Offsets.{Offsets, termsAt, leftAt}
-use Rattle.equivalence.proofs.PartLaws.{variable, symbol}
+use Rattle.subterms.proofs.PartLaws.{variable, symbol}
 use Rattle.equivalence.proofs.OffsetLaws.{offset-added, offsets-length}
 use Rattle.order.specs.Compared.{Parted}
 use Rattle.order.proofs.MeasureLaws.{cancel-length}

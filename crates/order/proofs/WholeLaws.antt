@@ -12,10 +12,10 @@ use Rattle.terms.specs.Signature.{Admissible}
 use Rattle.format.specs.Statements.{IsTerm}
 use Rattle.symbols.specs.Table.{signatureOf, maxTableWords}
 use Rattle.symbols.proofs.TableLaws.{few-at}
-use Rattle.equivalence.specs.Parts.{Complete}
+use Rattle.subterms.specs.Parts.{Complete}
 use Rattle.equivalence.specs.Keys.{Prepared, BothPrepared}
-use Rattle.equivalence.proofs.FormedLaws.{term-some, term-complete}
-use Rattle.measures.specs.declared.totals.Totals.{Totals}
+use Rattle.subterms.proofs.FormedLaws.{term-some, term-complete}
+use Rattle.weights.specs.declared.totals.Totals.{Totals}
 use Rattle.measures.specs.Sums.{SummedUp, Scale}
 use Rattle.order.specs.Whole.{Whole, Level}
 

@@ -13,7 +13,7 @@ use Rattle.terms.specs.Words.{firstVariable}
 use Rattle.terms.specs.Order.{noneOftener, variables as variablesOf, highPart, lowPart, joinedHigh, flattenedMark}
 use Rattle.terms.specs.Order.{rootMark, isGreater}
 use Rattle.symbols.specs.Table.{signatureOf}
-use Rattle.equivalence.specs.Parts.{partAt, partsAt, elementsAt, Stands}
+use Rattle.subterms.specs.Parts.{partAt, partsAt, elementsAt, Stands}
 use Rattle.equivalence.specs.Offsets.{Offsets}
 
 -- The offsets of the elements above f, of those below f and of the variables, and how many elements there are.

@@ -11,8 +11,8 @@ use Rattle.format.specs.Statements.{IsTerm}
 use Rattle.operations.specs.declared.Relation.{Relation}
 use Rattle.operations.specs.Comparing.{relation}
 use Rattle.symbols.specs.Table.{signatureOf}
-use Rattle.measures.specs.declared.totals.Totals.{Totals}
-use Rattle.measures.specs.Totals.{Totalled}
+use Rattle.weights.specs.declared.totals.Totals.{Totals}
+use Rattle.weights.specs.Totals.{Totalled}
 use Rattle.order.specs.Compared.{weightAt, noneOftenerAt}
 
 -- Both are well formed, under a table that is admissible.

@@ -8,7 +8,7 @@ ghost use Prim.Native.Nat.{_+_, _≤_, _<_};
 ghost use lib.ListN.{length};
 ghost use Rattle.terms.specs.Term.{Term};
 ghost use Rattle.symbols.specs.Table.{signatureOf};
-ghost use Rattle.equivalence.specs.Parts.{elementsAt, Stands};
+ghost use Rattle.subterms.specs.Parts.{elementsAt, Stands};
 ghost use Rattle.equivalence.specs.Keys.{Prepared, BothPrepared};
 ghost use Rattle.equivalence.specs.Offsets.{Offsets, OffsetsIn, termsAt, leftAt};
 ghost use Rattle.order.specs.Compared.{Parted};

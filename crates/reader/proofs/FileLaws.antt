@@ -7,18 +7,20 @@ use mathlib.Core.List.{List, [], _∷_}
 use mathlib.Core.Bool.{Bool, true, false, false≢true}
 use Prim.Native.Nat.{ℕ, _+_, _*_, _≤_, _<_}
 use native.Mathlib.Omega.{arith}
-use lib.Dec.{eqb, leb}
+use lib.Dec.{leb}
 use lib.ListN.{length, take}
 use lib.Seq.{sets, length-take-le}
 use Rattle.terms.specs.Signature.{Symbol, Signature, Admissible}
 use Rattle.format.specs.Errors.{noSymbols, variableWeightless}
-use Rattle.format.specs.Layout.{formNumber, formWidth, symbolCountWidth, weightWidth, ruleCountWidth, maxBytes}
+use Rattle.format.specs.Layout.{formWidth, symbolCountWidth, weightWidth, ruleCountWidth, maxBytes}
 use Rattle.format.specs.Reading.{Reading, Reader, andThen, give, require, Source}
 use Rattle.format.specs.Reading.Reading.{got, fault}
-use Rattle.format.specs.Symbols.{leastWeightIn, symbolTableReader}
-use Rattle.format.specs.Format.{Sides, RuleFile, unusedOf, formError, rulesReader, bodyReader, fileReader}
+use Rattle.format.specs.Forms.{isTaken, formError, unusedOf, leastWeightIn}
+use Rattle.format.specs.Symbols.{symbolTableReader}
+use Rattle.format.specs.Format.{Sides, RuleFile, rulesReader, bodyReader, fileReader}
 use Rattle.format.specs.Files.{wholeReader}
 use Rattle.format.proofs.ReadingLaws.{andThen-assoc, andThen-same, holds-got}
+use Rattle.format.proofs.FormLaws.{taken-unused}
 use Rattle.format.proofs.FormatLaws.{symbols-read, table-read}
 use Rattle.format.proofs.SymbolLaws.{admissible-of-symbols}
 use Rattle.symbols.specs.Table.{symbolsAt, signatureOf, weightOf, tableWords, maxTableWords, symbolsWords, frontWords}
@@ -27,7 +29,7 @@ use Rattle.symbols.proofs.EntryLaws.{table-le, table-entries, signature-front, 
 use Rattle.answers.specs.declared.Answer.{Answer}
 use Rattle.answers.specs.declared.Answer.the-variants.{Got, Fault}
 use Rattle.reader.specs.Source.{sourceOf, Reached, tableOf, Room, Stored, tested}
-use Rattle.reader.specs.File.{restReader, tableReader, countsReader, HeadParts, HeadRead}
+use Rattle.reader.specs.File.{restReader, tableReader, countsReader, storedForm, HeadParts, HeadRead}
 use Rattle.reader.specs.Symbol.{SymbolsRead}
 use Rattle.reader.proofs.SourceLaws.{tested-then, field-fits, reached-symbols, room-table, room-same}
 
@@ -79,15 +81,21 @@ module _ (form : ℕ) (packed : Bool) (bytes words : List ℕ) where
       ap (λ (r : Reading RuleFile). andThen r ends)
       (tested-then S weightWidth (leb 1) variableWeightless next (afterW0 k)) ∙ w0-parts k next
 
-  pub read-parts : wholeReader form S 0 ≡ andThen (S .field formWidth 0)
-      (λ read next. andThen (require (eqb read form) (formError read) 0 next)
-      (λ _. countsReader form packed bytes words))
+-- A file that a reader of that form takes.
+module _ (form : ℕ) (packed : Bool) (bytes words : List ℕ) where
+  abbrev R : Source
+  R = sourceOf packed bytes words
+
+  pub read-parts : wholeReader form R 0 ≡ andThen (R .field formWidth 0)
+      (λ read next. andThen (require (isTaken form read) (formError read) 0 next)
+      (λ _. countsReader read packed bytes words))
   unfolding wholeReader fileReader
   read-parts =
-      andThen-assoc (S .field formWidth 0) _ ends
-      ∙ andThen-same (S .field formWidth 0) _ _ λ read next.
-      andThen-assoc (require (eqb read form) (formError read) 0 next) _ ends
-      ∙ andThen-same (require (eqb read form) (formError read) 0 next) _ _ (λ u. counts-parts)
+      andThen-assoc (R .field formWidth 0) _ (ends form packed bytes words)
+      ∙ andThen-same (R .field formWidth 0) _ _ λ read next.
+      andThen-assoc (require (isTaken form read) (formError read) 0 next) _ (ends form packed bytes words)
+      ∙ andThen-same (require (isTaken form read) (formError read) 0 next) _ _
+      (λ u. counts-parts read packed bytes words)
 
 -- ---- after the header
 
@@ -107,23 +115,23 @@ symbols-admissible packed bytes words form w0 n at ss end e positive start =
     )
 
 -- The words that were stored before the rules of a packed file, and w0.
-front-of : (w0 symbols rules : ℕ) (before words table : List ℕ) (packed : Bool) →
-    Stored packed 0 (formNumber ∷ symbols ∷ w0 ∷ rules
+front-of : (form w0 symbols rules : ℕ) (before words table : List ℕ) (packed : Bool) →
+    Stored packed 0 (form ∷ symbols ∷ w0 ∷ rules
     ∷ symbolsWords (symbolsAt (tableOf packed words table) 0 symbols)) before table →
     Room packed (tableWords symbols) before → (packed ≡ false → weightOf words ≡ w0) →
     (weightOf (tableOf packed words table) ≡ w0) × (packed ≡ true → take (tableWords symbols) table
-    ≡ frontWords (record { w0 = w0; symbols = symbolsAt (tableOf packed words table) 0 symbols }) rules)
-front-of w0 symbols rules before words table true stored room stands =
+    ≡ frontWords form (record { w0 = w0; symbols = symbolsAt (tableOf packed words table) 0 symbols }) rules)
+front-of form w0 symbols rules before words table true stored room stands =
     let ss = symbolsAt table 0 symbols in
     let σ : Signature = record { w0 = w0; symbols = ss } in
     let n : length ss ≡ symbols = length-symbols table 0 symbols in
-    let e : table ≡ sets before 0 (frontWords σ rules) =
-    stored ∙ ap (λ (k : ℕ). sets before 0 (formNumber ∷ k ∷ w0 ∷ rules ∷ symbolsWords ss)) (sym n) in
+    let e : table ≡ sets before 0 (frontWords form σ rules) =
+    stored ∙ ap (λ (k : ℕ). sets before 0 (form ∷ k ∷ w0 ∷ rules ∷ symbolsWords ss)) (sym n) in
     let r : tableWords (length ss) ≤ length before = rw n room in (
-      front-weight before table σ rules r e,
-      λ yes. ap (λ (k : ℕ). take (tableWords k) table) (sym n) ∙ front-words before table σ rules r e,
+      front-weight before table form σ rules r e,
+      λ yes. ap (λ (k : ℕ). take (tableWords k) table) (sym n) ∙ front-words before table form σ rules r e,
     )
-front-of w0 symbols rules before words table false stored room stands = (stands refl, λ no. absurd (false≢true no))
+front-of form w0 symbols rules before words table false stored room stands = (stands refl, λ no. absurd (false≢true no))
 
 module _ (form : ℕ) (packed : Bool) (bytes words : List ℕ) (w0 symbols rules at : ℕ) where
   pub symbols-fault : (code offset : ℕ) →
@@ -141,74 +149,80 @@ module _ (form : ℕ) (packed : Bool) (bytes words : List ℕ) (w0 symbols rules
 
     pub head-read : (next : ℕ) →
         symbolTableReader (sourceOf packed bytes words) (leastWeightIn form w0) symbols at ≡ got (σ .symbols) next →
-        Stored packed 0 (formNumber ∷ symbols ∷ w0 ∷ rules ∷ symbolsWords (σ .symbols)) before table →
+        Stored packed 0 (storedForm form ∷ symbols ∷ w0 ∷ rules ∷ symbolsWords (σ .symbols)) before table →
         (packed ≡ false → weightOf words ≡ w0) → length table ≡ length before →
         Room packed (tableWords symbols) before → Reached packed bytes words 4 at → length bytes ≤ maxBytes →
         symbols < 256 → rules < 1024 → 0 < w0 →
-        HeadRead form packed bytes words (tableReader form packed bytes words w0 symbols rules at) (Got symbols next)
+        (reader : ℕ) → isTaken reader form ≡ true →
+        HeadRead reader packed bytes words (tableReader form packed bytes words w0 symbols rules at) (Got symbols next)
         table rules
     unfolding tableReader
-    head-read next read stored stands same room start short few some positive =
+    head-read next read stored stands same room start short few some positive reader taken =
         let (admissible, reached) =
         symbols-admissible packed bytes words form w0 symbols at (σ .symbols) next read positive start in
         let within = rw (← table-entries symbols) at reached in
         let long = room-table packed bytes words table (tableWords symbols) next
         (room-same packed _ before table same room) within in
-        let (weight, front) = front-of w0 symbols rules before words table packed stored room stands in
-        let e : signatureOf (take (tableWords symbols) T) ≡ σ = signature-front T symbols long ∙ rw weight in (
-          rw (read, e),
-          record {
-            symbolCount = rw e (sym (length-symbols T 0 symbols));
-            short = short;
-            fewSymbols = few;
-            fewRules = some;
-            admissible = rw e admissible;
-            within = within;
-            front = rw e front;
-          },
-        )
+        let (weight, front) =
+        front-of (storedForm form) w0 symbols rules before words table packed stored room stands in
+        let e : signatureOf (take (tableWords symbols) T) ≡ σ = signature-front T symbols long ∙ rw weight in
+        record {
+          form = form;
+          taken = taken;
+          whole = rw (read, e);
+          symbolCount = rw e (sym (length-symbols T 0 symbols));
+          short = short;
+          fewSymbols = few;
+          fewRules = some;
+          admissible = rw e admissible;
+          within = within;
+          front = rw e front;
+        }
 
     -- What the answer to the symbols makes of the head.
     pub head-answer : (r : Answer) →
         SymbolsRead (symbolTableReader (sourceOf packed bytes words) (leastWeightIn form w0) symbols at)
-        (λ (ss : List Symbol). Stored packed 0 (formNumber ∷ symbols ∷ w0 ∷ rules ∷ symbolsWords ss) before table) r
-        (σ .symbols) →
+        (λ (ss : List Symbol). Stored packed 0 (storedForm form ∷ symbols ∷ w0 ∷ rules ∷ symbolsWords ss) before table)
+        r (σ .symbols) →
         (packed ≡ false → weightOf words ≡ w0) → length table ≡ length before →
         Room packed (tableWords symbols) before → Reached packed bytes words 4 at → length bytes ≤ maxBytes →
         symbols < 256 → rules < 1024 → 0 < w0 →
-        HeadRead form packed bytes words (tableReader form packed bytes words w0 symbols rules at) r table rules
-    head-answer (Got value next) (read, all, stored) stands same room start short few some positive =
+        (reader : ℕ) → isTaken reader form ≡ true →
+        HeadRead reader packed bytes words (tableReader form packed bytes words w0 symbols rules at) r table rules
+    head-answer (Got value next) (read, all, stored) stands same room start short few some positive reader taken =
         rw (all ∙ length-symbols T 0 symbols)
-        (head-read next read stored stands same room start short few some positive)
-    head-answer (Fault offset code) read stands same room start short few some positive =
+        (head-read next read stored stands same room start short few some positive reader taken)
+    head-answer (Fault offset code) read stands same room start short few some positive reader taken =
         symbols-fault code offset read
 
 -- The table that reading the head of a packed file leaves.
-pub table-of : (bytes words table : List ℕ) (symbols rules offset : ℕ) → maxTableWords ≡ length table →
-    HeadParts true bytes words table symbols rules offset →
+pub table-of : (reader : ℕ) (bytes words : List ℕ) (reading : Reading RuleFile) (table : List ℕ)
+    (symbols rules offset : ℕ) → maxTableWords ≡ length table →
+    HeadParts reader true bytes words reading table symbols rules offset →
     (length (take (tableWords symbols) table) ≤ maxTableWords)
     × Admissible (signatureOf (take (tableWords symbols) table))
-table-of bytes words table symbols rules offset n head =
+table-of reader bytes words reading table symbols rules offset n head =
     let few = table-le symbols (head .fewSymbols) in
     (omega (arith, few, length-take-le (tableWords symbols) table (omega (arith, few))), head .admissible)
 
 -- ---- after the symbols
 
-module _ (form : ℕ) (packed : Bool) (bytes words : List ℕ) (σ : Signature) (count at : ℕ) where
+module _ (reader form : ℕ) (taken : isTaken reader form ≡ true) (packed : Bool) (bytes words : List ℕ) (σ : Signature)
+    (count at : ℕ) where
   pub rest-unread : (code offset : ℕ) → rulesReader (sourceOf packed bytes words)
-      (unusedOf form) σ count at ≡ fault code offset →
+      (unusedOf reader) σ count at ≡ fault code offset →
       restReader form packed bytes words σ count at ≡ fault code offset
   unfolding restReader
-  rest-unread code offset e = rw e
+  rest-unread code offset e = rw (taken-unused reader form taken, e)
 
   module _ (rules : List Sides) (next : ℕ)
-      (e : rulesReader (sourceOf packed bytes words) (unusedOf form) σ count at ≡ got rules next) where
+      (e : rulesReader (sourceOf packed bytes words) (unusedOf reader) σ count at ≡ got rules next) where
     pub rest-unended : (code offset : ℕ) → sourceOf packed bytes words .end next ≡ fault code offset →
         restReader form packed bytes words σ count at ≡ fault code offset
     unfolding restReader
-    rest-unended code offset f = rw (e, f)
+    rest-unended code offset f = rw (taken-unused reader form taken, e, f)
 
     pub rest-ended : (last : ℕ) → sourceOf packed bytes words .end next ≡ got tt last →
-        restReader form packed bytes words σ count at ≡ got (record { signature = σ; rules = rules }) last
+        restReader form packed bytes words σ count at ≡ got (record { form = form; signature = σ; rules = rules }) last
     unfolding restReader
-    rest-ended last f = rw (e, f)
+    rest-ended last f = rw (taken-unused reader form taken, e, f)

@@ -15,12 +15,12 @@ use Rattle.terms.specs.FirstUse.{unusedAfterAll}
 use Rattle.format.specs.Layout.{firstForm, maxNodes}
 use Rattle.format.specs.Reading.{Source, bitSource}
 use Rattle.format.specs.Reading.Reading.{got}
-use Rattle.format.specs.Format.{Sides, forestReader, ruleReader, rulesReader}
+use Rattle.format.specs.Format.{Sides, sideReader, ruleReader, rulesReader}
 use Rattle.format.specs.Conversion.{convertedSides}
 use Rattle.format.specs.Packing.{Item, itemBits}
 use Rattle.format.specs.Packing.Item.{node}
 use Rattle.format.proofs.ReadingLaws.{HoldsOf, holds-got, holds-then}
-use Rattle.format.proofs.SideLaws.{forest-short}
+use Rattle.format.proofs.SideLaws.{side-short}
 use Rattle.format.proofs.ConversionLaws.{converted-words}
 use Rattle.format.proofs.SpellingLaws.{spells→coded}
 use Rattle.format.proofs.FormatLaws.{rules-read}
@@ -67,13 +67,13 @@ module _ (source : Source) (unused : ℕ) (σ : Signature) where
   rule-short : (at : ℕ) → HoldsOf (λ r end. length (sideWords r) ≤ 256) (ruleReader source unused σ at)
   unfolding ruleReader HoldsOf
   rule-short at =
-      holds-then _ (forestReader source unused σ maxNodes 1 at) _ λ left mid e.
-      holds-then _ (forestReader source (unusedAfterAll unused left) σ maxNodes 1 mid) _ λ right end f.
+      holds-then _ (sideReader source maxNodes unused σ at) _ λ left mid e.
+      holds-then _ (sideReader source maxNodes (unusedAfterAll unused left) σ mid) _ λ right end f.
       simp length-append
       (omega (
         arith,
-        forest-short source unused σ maxNodes 1 at left mid e,
-        forest-short source (unusedAfterAll unused left) σ maxNodes 1 mid right end f,
+        side-short source maxNodes unused σ at left mid e,
+        side-short source maxNodes (unusedAfterAll unused left) σ mid right end f,
       ))
 
   pub rules-short : (n at : ℕ) → HoldsOf (λ rs end. length (rulesWords rs) ≤ 256 * n) (rulesReader source unused σ n at)

@@ -20,7 +20,8 @@ use Rattle.terms.specs.FirstUse.{unusedAfterAll, renumbered}
 use Rattle.format.specs.Layout.{firstForm, maxNodes}
 use Rattle.format.specs.Reading.{Reading, andThen, give, Source, bitSource, wordSource}
 use Rattle.format.specs.Reading.Reading.{got, fault}
-use Rattle.format.specs.Format.{Sides, unusedOf, forestReader, ruleReader, rulesReader}
+use Rattle.format.specs.Forms.{unusedOf}
+use Rattle.format.specs.Format.{Sides, sideReader, ruleReader, rulesReader}
 use Rattle.format.specs.Conversion.{convertedSides}
 use Rattle.format.proofs.ReadingLaws.{andThen-give, andThen-assoc, andThen-same}
 use Rattle.format.proofs.SideLaws.{rule-fits}
@@ -180,7 +181,7 @@ end-got value (fault k o) v next e = let z : _≡_ {A = ℕ} 0 1 = cc in absurd 
 
 module _ (words : List ℕ) (unused : ℕ) (σ : Signature) (at : ℕ) where
   abbrev side : ℕ → ℕ → Answer
-  side u n = answered (unusedAfterAll u) (forestReader (wordSource words) u σ maxNodes 1 n)
+  side u n = answered (unusedAfterAll u) (sideReader (wordSource words) maxNodes u σ n)
 
   abbrev rule : Reading Sides
   rule = ruleReader (wordSource words) unused σ at
@@ -188,11 +189,11 @@ module _ (words : List ℕ) (unused : ℕ) (σ : Signature) (at : ℕ) where
   pub rule-unread : (code offset : ℕ) → side unused at ≡ Fault offset code → rule ≡ fault code offset
   unfolding ruleReader
   rule-unread code offset e =
-      rw (end-fault (unusedAfterAll unused) (forestReader (wordSource words) unused σ maxNodes 1 at) code offset e)
+      rw (end-fault (unusedAfterAll unused) (sideReader (wordSource words) maxNodes unused σ at) code offset e)
 
   rule-of : (left right : List ℕ) (used next end : ℕ) →
-      forestReader (wordSource words) unused σ maxNodes 1 at ≡ got left next → used ≡ unusedAfterAll unused left →
-      forestReader (wordSource words) used σ maxNodes 1 next ≡ got right end →
+      sideReader (wordSource words) maxNodes unused σ at ≡ got left next → used ≡ unusedAfterAll unused left →
+      sideReader (wordSource words) maxNodes used σ next ≡ got right end →
       rule ≡ got (record { left = left; right = right }) end
   unfolding ruleReader
   rule-of left right used next end e u f = rw (e, ← u, f)
@@ -201,20 +202,20 @@ module _ (words : List ℕ) (unused : ℕ) (σ : Signature) (at : ℕ) where
     pub rule-half : (code offset : ℕ) → side used next ≡ Fault offset code → rule ≡ fault code offset
     unfolding ruleReader
     rule-half code offset f =
-        let (left, read, u) = end-got (unusedAfterAll unused) (forestReader (wordSource words) unused σ maxNodes 1 at)
+        let (left, read, u) = end-got (unusedAfterAll unused) (sideReader (wordSource words) maxNodes unused σ at)
         used next e in
         rw (
           read,
           ← u,
-          end-fault (unusedAfterAll used) (forestReader (wordSource words) used σ maxNodes 1 next) code
+          end-fault (unusedAfterAll used) (sideReader (wordSource words) maxNodes used σ next) code
               offset f,
         )
 
     pub rule-whole : (after end : ℕ) → side used next ≡ Got after end → (r : Sides) × (rule ≡ got r end)
     rule-whole after end f =
-        let (left, read, u) = end-got (unusedAfterAll unused) (forestReader (wordSource words) unused σ maxNodes 1 at)
+        let (left, read, u) = end-got (unusedAfterAll unused) (sideReader (wordSource words) maxNodes unused σ at)
         used next e in
-        let (right, read', u') = end-got (unusedAfterAll used) (forestReader (wordSource words) used σ maxNodes 1 next)
+        let (right, read', u') = end-got (unusedAfterAll used) (sideReader (wordSource words) maxNodes used σ next)
         after end f in
         (record { left = left; right = right }, rule-of left right used next end read u read')
 

@@ -20,7 +20,7 @@ use Rattle.multisets.proofs.Relations.{byTest}
 use Rattle.multisets.proofs.ListLaws.{sets-append}
 use Rattle.terms.specs.Signature.{Symbol}
 use Rattle.format.specs.Errors.{acNotBinary, weightInadmissible, rankTaken}
-use Rattle.format.specs.Layout.{formNumber, arityWidth, acWidth, weightWidth, rankWidth}
+use Rattle.format.specs.Layout.{arityWidth, acWidth, weightWidth, rankWidth}
 use Rattle.format.specs.Reading.{Reading, Reader, _>>=_, _>>_, give, here, require, Source}
 use Rattle.format.specs.Reading.Reading.{got, fault}
 use Rattle.format.specs.Symbols.{heldBy, firstOutranked, weightOffset, symbolReader, symbolsReader, symbolTableReader}
@@ -152,14 +152,14 @@ module _ (source : Source) (least : ℕ → ℕ) (count at : ℕ) where
     table-ranked h = rw (e, eq-eqb (firstOutranked ss) (length ss) (omega (arith, outranked-le ss ss)))
 
 -- The symbols are stored after the header.
-pub symbols-headed : (count w0 rules : ℕ) (reading : Reading (List Symbol)) (r : Answer) (ss : List Symbol)
-    (table headed after : List ℕ) → headed ≡ sets table 0 (formNumber ∷ count ∷ w0 ∷ rules ∷ []) →
+pub symbols-headed : (form count w0 rules : ℕ) (reading : Reading (List Symbol)) (r : Answer) (ss : List Symbol)
+    (table headed after : List ℕ) → headed ≡ sets table 0 (form ∷ count ∷ w0 ∷ rules ∷ []) →
     SymbolsRead reading (λ (ss : List Symbol). Stored true 4 (symbolsWords ss) headed after) r ss →
     SymbolsRead reading
-    (λ (ss : List Symbol). Stored true 0 (formNumber ∷ count ∷ w0 ∷ rules ∷ symbolsWords ss) table after) r ss
-symbols-headed count w0 rules reading (Got value next) ss table headed after e (read, all, stored) =
-    (read, all, stored ∙ rw e (sym (sets-append table 0 (formNumber ∷ count ∷ w0 ∷ rules ∷ []) (symbolsWords ss))))
-symbols-headed count w0 rules reading (Fault offset code) ss table headed after e read = read
+    (λ (ss : List Symbol). Stored true 0 (form ∷ count ∷ w0 ∷ rules ∷ symbolsWords ss) table after) r ss
+symbols-headed form count w0 rules reading (Got value next) ss table headed after e (read, all, stored) =
+    (read, all, stored ∙ rw e (sym (sets-append table 0 (form ∷ count ∷ w0 ∷ rules ∷ []) (symbolsWords ss))))
+symbols-headed form count w0 rules reading (Fault offset code) ss table headed after e read = read
 
 pub stored-same : (packed : Bool) (index : ℕ) (words other before after : List ℕ) → words ≡ other →
     Stored packed index words before after → Stored packed index other before after

@@ -13,9 +13,11 @@ use Rattle.format.specs.Errors.{badPadding, wordsLeftOver}
 use Rattle.format.specs.Layout.{formNumber}
 use Rattle.format.specs.Reading.{isPadding, bitSource, wordSource}
 use Rattle.format.specs.Reading.Reading.{got, fault}
-use Rattle.format.specs.Format.{Sides, RuleFile, unusedOf, rulesReader}
+use Rattle.format.specs.Forms.{unusedOf}
+use Rattle.format.specs.Format.{Sides, RuleFile, rulesReader}
 use Rattle.format.specs.Files.{readBytesIn, readWords}
 use Rattle.format.proofs.ReadingLaws.{holds-got}
+use Rattle.format.proofs.FormLaws.{taken-first}
 use Rattle.format.proofs.FormatLaws.{rules-length}
 use Rattle.format.proofs.FileLaws.{words-unpacked}
 use Rattle.symbols.specs.Table.{signatureOf, tableWords, maxTableWords, frontWords}
@@ -26,7 +28,7 @@ use Rattle.answers.specs.declared.Answer.the-variants.{Got, Fault}
 use Rattle.sides.specs.Side.{WordsRead, rulesWords}
 use Rattle.sides.proofs.UnpackedLaws.{unpacked-length}
 use Rattle.reader.specs.Source.{sourceOf, Reached, readSource}
-use Rattle.reader.specs.File.{restReader, rulesIn, HeadParts, HeadRead, PackedRead}
+use Rattle.reader.specs.File.{restReader, rulesIn, storedForm, HeadParts, HeadRead, PackedRead}
 use Rattle.reader.specs.File.{SheetRead}
 use Rattle.reader.proofs.SourceLaws.{read-packed, read-words}
 use Rattle.reader.proofs.RuleLaws.{end-fault, end-got}
@@ -43,14 +45,17 @@ module _ (form : ℕ) (bytes table before after : List ℕ) (h : Answer) (symbol
   abbrev τ : Signature
   τ = signatureOf (take (tableWords symbols) table)
 
-  packedHead : (readBytesIn form bytes ≡ restReader form true bytes [] τ rules start)
-      × HeadParts true bytes [] table symbols rules start
-  packedHead = let (whole, parts) = rw e at read in (sym (read-packed form bytes []) ∙ whole, parts)
+  parts : HeadParts form true bytes [] (readSource form true bytes []) table symbols rules start
+  parts = rw e at read
+
+  packedWhole : readBytesIn form bytes ≡ restReader (parts .form) true bytes [] τ rules start
+  packedWhole = sym (read-packed form bytes []) ∙ parts .whole
 
   pub packed-unread : (code offset : ℕ) → x ≡ Fault offset code → readBytesIn form bytes ≡ fault code offset
   unfolding sourceOf
   packed-unread code offset g =
-      packedHead .0 ∙ rest-unread form true bytes [] τ rules start code offset (rw g at (ruled τ (rw size at a)))
+      packedWhole ∙ rest-unread form (parts .form) (parts .taken) true bytes [] τ rules start code offset
+      (rw g at (ruled τ (rw size at a)))
 
   module _ (nodes next : ℕ) (g : x ≡ Got nodes next) (b : Bool) (p : b ≡ isPadding bytes next) where
     stored : WordsRead (λ (rs : List Sides). rulesWords (rulesIn form rs))
@@ -60,33 +65,37 @@ module _ (form : ℕ) (bytes table before after : List ℕ) (h : Answer) (symbol
     pub packed-unended : b ≡ false → readBytesIn form bytes ≡ fault badPadding next
     unfolding sourceOf
     packed-unended left =
-        packedHead .0 ∙ rest-unended form true bytes [] τ rules start (stored .0) next (stored .1) badPadding next
-        (rw (sym p ∙ left))
+        packedWhole ∙ rest-unended form (parts .form) (parts .taken) true bytes [] τ rules start (stored .0) next
+        (stored .1) badPadding next (rw (sym p ∙ left))
 
     pub packed-read : b ≡ true → front ≤ maxTableWords →
-        PackedRead form bytes (readBytesIn form bytes) (Got nodes front) table before after
+        PackedRead bytes (readBytesIn form bytes) (Got nodes front) table before after
     unfolding sourceOf Reached
     packed-read ended few =
         let (rs, rulesRead, count, put) = stored in
+        let same = taken-first form (parts .form) (parts .taken) in
         let n = rules-length (bitSource bytes) (unusedOf form) τ rules start rs next rulesRead in (
-          record { signature = τ; rules = rs },
+          record { form = parts .form; signature = τ; rules = rs },
           next,
-          packedHead .0 ∙ rest-ended form true bytes [] τ rules start rs next rulesRead next (rw (sym p ∙ ended)),
+          packedWhole ∙ rest-ended form (parts .form) (parts .taken) true bytes [] τ rules start rs next rulesRead next
+              (rw (sym p ∙ ended)),
           record {
-            short = packedHead .1 .short;
-            size = size ∙ ap tableWords (packedHead .1 .symbolCount);
+            short = parts .short;
+            size = size ∙ ap tableWords (parts .symbolCount);
             few = few;
-            words = ap (λ (k : ℕ). take k table) size ∙ packedHead .1 .front refl ∙ ap (frontWords τ) (sym n);
+            words =
+                ap (λ (k : ℕ). take k table) size ∙ parts .front refl
+                ∙ ap (frontWords (storedForm (parts .form)) τ) (sym n);
             signature = ap (λ (k : ℕ). signatureOf (take k table)) size;
-            admissible = packedHead .1 .admissible;
+            admissible = parts .admissible;
             narrow = omega (
               arith,
               count,
               as-long form rs,
-              nodes-fit bytes (unusedOf form) τ rules start rs next rulesRead (packedHead .1 .within),
+              nodes-fit bytes (unusedOf form) τ rules start rs next rulesRead (parts .within),
             );
-            nodeCount = omega (arith, count);
-            stored = put;
+            nodeCount = rw same (omega (arith, count));
+            stored = rw same put;
           },
         )
 
@@ -101,18 +110,21 @@ module _ (words table : List ℕ) (h : Answer) (symbols rules start : ℕ) (e : 
   abbrev υ : Signature
   υ = signatureOf (take (tableWords symbols) words)
 
-  sheetHead : (readWords words ≡ restReader formNumber false [] words υ rules start)
-      × HeadParts false [] words table symbols rules start
-  sheetHead = let (whole, parts) = rw e at read in (sym (read-words words) ∙ whole, parts)
+  sheetParts : HeadParts formNumber false [] words (readSource formNumber false [] words) table symbols rules start
+  sheetParts = rw e at read
+
+  sheetWhole : readWords words ≡ restReader (sheetParts .form) false [] words υ rules start
+  sheetWhole = sym (read-words words) ∙ sheetParts .whole
 
   rulesEnd : endOf (rulesReader (wordSource words) (unusedOf formNumber) υ rules start) ≡ x
   unfolding Reached
-  rulesEnd = sym (rw u at (ruled υ (rw (sheetHead .1 .within .0) at a)))
+  rulesEnd = sym (rw u at (ruled υ (rw (sheetParts .within .0) at a)))
 
   pub sheet-unread : (code offset : ℕ) → x ≡ Fault offset code → readWords words ≡ fault code offset
   unfolding sourceOf
   sheet-unread code offset g =
-      sheetHead .0 ∙ rest-unread formNumber false [] words υ rules start code offset
+      sheetWhole
+      ∙ rest-unread formNumber (sheetParts .form) (sheetParts .taken) false [] words υ rules start code offset
       (end-fault _ _ code offset (rulesEnd ∙ g))
 
   module _ (value next : ℕ) (g : x ≡ Got value next) where
@@ -120,34 +132,34 @@ module _ (words table : List ℕ) (h : Answer) (symbols rules start : ℕ) (e : 
     unfolding sourceOf
     sheet-unended left =
         let (rs, rulesRead, none) = end-got _ _ value next (rulesEnd ∙ g) in
-        sheetHead .0 ∙ rest-unended formNumber false [] words υ rules start rs next rulesRead wordsLeftOver next
-        (rw (ne-eqb next (length words) left))
+        sheetWhole ∙ rest-unended formNumber (sheetParts .form) (sheetParts .taken) false [] words υ rules start rs next
+        rulesRead wordsLeftOver next (rw (ne-eqb next (length words) left))
 
     pub sheet-read : next ≡ length words → SheetRead words (readWords words) (Got symbols start)
     unfolding sourceOf Reached
     sheet-read ended =
         let (rs, rulesRead, none) = end-got _ _ value next (rulesEnd ∙ g) in
-        let file : RuleFile = record { signature = υ; rules = rs } in
+        let file : RuleFile = record { form = sheetParts .form; signature = υ; rules = rs } in
         let whole : readWords words ≡ got file next =
-        sheetHead .0 ∙ rest-ended formNumber false [] words υ rules start rs next rulesRead next
-        (rw (eq-eqb next (length words) ended)) in
+        sheetWhole ∙ rest-ended formNumber (sheetParts .form) (sheetParts .taken) false [] words υ rules start rs next
+        rulesRead next (rw (eq-eqb next (length words) ended)) in
         let few = holds-got _ _ rs next (rules-short (wordSource words) (unusedOf formNumber) υ rules start)
         rulesRead in (
           file,
           next,
           whole,
           record {
-            symbolCount = sheetHead .1 .symbolCount;
-            begin = sheetHead .1 .within .0;
-            within = sheetHead .1 .within .1;
+            symbolCount = sheetParts .symbolCount;
+            begin = sheetParts .within .0;
+            within = sheetParts .within .1;
             short = omega (
               arith,
               ap length (words-unpacked words file next whole),
               unpacked-length file,
               few,
-              sheetHead .1 .symbolCount,
-              sheetHead .1 .fewSymbols,
-              sheetHead .1 .fewRules,
+              sheetParts .symbolCount,
+              sheetParts .fewSymbols,
+              sheetParts .fewRules,
             );
           },
         )

@@ -45,7 +45,7 @@ tested source width ok error = do
   require (ok value) error offset
   give value
 
--- The file of that form that is read from the bytes, or from the words where there are no bytes.
+-- The file that a reader of that form reads from the bytes, or from the words where there are no bytes.
 unfoldable pub readSource : ℕ → Bool → List ℕ → List ℕ → Reading RuleFile
 readSource form packed bytes words =
     cond (leb (length bytes) maxBytes) (wholeReader form (sourceOf packed bytes words) 0) (fault fileTooLong 0)

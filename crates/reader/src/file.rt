@@ -1,9 +1,10 @@
 // Reading a whole file, packed or a sheet: what stands before its rules, and its rules, or its first fault.
 ghost use mathlib.Core.Path.{_≡_};
-ghost use Prim.Native.Nat.{_≤_};
+ghost use mathlib.Core.Bool.{true};
+ghost use Prim.Native.Nat.{ℕ, _≤_};
 ghost use lib.ListN.{length};
 ghost use Rattle.format.specs.Layout.{maxBytes};
-ghost use Rattle.format.specs.Format.{formError};
+ghost use Rattle.format.specs.Forms.{isTaken, formError};
 ghost use Rattle.format.specs.Files.{readBytesIn, readWords};
 ghost use Rattle.symbols.specs.Table.{maxTableWords};
 ghost use Rattle.reader.specs.Source.{Reached, Room, readSource};
@@ -16,7 +17,7 @@ use answers::Answer;
 use format::NO_SYMBOLS;
 use format::SYMBOL_COUNT_WIDTH;
 
-// Reads the counts that follow a form, and the symbols; the value is how many symbols there are.
+// Reads the counts that follow that form, and the symbols; the value is how many symbols there are.
 fn read_counts(
     book: &[u8],
     sheet: &[u16],
@@ -29,8 +30,10 @@ fn read_counts(
     requires { ⌜ (length (now book) ≤ maxBytes) × Reached packed (now book) (now sheet) 1 at ⌝ }
     requires { ⌜ Room packed maxTableWords (now table) ⌝ }
     ensures { λ r. ⌜
-        HeadRead form packed (now (book .entry)) (now (sheet .entry))
-        (countsReader form packed (now (book .entry)) (now (sheet .entry)) at) r (now (table .exit)) (now (rules .exit))
+        ((reader : ℕ) → isTaken reader form ≡ true →
+        HeadRead reader packed (now (book .entry)) (now (sheet .entry))
+        (countsReader form packed (now (book .entry)) (now (sheet .entry)) at) r (now (table .exit))
+        (now (rules .exit)))
         ⌝ }
 {
     let read = field_at_least(book, sheet, packed, at, SYMBOL_COUNT_WIDTH, 1, NO_SYMBOLS);
@@ -52,7 +55,14 @@ fn read_counts(
     crate::table::read_table(book, sheet, packed, table, form, w0, symbols, value, next)
 }
 
-// The error of a form that is not the one that is read.
+// Whether a reader of that form takes a file of the form that it read.
+fn is_taken(form: u16, read: usize) -> bool
+    ensures { λ r. ⌜ r ≡ isTaken form read ⌝ }
+{
+    read == form as usize
+}
+
+// The error of a form that is not taken.
 fn form_error(form: usize) -> u8
     ensures { λ r. ⌜ r ≡ formError form ⌝ }
 {
@@ -62,8 +72,8 @@ fn form_error(form: usize) -> u8
     format::WRONG_FORM
 }
 
-// Reads the header and the symbols of a file of that form, the symbols of a packed one into the table, and stores the
-// count of rules; the value is how many symbols there are.
+// Reads the header and the symbols of a file that a reader of that form takes, the symbols of a packed one into the
+// table, and stores the count of rules; the value is how many symbols there are.
 pub fn read_head(
     book: &[u8],
     sheet: &[u16],
@@ -86,20 +96,20 @@ pub fn read_head(
     let Answer::Got { value, next } = read else {
         return read;
     };
-    if value != form as usize {
+    if !is_taken(form, value) {
         let code = form_error(value);
         return Answer::Fault { code, offset: 0 };
     }
-    read_counts(book, sheet, packed, form, table, rules, next)
+    read_counts(book, sheet, packed, value as u16, table, rules, next)
 }
 
-// Reads a packed file of that form, the words before its rules into the table and those of its rules to the front of
-// the words, the variables in order of first use. The value is how many words the rules have, and in place of an offset
-// how many stand in the table.
+// Reads a packed file that a reader of that form takes, the words before its rules into the table and those of its
+// rules to the front of the words, the variables in order of first use. The value is how many words the rules have, and
+// in place of an offset how many stand in the table.
 pub fn read_packed(book: &[u8], form: u16, table: &mut [u16], words: &mut [u16]) -> Answer
     requires { ⌜ maxTableWords ≤ length (now table) ⌝ }
     ensures { λ r. ⌜
-        PackedRead form (now (book .entry)) (readBytesIn form (now (book .entry))) r (now (table .exit))
+        PackedRead (now (book .entry)) (readBytesIn form (now (book .entry))) r (now (table .exit))
         (now (words .entry)) (now (words .exit))
         ⌝ }
 {

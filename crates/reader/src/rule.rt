@@ -6,7 +6,8 @@ ghost use lib.ListN.{length};
 ghost use Rattle.terms.specs.Signature.{Signature};
 ghost use Rattle.format.specs.Layout.{maxBytes, maxNodes};
 ghost use Rattle.format.specs.Reading.{bitSource, wordSource};
-ghost use Rattle.format.specs.Format.{Sides, unusedOf, ruleReader, rulesReader};
+ghost use Rattle.format.specs.Forms.{unusedOf};
+ghost use Rattle.format.specs.Format.{Sides, ruleReader, rulesReader};
 ghost use Rattle.symbols.specs.Arities.{Arities};
 ghost use Rattle.answers.specs.Answer.{endOf, Within};
 ghost use Rattle.sides.specs.Side.{WordsRead, sideWords, rulesWords};
@@ -90,11 +91,11 @@ fn read_word_rule(arities: &[u32; NODE_WORDS], sheet: &[u16], unused: usize, at:
         r ≡ endOf (ruleReader (wordSource (now (sheet .entry))) unused σ at))
         ⌝ }
 {
-    let read = words::term(arities, sheet, unused, at);
+    let read = words::term(arities, sheet, format::MAX_NODES, unused, at);
     let Answer::Got { value, next } = read else {
         return read;
     };
-    let read = words::term(arities, sheet, value, next);
+    let read = words::term(arities, sheet, format::MAX_NODES, value, next);
     let Answer::Got { value: _, next } = read else {
         return read;
     };

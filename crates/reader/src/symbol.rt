@@ -7,12 +7,14 @@ ghost use lib.Dec.{eqb};
 ghost use lib.ListN.{length};
 ghost use Rattle.terms.specs.Signature.{Symbol};
 ghost use Rattle.format.specs.Errors.{rankTaken};
-ghost use Rattle.format.specs.Layout.{formNumber, maxBytes, rankWidth};
-ghost use Rattle.format.specs.Symbols.{heldBy, leastWeightIn, symbolReader, symbolsReader};
+ghost use Rattle.format.specs.Layout.{maxBytes, rankWidth};
+ghost use Rattle.format.specs.Forms.{leastWeightIn};
+ghost use Rattle.format.specs.Symbols.{heldBy, symbolReader, symbolsReader};
 ghost use Rattle.format.specs.Packing.{itemWord, symbolItems};
 ghost use Rattle.symbols.specs.Table.{symbolAt, symbolsAt, tableWords, symbolsWords};
 ghost use Rattle.answers.specs.Answer.{readingOf, Below};
 ghost use Rattle.reader.specs.Source.{sourceOf, Reached, tableOf, Room, Stored, tested};
+ghost use Rattle.reader.specs.File.{storedForm};
 ghost use Rattle.reader.specs.Symbol.{TakenBy, SymbolPut, SymbolsRead};
 use crate::field::field;
 use answers::Answer;
@@ -179,6 +181,16 @@ fn read_symbols_from(
     }
 }
 
+// The form of the file that is stored where one of that form is read.
+fn stored_form(form: u16) -> u16
+    ensures { λ r. ⌜ r ≡ storedForm form ⌝ }
+{
+    if form == format::FIRST_FORM {
+        return format::FORM;
+    }
+    form
+}
+
 // The same, the header of a packed file stored too, by one branch on the source, so that the compiler makes a loop for
 // each.
 pub fn read_symbols(
@@ -197,13 +209,13 @@ pub fn read_symbols(
     ensures { λ r. ⌜
         SymbolsRead
         (symbolsReader (sourceOf packed (now (book .entry)) (now (sheet .entry))) (leastWeightIn form w0) count [] at)
-        (λ (ss : List Symbol). Stored packed 0 (formNumber ∷ count ∷ w0 ∷ rules ∷ symbolsWords ss)
+        (λ (ss : List Symbol). Stored packed 0 (storedForm form ∷ count ∷ w0 ∷ rules ∷ symbolsWords ss)
         (now (table .entry)) (now (table .exit))) r
         (symbolsAt (tableOf packed (now (sheet .entry)) (now (table .exit))) 0 count)
         ⌝ }
 {
     if packed {
-        symbols::put_header(table, count as u16, w0, rules as u16);
+        symbols::put_header(table, stored_form(form), count as u16, w0, rules as u16);
         return read_symbols_from(book, sheet, true, table, form, w0, count, at);
     }
     read_symbols_from(book, sheet, false, table, form, w0, count, at)

@@ -5,10 +5,12 @@ ghost use mathlib.Core.List.{List, _∷_};
 ghost use Prim.Native.Nat.{ℕ, _*_, _≤_, _<_};
 ghost use lib.ListN.{length};
 ghost use Rattle.terms.specs.Signature.{Symbol};
-ghost use Rattle.format.specs.Layout.{formNumber, maxBytes};
-ghost use Rattle.format.specs.Symbols.{leastWeightIn, firstOutranked, weightOffset, symbolTableReader};
+ghost use Rattle.format.specs.Layout.{maxBytes};
+ghost use Rattle.format.specs.Forms.{leastWeightIn};
+ghost use Rattle.format.specs.Symbols.{firstOutranked, weightOffset, symbolTableReader};
 ghost use Rattle.symbols.specs.Table.{symbolsAt, tableWords, symbolsWords};
 ghost use Rattle.reader.specs.Source.{sourceOf, Reached, tableOf, Room, Stored};
+ghost use Rattle.reader.specs.File.{storedForm};
 ghost use Rattle.reader.specs.Symbol.{SymbolsRead};
 use answers::Answer;
 use format::AC_WIDTH;
@@ -56,7 +58,7 @@ pub fn read_table(
     ensures { λ r. ⌜
         SymbolsRead
         (symbolTableReader (sourceOf packed (now (book .entry)) (now (sheet .entry))) (leastWeightIn form w0) count at)
-        (λ (ss : List Symbol). Stored packed 0 (formNumber ∷ count ∷ w0 ∷ rules ∷ symbolsWords ss)
+        (λ (ss : List Symbol). Stored packed 0 (storedForm form ∷ count ∷ w0 ∷ rules ∷ symbolsWords ss)
         (now (table .entry)) (now (table .exit))) r
         (symbolsAt (tableOf packed (now (sheet .entry)) (now (table .exit))) 0 count)
         ⌝ }

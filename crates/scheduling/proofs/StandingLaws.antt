@@ -13,14 +13,13 @@ use lib.ListN.{getD, take, drop, length-map}
 use lib.ListN
 use lib.Seq.{getD-take}
 use borrow.Author.Tests.{lt-ltb, le-ltb, le-leb, lt-leb, ltb-true, leb-true}
-use Rattle.format.specs.Layout.{formNumber}
 use Rattle.format.specs.Reading.{Reading}
 use Rattle.format.specs.Reading.Reading.{got, fault}
 use Rattle.format.specs.Format.{RuleFile, systemOf}
 use Rattle.format.specs.Files.{readBytes}
 use Rattle.format.specs.Statements.IsRead.{fromBytes}
 use Rattle.format.proofs.Theorems.{readable-well-formed}
-use Rattle.symbols.specs.Table.{frontWords, tableWords}
+use Rattle.symbols.specs.Table.{tableWords}
 use Rattle.reader.specs.File.{PackedParts}
 use Rattle.operations.specs.declared.Job.{Job}
 use Rattle.operations.specs.Marking.{marksOf}
@@ -29,10 +28,10 @@ use Rattle.scheduling.specs.declared.Standing.{Standing}
 use Rattle.scheduling.specs.declared.Standing.the-variants.{Bad, Done, Left}
 use Rattle.scheduling.specs.Search.{standingOf, isAllowed}
 
-pub rules-counted : (form : ℕ) (bytes table before after : List ℕ) (file : RuleFile) (nodes front : ℕ) →
-    PackedParts form bytes table before after file nodes front → getD table 3 0 ≡ ListN.length (file .rules)
+pub rules-counted : (bytes table before after : List ℕ) (file : RuleFile) (nodes front : ℕ) →
+    PackedParts bytes table before after file nodes front → getD table 3 0 ≡ ListN.length (file .rules)
 unfolding tableWords
-rules-counted form bytes table before after file nodes front p =
+rules-counted bytes table before after file nodes front p =
     sym (getD-take front table 3 0 (omega (arith, p .size))) ∙ ap (λ (l : List ℕ). getD l 3 0) (p .words)
 
 length-marks : (file : RuleFile) → ListN.length (marksOf (systemOf file)) ≡ ListN.length (file .rules)

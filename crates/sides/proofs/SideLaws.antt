@@ -23,7 +23,7 @@ use Rattle.format.specs.Errors.{tooManyNodes}
 use Rattle.format.specs.Layout.{maxNodes}
 use Rattle.format.specs.Reading.{Reading, Source}
 use Rattle.format.specs.Reading.Reading.{got, fault}
-use Rattle.format.specs.Format.{forestReader, ruleReader}
+use Rattle.format.specs.Format.{forestReader, sideReader, ruleReader}
 use Rattle.format.proofs.ForestLaws.{before, nothing-owed, none-allowed}
 use Rattle.answers.specs.declared.Answer.{Answer}
 use Rattle.answers.specs.declared.Answer.the-variants.{Got, Fault}
@@ -121,15 +121,15 @@ within-wider last wider limit h (Fault offset code) w = tt
 
 module _ (source : Source) (unused : ℕ) (σ : Signature) (at index : ℕ) (words : List ℕ) where
   pub left-fault : (code offset : ℕ) (after : List ℕ) →
-      forestReader source unused σ maxNodes 1 at ≡ fault code offset →
+      sideReader source maxNodes unused σ at ≡ fault code offset →
       WordsRead sideWords (ruleReader source unused σ at) index words (Fault offset code) after
   unfolding ruleReader
   left-fault code offset after e = rw e
 
   pub right-stored : (middle next : ℕ) (between : List ℕ) (used : ℕ) →
-      SideStored unused (forestReader source unused σ maxNodes 1 at) index words (Got middle next) between used →
+      SideStored unused (sideReader source maxNodes unused σ at) index words (Got middle next) between used →
       length between ≡ length words → (r : Answer) (after : List ℕ) (last : ℕ) →
-      SideStored used (forestReader source used σ maxNodes 1 next) middle between r after last →
+      SideStored used (sideReader source maxNodes used σ next) middle between r after last →
       WordsRead sideWords (ruleReader source unused σ at) index words r after
   unfolding ruleReader
   right-stored middle next between used (left, read, length-left, stored, u) same (Got end next') after last

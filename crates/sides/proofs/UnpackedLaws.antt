@@ -7,9 +7,8 @@ use Prim.Native.Nat.{ℕ, _+_, _*_}
 use native.Mathlib.Omega.{arith}
 use lib.ListN.{length, length-append}
 use Rattle.terms.specs.Signature.{Symbol}
-use Rattle.format.specs.Layout.{formNumber}
 use Rattle.format.specs.Format.{Sides, RuleFile}
-use Rattle.format.specs.Packing.{itemWord, symbolItems, ruleItems, itemsIn, unpacked}
+use Rattle.format.specs.Packing.{itemWord, symbolItems, ruleItems, items, unpacked}
 use Rattle.format.specs.Packing.Item.{node}
 use Rattle.symbols.specs.Table.{symbolsWords}
 use Rattle.symbols.proofs.EntryLaws.{length-symbolsWords}
@@ -30,9 +29,9 @@ unfolding flatMap
 symbols-words [] = refl
 symbols-words (s ∷ ss) = map-append itemWord (symbolItems s) (flatMap symbolItems ss) ∙ rw (symbols-words ss)
 
-pub unpacked-parts : (file : RuleFile) → unpacked file ≡ formNumber ∷ length (file .signature .symbols)
+pub unpacked-parts : (file : RuleFile) → unpacked file ≡ file .form ∷ length (file .signature .symbols)
     ∷ file .signature .w0 ∷ length (file .rules) ∷ (symbolsWords (file .signature .symbols) ++ rulesWords (file .rules))
-unfolding unpacked itemsIn
+unfolding unpacked items
 unpacked-parts file =
     rw (
       map-append itemWord (flatMap symbolItems (file .signature .symbols)) (flatMap ruleItems (file .rules)),

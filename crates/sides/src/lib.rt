@@ -7,7 +7,7 @@ ghost use Rattle.terms.specs.Signature.{Signature};
 ghost use Rattle.terms.specs.Words.{firstVariable};
 ghost use Rattle.format.specs.Layout.{maxBytes, maxNodes};
 ghost use Rattle.format.specs.Reading.{bitSource};
-ghost use Rattle.format.specs.Format.{forestReader, ruleReader};
+ghost use Rattle.format.specs.Format.{forestReader, sideReader, ruleReader};
 ghost use Rattle.symbols.specs.Arities.{Arities};
 ghost use Rattle.answers.specs.Answer.{answerOf, Within};
 ghost use Rattle.bits.specs.Cursor.{Ahead};
@@ -119,7 +119,7 @@ pub fn read_side(
     ensures { λ r. ⌜
         ((σ : Signature) → Arities σ (now (arities .entry)) →
         SideRead (now (unused .entry))
-        (forestReader (bitSource (now (book .entry))) (now (unused .entry)) σ maxNodes 1 at) r (now (words .exit))
+        (sideReader (bitSource (now (book .entry))) maxNodes (now (unused .entry)) σ at) r (now (words .exit))
         (now (unused .exit)))
         ⌝ }
     ensures { λ r. ⌜ Within maxNodes (8 * length (now (book .entry))) r ⌝ }
@@ -178,7 +178,7 @@ fn read_side_into(
     ensures { λ r. ⌜
         ((σ : Signature) → Arities σ (now (arities .entry)) →
         SideStored (now (unused .entry))
-        (forestReader (bitSource (now (book .entry))) (now (unused .entry)) σ maxNodes 1 at)
+        (sideReader (bitSource (now (book .entry))) maxNodes (now (unused .entry)) σ at)
         index (now (words .entry)) r (now (words .exit)) (now (unused .exit)))
         ⌝ }
     ensures { λ r. ⌜ Within (index + maxNodes) (8 * length (now (book .entry))) r ⌝ }

@@ -158,18 +158,18 @@ entries-more table before after n ss s e f g =
     let i : 4 + 4 * n ≡ 4 + length (symbolsWords ss) = omega (arith, length-symbolsWords ss) in
     g ∙ rw (f, i, symbolsWords-snoc ss s) (sym (sets-append table 4 (symbolsWords ss) put))
 
-module _ (table after : List ℕ) (σ : Signature) (rules : ℕ) (room : tableWords (length (σ .symbols)) ≤ length table)
-    (e : after ≡ sets table 0 (frontWords σ rules)) where
-  fits : 0 + length (frontWords σ rules) ≤ length table
+module _ (table after : List ℕ) (form : ℕ) (σ : Signature) (rules : ℕ)
+    (room : tableWords (length (σ .symbols)) ≤ length table) (e : after ≡ sets table 0 (frontWords form σ rules)) where
+  fits : 0 + length (frontWords form σ rules) ≤ length table
   unfolding tableWords
   fits = omega (arith, length-symbolsWords (σ .symbols))
 
   pub front-weight : weightOf after ≡ σ .w0
-  front-weight = rw e (sets-at table 0 (frontWords σ rules) fits 2 2 refl (omega arith))
+  front-weight = rw e (sets-at table 0 (frontWords form σ rules) fits 2 2 refl (omega arith))
 
-  pub front-words : take (tableWords (length (σ .symbols))) after ≡ frontWords σ rules
+  pub front-words : take (tableWords (length (σ .symbols))) after ≡ frontWords form σ rules
   unfolding tableWords
   front-words =
-      let n : 4 + 4 * length (σ .symbols) ≡ length (frontWords σ rules) =
+      let n : 4 + 4 * length (σ .symbols) ≡ length (frontWords form σ rules) =
       omega (arith, length-symbolsWords (σ .symbols)) in
-      rw (e, sets-eq (frontWords σ rules) table 0 fits, n) (take-append-seam (frontWords σ rules) _)
+      rw (e, sets-eq (frontWords form σ rules) table 0 fits, n) (take-append-seam (frontWords form σ rules) _)

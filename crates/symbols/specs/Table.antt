@@ -5,7 +5,6 @@ use Prim.Native.Nat.{ℕ, suc, zero, _+_, _-_, _*_, _/_}
 use lib.Dec.{eqb}
 use lib.ListN.{length, getD}
 use Rattle.terms.specs.Signature.{Symbol, Signature}
-use Rattle.format.specs.Layout.{formNumber}
 use Rattle.format.specs.Packing.{itemWord, symbolItems}
 
 -- The symbol of number f; words past the end are zeros.
@@ -37,10 +36,10 @@ tableWords n = 4 + 4 * n
 abbrev pub maxTableWords : ℕ
 maxTableWords = 1024
 
--- The words of the symbols in a sheet, and all words before the rules.
+-- The words of the symbols in a sheet, and all words before the rules, of which the first is the form.
 abbrev pub symbolsWords : List Symbol → List ℕ
 symbolsWords [] = []
 symbolsWords (s ∷ ss) = map itemWord (symbolItems s) ++ symbolsWords ss
 
-abbrev pub frontWords : Signature → ℕ → List ℕ
-frontWords σ rules = formNumber ∷ length (σ .symbols) ∷ σ .w0 ∷ rules ∷ symbolsWords (σ .symbols)
+abbrev pub frontWords : ℕ → Signature → ℕ → List ℕ
+frontWords form σ rules = form ∷ length (σ .symbols) ∷ σ .w0 ∷ rules ∷ symbolsWords (σ .symbols)

@@ -4,7 +4,6 @@ ghost use mathlib.Core.List.{[], _∷_};
 ghost use Prim.Native.Nat.{_+_, _≤_, _<_};
 ghost use lib.ListN.{length};
 ghost use lib.Seq.{sets};
-ghost use Rattle.format.specs.Layout.{formNumber};
 ghost use Rattle.symbols.specs.Table.{signatureOf, tableWords, maxTableWords};
 
 // How many words a symbol table may have.
@@ -41,13 +40,13 @@ fn put_four(table: &mut [u16], index: usize, a: u16, b: u16, c: u16, d: u16)
 }
 
 // Stores the header's words: the form, the count of symbols, the weight of a variable, the count of rules.
-pub fn put_header(table: &mut [u16], symbols: u16, w0: u16, rules: u16)
+pub fn put_header(table: &mut [u16], form: u16, symbols: u16, w0: u16, rules: u16)
     requires { ⌜ 4 ≤ length (now table) ⌝ }
     ensures { λ _. ⌜
-        now (table .exit) ≡ sets (now (table .entry)) 0 (formNumber ∷ symbols ∷ w0 ∷ rules ∷ [])
+        now (table .exit) ≡ sets (now (table .entry)) 0 (form ∷ symbols ∷ w0 ∷ rules ∷ [])
         ⌝ }
 {
-    put_four(table, 0, format::FORM, symbols, w0, rules);
+    put_four(table, 0, form, symbols, w0, rules);
 }
 
 // Stores the entry of the symbol of that number, after those before it.

@@ -6,7 +6,7 @@ ghost use lib.Dec.{eqb};
 ghost use lib.ListN.{length, getD};
 ghost use Rattle.terms.specs.Signature.{Signature, symbolOf};
 ghost use Rattle.format.specs.Layout.{firstForm};
-ghost use Rattle.format.specs.Symbols.{leastWeightIn};
+ghost use Rattle.format.specs.Forms.{leastWeightIn};
 ghost use Rattle.symbols.specs.Table.{signatureOf, maxTableWords};
 ghost use Rattle.symbols.specs.Arities.{Arities, Between};
 use format::FIRST_FORM;

@@ -6,7 +6,7 @@ ghost use Rattle.terms.specs.Term.{variableCount};
 ghost use Rattle.terms.specs.Words.{firstVariable};
 ghost use Rattle.terms.specs.FirstUse.{unusedAfter};
 ghost use Rattle.format.specs.Layout.{maxNodes};
-ghost use Rattle.format.specs.Format.{unusedOf};
+ghost use Rattle.format.specs.Forms.{unusedOf};
 ghost use Rattle.variables.specs.Renumbering.{Numbered, WordNumbered, RuleRenumbered};
 use format::FIRST_VARIABLE;
 use format::VARIABLES;

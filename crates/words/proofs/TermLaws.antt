@@ -25,7 +25,8 @@ use Rattle.format.specs.Errors.{fieldMissing, noSuchSymbol, tooManyNodes, wordT
 use Rattle.format.specs.Layout.{maxNodes}
 use Rattle.format.specs.Reading.{Reading, Node, wordSource, wordBelow}
 use Rattle.format.specs.Reading.Reading.{got, fault}
-use Rattle.format.specs.Format.{allUsed, forestReader}
+use Rattle.format.specs.Forms.{allUsed}
+use Rattle.format.specs.Format.{forestReader, sideReader}
 use Rattle.format.specs.Files.{readFirstTerm, readTerm}
 use Rattle.format.proofs.ForestLaws.{before, nothing-owed, none-allowed, node-fault, out-of-turn}
 use Rattle.format.proofs.SideLaws.{forest-short}
@@ -52,8 +53,8 @@ fewer-left at limit t h e = omega arith
 pub some-owed : (n : ℕ) → (n ≡ 0 → ⊥) → 0 < n
 some-owed n h = omega arith
 
-pub all-allowed : (at : ℕ) → at + maxNodes - at ≡ maxNodes
-all-allowed at = omega arith
+pub all-allowed : (at most : ℕ) → at + most - at ≡ most
+all-allowed at most = omega arith
 
 pub none-left : (at limit : ℕ) → at ≡ limit → limit - at ≡ 0
 none-left at limit e = omega arith
@@ -209,7 +210,7 @@ module _ (words : List ℕ) (σ : Signature) where
   -- ---- the term at the front
 
   abbrev first : Reading (List ℕ)
-  first = forestReader (wordSource words) allUsed σ maxNodes 1 0
+  first = sideReader (wordSource words) maxNodes allUsed σ 0
 
   abbrev answer : Reading (List ℕ) → Answer
   answer = answered (unusedAfterAll allUsed)

@@ -10,7 +10,7 @@ ghost use Rattle.terms.specs.FirstUse.{unusedAfterAll};
 ghost use Rattle.format.specs.Errors.{fieldMissing, tooManyNodes};
 ghost use Rattle.format.specs.Layout.{maxNodes};
 ghost use Rattle.format.specs.Reading.{wordBelow, wordSource};
-ghost use Rattle.format.specs.Format.{forestReader};
+ghost use Rattle.format.specs.Format.{forestReader, sideReader};
 ghost use Rattle.symbols.specs.Arities.{Arities};
 ghost use Rattle.answers.specs.Answer.{readingOf, Below, answered, answerOf, endOf};
 ghost use Rattle.words.specs.Terms.{nodeError, readerOf};
@@ -125,18 +125,24 @@ fn lesser(a: usize, b: usize) -> usize
     if a < b { a } else { b }
 }
 
-// Reads one term, and gives the lowest unused variable after it and its end.
-pub fn term(arities: &[u32; NODE_WORDS], words: &[u16], unused: usize, at: usize) -> Answer
-    requires { ⌜ (at ≤ 2 ^ 20) × (unused ≤ 16) ⌝ }
+// Reads one term, of so many nodes at most, and gives the lowest unused variable after it and its end.
+pub fn term(
+    arities: &[u32; NODE_WORDS],
+    words: &[u16],
+    most: usize,
+    unused: usize,
+    at: usize,
+) -> Answer
+    requires { ⌜ (at ≤ 2 ^ 20) × (unused ≤ 16) × (most ≤ maxNodes) ⌝ }
     ensures { λ r. ⌜
         ((σ : Signature) → Arities σ (now (arities .entry)) →
-        r ≡ answered (unusedAfterAll unused) (forestReader (wordSource (now (words .entry))) unused σ maxNodes 1 at))
+        r ≡ answered (unusedAfterAll unused) (sideReader (wordSource (now (words .entry))) most unused σ at))
         ⌝ }
     ensures { λ r. ⌜ Below 17 r ⌝ }
 {
     let mut lowest = FIRST_VARIABLE as usize + unused;
     let mut end = at;
-    let limit = at + format::MAX_NODES;
+    let limit = at + most;
     let stop = lesser(limit, words.len());
     let code = terms(&words, arities, &mut lowest, &mut end, limit, stop, 1);
     answers::answer_of(code, lowest - FIRST_VARIABLE as usize, end)
@@ -148,7 +154,7 @@ pub fn front_term(arities: &[u32; NODE_WORDS], words: &[u16], whole: bool) -> An
         ((σ : Signature) → Arities σ (now (arities .entry)) → r ≡ endOf (readerOf whole σ (now (words .entry))))
         ⌝ }
 {
-    let read = term(arities, words, format::VARIABLES, 0);
+    let read = term(arities, words, format::MAX_NODES, format::VARIABLES, 0);
     let Answer::Got { value: _, next } = read else {
         return read;
     };

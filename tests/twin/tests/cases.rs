@@ -22,7 +22,6 @@ const LISTING: [u8; 17] =
 fn examples_have_their_marks_and_margins() {
     sample::examples().iter().for_each(Example::check);
     articles::examples().iter().for_each(Example::check);
-    articles::coefficients().iter().for_each(Example::check);
 }
 
 #[test]
@@ -111,7 +110,7 @@ fn sample_rules_are_converted() {
 fn stored_samples_are_marked_and_converted() {
     let folder = Path::new(env!("CARGO_MANIFEST_DIR")).join("../../samples");
     let read = |file: &str| fs::read(folder.join(file)).unwrap_or_else(|error| panic!("{file}: {error}"));
-    for name in ["listing", "sample", "accepted", "wrapper", "coefficients", "refused", "old"] {
+    for name in ["listing", "sample", "accepted", "refused", "old"] {
         assert_eq!(report(&read(&format!("{name}.book"))), read(&format!("{name}.out")), "{name}");
     }
     assert_eq!(read("listing.book"), LISTING);
@@ -127,8 +126,7 @@ fn listing_prints_its_text() {
     assert_eq!(report(&LISTING), b"rules 2\n0 2 0\n1 10 0\nscore 50\nreturned\n");
     assert_eq!(mark(&LISTING, &mut [0; 2]), Ok(Marked { rules: 2, falling: 1, score: 50 }));
     assert_eq!(report(&[]), b"refusal 2 0\n");
-    assert_eq!(report(&[0x30]), b"refusal 2 4\n");
-    assert_eq!(report(&[0x40]), b"refusal 3 0\n");
+    assert_eq!(report(&[0x30]), b"refusal 3 0\n");
     assert_eq!(report(&[0x10]), b"refusal 17 0\n");
     assert_eq!(report(&sample().book(&[])), b"rules 0\nscore 100\naccepted\n");
     assert_eq!(report(&sample().book(&["z -> o"])), b"rules 1\n0 2 0\nscore 100\naccepted\n");

@@ -4,14 +4,15 @@ use std::collections::BTreeSet;
 
 use ackbo::Relation;
 
-use crate::candidates;
 use crate::sheet::{variable, Rule, Sheet, FIRST_VARIABLE};
 use crate::trial::{self, Change};
 use crate::words::Mark;
 
-/// The most changes of a kind that are offered for a rule.
+/// The most changes that are offered for a rule, of ranks and of weights each.
 const OFFERED: usize = 2;
-/// The most trials of whole books for a rule and a kind of change.
+/// The most trials of ranks for a rule.
+const TRIALS: usize = 128;
+/// The most trials of whole books for a rule, of ranks and of weights each.
 const BOOK_TRIALS: usize = 4;
 /// The most marks that the trials of a run ask for, of single rules and of whole books.
 const RULE_BUDGET: usize = 100_000;
@@ -41,6 +42,17 @@ pub struct Adviser<'a> {
     pub marks: &'a [u8],
     rule_budget: usize,
     book_budget: usize,
+}
+
+/// The occurrences of a node on each side of a rule.
+pub fn occurrences((left, right): Rule, node: u16) -> (usize, usize) {
+    let count = |side: &[u16]| side.iter().filter(|&&other| other == node).count();
+    (count(left), count(right))
+}
+
+/// The symbols of a rule.
+fn symbols((left, right): Rule) -> BTreeSet<u16> {
+    left.iter().chain(right).copied().filter(|&node| variable(node).is_none()).collect()
 }
 
 impl<'a> Adviser<'a> {
@@ -76,51 +88,56 @@ impl<'a> Adviser<'a> {
 
     /// Moves of one symbol of the rule above another one that make the rule fall.
     pub fn ranks(&mut self, rule: Rule) -> Vec<Offer> {
-        self.offers(rule, candidates::ranks(self.sheet, rule))
+        let rank = |symbol: &u16| self.sheet.symbol(usize::from(*symbol)).rank;
+        let mut ranked: Vec<u16> = symbols(rule).into_iter().collect();
+        ranked.sort_by_key(rank);
+        let pairs = ranked.iter().enumerate().flat_map(|(place, symbol)| {
+            ranked[place + 1..]
+                .iter()
+                .map(move |other| Change::Above { symbol: (*symbol).into(), other: (*other).into() })
+        });
+        let changes: Vec<Change> = pairs.take(TRIALS).collect();
+        self.offers(rule, changes)
     }
 
     /// Weights of single symbols of the rule that make the rule fall, where the left side weighs `missing` less.
     pub fn weights(&mut self, rule: Rule, missing: usize) -> Vec<Offer> {
-        self.offers(rule, candidates::weights(self.sheet, rule, missing))
+        let change = |node: &u16| {
+            let (left, right) = occurrences(rule, *node);
+            let symbol = usize::from(*node);
+            let step = missing / left.abs_diff(right).max(1) + 1;
+            let weight = usize::from(self.sheet.symbol(symbol).weight);
+            let weight = if left > right { weight.checked_add(step) } else { weight.checked_sub(step) };
+            (left != right).then_some(Change::Weight { symbol, weight: u16::try_from(weight?).ok()? })
+        };
+        let changes: Vec<Change> = symbols(rule).iter().filter_map(change).collect();
+        self.offers(rule, changes)
     }
 
-    /// Coefficients of single arguments of symbols of the rule that make the rule fall, in a book that has some.
-    pub fn coefficients(&mut self, rule: Rule) -> Vec<Offer> {
-        self.offers(rule, candidates::coefficients(self.sheet, rule))
-    }
-
-    /// Symbols of the rule that make the rule fall as the wrapper.
-    pub fn wrappers(&mut self, rule: Rule) -> Vec<Offer> {
-        self.offers(rule, candidates::wrappers(self.sheet, rule))
-    }
-
-    /// The changes that make the rule fall, the first of each row, those before others that leave most rules falling.
-    fn offers(&mut self, rule: Rule, rows: Vec<Vec<Change>>) -> Vec<Offer> {
+    /// The changes that make the rule fall, those first that leave most rules falling.
+    fn offers(&mut self, rule: Rule, changes: Vec<Change>) -> Vec<Offer> {
         let mut offers: Vec<Offer> = Vec::new();
-        for row in rows {
-            let first = row.into_iter().find_map(|change| {
-                let mark = spend(&mut self.rule_budget, 1).then(|| trial::mark(self.sheet, rule, change))??;
-                falls(&mark).then_some(Offer { change, mark, effect: None })
-            });
-            offers.extend(first);
-        }
-        let mut tried = 0;
-        offers.retain_mut(|offer| {
-            if tried == BOOK_TRIALS || !spend(&mut self.book_budget, self.marks.len()) {
-                return true;
+        for change in changes {
+            if !spend(&mut self.rule_budget, 1) {
+                break;
             }
+            let mark = trial::mark(self.sheet, rule, change).filter(falls);
+            offers.extend(mark.map(|mark| Offer { change, mark, effect: None }));
+        }
+        for offer in offers.iter_mut().take(BOOK_TRIALS) {
             offer.effect = self.effect(offer.change);
-            tried += usize::from(offer.effect.is_some());
-            offer.effect.is_some()
-        });
+        }
         let falling = |offer: &Offer| offer.effect.as_ref().map_or(0, |effect| effect.falling);
         offers.sort_by_key(|offer| std::cmp::Reverse(falling(offer)));
         offers.truncate(OFFERED);
         offers
     }
 
-    /// What a change does to the book, if the library takes it: another rule may become too heavy.
-    fn effect(&self, change: Change) -> Option<Effect> {
+    /// What a change does to the book, while the budget lasts.
+    fn effect(&mut self, change: Change) -> Option<Effect> {
+        if !spend(&mut self.book_budget, self.marks.len()) {
+            return None;
+        }
         let marks = trial::marks(self.sheet, change)?;
         let both = self.marks.iter().zip(&marks).enumerate();
         let lost = both.filter(|(_, (old, new))| falls(old) && !falls(new)).map(|(number, _)| number).collect();

@@ -3,7 +3,6 @@
 use std::io;
 
 use crate::complaint::Complaint;
-use crate::look;
 use crate::names::Names;
 use crate::options::{Options, Taken};
 use crate::parse::parse;
@@ -40,31 +39,39 @@ pub fn bytes(read: Read, file: &str) -> Result<Vec<u8>, Complaint> {
     read(file).map_err(|error| Complaint::of_use(format!("{file}: {error}")))
 }
 
+/// Whether bytes look like a text: UTF-8, as far as they were read, without control characters other than those that
+/// part lines and words.
+fn looks_like_text(bytes: &[u8]) -> bool {
+    let cut_off = |error: std::str::Utf8Error| error.error_len().is_none() && bytes.len() > MAX_INPUT;
+    let control = |byte: &u8| byte.is_ascii_control() && !b"\t\n\r".contains(byte);
+    std::str::from_utf8(bytes).map_or_else(cut_off, |_| true) && !bytes.iter().any(control)
+}
+
 /// The text of a file.
 pub fn text(read: Read, file: &str) -> Result<Text, Complaint> {
     text_of(&bytes(read, file)?).map_err(|complaint| complaint.of(file))
 }
 
 fn text_of(bytes: &[u8]) -> Result<Text, Complaint> {
-    let source = look::source(bytes)?;
-    let text = parse(source).map_err(|complaint| complaint.shown(source))?;
-    Ok(Text { source: source.into(), ..text })
+    if bytes.len() > MAX_INPUT {
+        return Err(Complaint::of_use(format!("a text has at most {MAX_INPUT} bytes")));
+    }
+    let source = std::str::from_utf8(bytes);
+    let wrong = |error: std::str::Utf8Error| format!("no text: byte {} is not UTF-8", error.valid_up_to());
+    parse(source.map_err(|error| Complaint::of_use(wrong(error)))?)
 }
 
 /// The book of a file, or of the text in it.
 pub fn load(read: Read, file: &str, options: &Options) -> Result<Loaded, Complaint> {
     let bytes = bytes(read, file)?;
     let is_text = match options.taken {
-        Taken::AsItLooks => look::like_text(&bytes),
+        Taken::AsItLooks => looks_like_text(&bytes),
         Taken::ForText => true,
         Taken::ForBook => false,
     };
-    let other = match options.taken {
-        Taken::AsItLooks => taken_for(&bytes, is_text),
-        _ => None,
-    };
-    let loaded = if is_text { loaded_text(&bytes) } else { loaded_book(bytes) };
-    let mut loaded = loaded.map_err(|fault| fault.hinted(other).of(file))?;
+    let unlike = options.taken == Taken::AsItLooks && !bytes.contains(&0);
+    let loaded = if is_text { loaded_text(&bytes) } else { loaded_book(bytes, unlike) };
+    let mut loaded = loaded.map_err(|fault| fault.of(file))?;
     if let Some(names_file) = &options.names {
         let names = text(read, names_file)?.names;
         loaded.names = names.suited(&loaded.sheet).map_err(|complaint| complaint.of(names_file))?;
@@ -85,19 +92,15 @@ fn loaded_text(bytes: &[u8]) -> Result<Loaded, Complaint> {
     Ok(Loaded { book, sheet, names, variables, lines })
 }
 
-/// What a file with a fault was taken for, if it may be something else.
-fn taken_for(bytes: &[u8], is_text: bool) -> Option<String> {
-    let (taken, option, other) = match is_text {
-        true if look::may_be_book(bytes) && std::str::from_utf8(bytes).is_err() => ("text", "--book", "book"),
-        false if !bytes.contains(&0) => ("book", "--text", "text"),
-        _ => return None,
-    };
-    Some(format!("it was taken for a {taken}, and {option} takes it for a {other}"))
-}
-
-/// A book with invented names.
-fn loaded_book(book: Vec<u8>) -> Result<Loaded, Complaint> {
-    let sheet = open(&book)?;
+/// A book with invented names; the refusal of one that is unlike a book says what it was taken for.
+fn loaded_book(book: Vec<u8>, unlike: bool) -> Result<Loaded, Complaint> {
+    let sheet = open(&book).map_err(|complaint| match unlike {
+        true => Complaint {
+            text: complaint.text + "; it was taken for a book, and --text takes it for a text",
+            ..complaint
+        },
+        false => complaint,
+    })?;
     let names = Names::invented(&sheet);
     Ok(Loaded { book, sheet, names, variables: Vec::new(), lines: Vec::new() })
 }

@@ -4,6 +4,7 @@ use std::collections::HashMap;
 
 use crate::complaint::Complaint;
 use crate::sheet::Sheet;
+use crate::token::is_operator;
 
 /// The words that begin a line that is no rule; they are no names.
 pub const RESERVED: [&str; 4] = ["w0", "variables", "symbol", "order"];
@@ -45,12 +46,6 @@ impl Names {
         self.variables.push(name.into());
     }
 
-    /// A name that a wrong one is like: the same but for capitals, or with one letter more, less or other, or with two
-    /// exchanged.
-    pub fn like(&self, wrong: &str) -> Option<&str> {
-        self.symbols.iter().chain(&self.variables).map(String::as_str).find(|name| alike(name, wrong))
-    }
-
     /// Invented names for a book: operators for the first AC symbols, `c` and the number for a constant, `f` and the
     /// number for another symbol.
     pub fn invented(sheet: &Sheet) -> Self {
@@ -86,19 +81,12 @@ impl Names {
             let text = format!("it names {} symbols, and the book has {count}", self.symbols.len());
             return Err(Complaint::of_use(text));
         }
+        let wrong = sheet.symbols().zip(&self.symbols).position(|(symbol, name)| is_operator(name) && !symbol.ac);
+        if let Some(number) = wrong {
+            let text = format!("`{}` is an operator, and symbol {number} of the book is not AC", self.symbols[number]);
+            return Err(Complaint::of_use(text));
+        }
         self.invent_variables(sheet.most_variables());
         Ok(self)
     }
-}
-
-/// Whether two names of two letters or more differ by capitals alone, by one letter, or by two exchanged.
-pub fn alike(name: &str, other: &str) -> bool {
-    let (name, other): (Vec<char>, Vec<char>) =
-        (name.to_lowercase().chars().collect(), other.to_lowercase().chars().collect());
-    let longest = name.len().max(other.len());
-    let front = name.iter().zip(&other).take_while(|(a, b)| a == b).count();
-    let back = name[front..].iter().rev().zip(other[front..].iter().rev()).take_while(|(a, b)| a == b).count();
-    let (name, other) = (&name[front..name.len() - back], &other[front..other.len() - back]);
-    let exchanged = name.len() == 2 && name.iter().eq(other.iter().rev());
-    name.is_empty() && other.is_empty() || longest > 1 && (name.len().max(other.len()) <= 1 || exchanged)
 }

@@ -20,11 +20,6 @@ pub struct Options {
     pub output: Option<String>,
     pub taken: Taken,
     pub help: bool,
-    pub brief: bool,
-    pub json: bool,
-    pub listing: bool,
-    /// The options that were given and that not every command takes.
-    given: Vec<String>,
 }
 
 impl Options {
@@ -37,13 +32,7 @@ impl Options {
                 arguments.next().cloned().ok_or_else(missing)
             };
             match argument.as_str() {
-                "--names" => {
-                    options.names = Some(value()?);
-                    options.given.push(argument.clone());
-                }
-                "--brief" => options.give(argument, |options| &mut options.brief),
-                "--json" => options.give(argument, |options| &mut options.json),
-                "--listing" => options.give(argument, |options| &mut options.listing),
+                "--names" => options.names = Some(value()?),
                 "-o" | "--output" => options.output = Some(value()?),
                 "--text" => options.taken = Taken::ForText,
                 "--book" => options.taken = Taken::ForBook,
@@ -56,20 +45,6 @@ impl Options {
             }
         }
         Ok(options)
-    }
-
-    /// Notes an option without a value.
-    fn give(&mut self, argument: &str, option: impl Fn(&mut Self) -> &mut bool) {
-        *option(self) = true;
-        self.given.push(argument.into());
-    }
-
-    /// Complains of an option that a command does not take.
-    pub fn check(&self, command: &str, takes: &[&str]) -> Result<(), Complaint> {
-        match self.given.iter().find(|given| !takes.contains(&given.as_str())) {
-            Some(given) => Err(Complaint::of_use(format!("{command} takes no {given}; `bookkeeper --help` has more"))),
-            None => Ok(()),
-        }
     }
 
     /// The operands, as many as a command takes.

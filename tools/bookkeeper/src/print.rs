@@ -36,14 +36,14 @@ impl Printer<'_> {
             text.push_str(&self.variables[number]);
             return rest;
         }
-        let (name, symbol) = (&self.names.symbols[usize::from(node)], self.sheet.symbol(node.into()));
-        if self.is_infix(node) {
-            rest = self.put_operand(rest, Some(node).filter(|_| symbol.ac), text);
+        let name = &self.names.symbols[usize::from(node)];
+        if is_operator(name) {
+            rest = self.put_operand(rest, Some(node), text);
             text.push_str(&format!(" {name} "));
             return self.put_operand(rest, None, text);
         }
         text.push_str(name);
-        let arity = symbol.arity;
+        let arity = self.sheet.symbol(node.into()).arity;
         for argument in 0..arity {
             text.push_str(if argument == 0 { "(" } else { ", " });
             rest = self.put(rest, text);
@@ -52,16 +52,11 @@ impl Printer<'_> {
         rest
     }
 
-    /// Whether a node stands between its arguments.
-    fn is_infix(&self, node: u16) -> bool {
-        let name = self.names.symbols.get(usize::from(node));
-        name.is_some_and(|name| is_operator(name)) && self.sheet.symbol(node.into()).arity == 2
-    }
-
     /// Puts an operand, in parentheses if its root is an operator other than the given one.
     fn put_operand<'w>(&self, words: &'w [u16], bare: Option<u16>, text: &mut String) -> &'w [u16] {
         let root = words.first().copied();
-        if root == bare || !root.is_some_and(|node| self.is_infix(node)) {
+        let name = root.and_then(|node| self.names.symbols.get(usize::from(node)));
+        if root == bare || !name.is_some_and(|name| is_operator(name)) {
             return self.put(words, text);
         }
         text.push('(');
@@ -71,13 +66,23 @@ impl Printer<'_> {
     }
 }
 
-/// A book as a text.
+/// A book as a text. It has an order line if the ranks go from 0 up without a gap, else ranks.
 pub fn book(sheet: &Sheet, names: &Names) -> String {
-    let mut text = first_lines(sheet);
+    let mut text = format!("w0 {}\n", sheet.w0());
     if !names.variables.is_empty() {
         text += &format!("variables {}\n", names.variables.join(" "));
     }
-    text += &symbols(sheet, names);
+    let count = sheet.symbols().len();
+    let in_a_row = sheet.symbols().all(|symbol| usize::from(symbol.rank) < count);
+    let width = names.symbols.iter().map(|name| name.chars().count()).max().unwrap_or(0).min(NAME_WIDTH);
+    for (symbol, name) in sheet.symbols().zip(&names.symbols) {
+        let ac = if symbol.ac { " ac" } else { "" };
+        let rank = if in_a_row { String::new() } else { format!(" rank {}", symbol.rank) };
+        text += &format!("symbol {name:<width$} arity {}{ac} weight {}{rank}\n", symbol.arity, symbol.weight);
+    }
+    if in_a_row {
+        text += &order(sheet, names);
+    }
     if sheet.rules().len() > 0 {
         text.push('\n');
     }
@@ -89,61 +94,20 @@ pub fn book(sheet: &Sheet, names: &Names) -> String {
     text
 }
 
-/// The weights and the order of a book: its lines without variables and rules.
-pub fn certificate(sheet: &Sheet, names: &Names) -> String {
-    first_lines(sheet) + &symbols(sheet, names)
-}
-
-/// The lines `form`, if there are coefficients, and `w0`.
-fn first_lines(sheet: &Sheet) -> String {
-    let form = if sheet.has_coefficients() { "form 3\n" } else { "" };
-    format!("{form}w0 {}\n", sheet.w0())
-}
-
-/// The lines of symbols, and an order line if the ranks go from 0 up without a gap, else ranks.
-fn symbols(sheet: &Sheet, names: &Names) -> String {
-    let count = sheet.symbols().len();
-    let in_a_row = sheet.symbols().all(|symbol| usize::from(symbol.rank) < count);
-    let width = names.symbols.iter().map(|name| name.chars().count()).max().unwrap_or(0).min(NAME_WIDTH);
-    let mut text = String::new();
-    for ((number, symbol), name) in sheet.symbols().enumerate().zip(&names.symbols) {
-        let ac = if symbol.ac { " ac" } else { "" };
-        let rank = if in_a_row { String::new() } else { format!(" rank {}", symbol.rank) };
-        let scaled = coefficients(sheet.coefficients(number));
-        text += &format!("symbol {name:<width$} arity {}{ac} weight {}{rank}{scaled}\n", symbol.arity, symbol.weight);
-    }
-    if in_a_row {
-        let mut ranked: Vec<_> = sheet.symbols().map(|symbol| symbol.rank).zip(&names.symbols).collect();
-        ranked.sort_by(|one, other| other.cmp(one));
-        text += &order(&ranked.iter().map(|(_, name)| name.as_str()).collect::<Vec<_>>());
-    }
-    text
-}
-
-/// The coefficients of a symbol, if one of them is not 1.
-fn coefficients(coefficients: &[u16]) -> String {
-    if coefficients.iter().all(|&coefficient| coefficient == 1) {
-        return String::new();
-    }
-    coefficients.iter().fold(" coefficients".into(), |text, coefficient| format!("{text} {coefficient}"))
-}
-
-/// The order line of names, the greatest first; nothing without names.
-pub fn order(names: &[&str]) -> String {
-    let mut text = String::new();
-    let mut width = 0;
-    for (place, name) in names.iter().enumerate() {
+/// The order line, the greatest symbol first.
+fn order(sheet: &Sheet, names: &Names) -> String {
+    let mut ranked: Vec<_> = sheet.symbols().map(|symbol| symbol.rank).zip(&names.symbols).collect();
+    ranked.sort_by(|one, other| other.cmp(one));
+    let mut text = String::from("order ");
+    let mut width = text.len();
+    for (place, (_, name)) in ranked.iter().enumerate() {
         let parting = match place {
-            0 => "order ",
+            0 => "",
             _ if width > WIDTH => " >\n      ",
             _ => " > ",
         };
         width = if parting.contains('\n') { 0 } else { width } + parting.len() + name.len();
         text += &format!("{parting}{name}");
     }
-    if names.is_empty() {
-        text
-    } else {
-        text + "\n"
-    }
+    text + "\n"
 }

@@ -3,10 +3,9 @@
 use std::collections::HashMap;
 
 use crate::complaint::{counted, Complaint, Place};
-use crate::hint;
 use crate::names::{Meaning, Names};
 use crate::sheet::FIRST_VARIABLE;
-use crate::text::{Field, Shape};
+use crate::text::Field;
 use crate::token::{Kind, Token, Tokens};
 
 /// How deep parentheses may nest; a side that the library takes needs half of it.
@@ -36,17 +35,7 @@ impl Numbering {
 /// What the names in a term stand for.
 pub struct Scope<'s> {
     pub names: &'s Names,
-    pub shapes: &'s [Shape],
-}
-
-impl Scope<'_> {
-    /// The number and the shape of a symbol.
-    fn symbol(&self, name: &str) -> Option<(u16, Shape)> {
-        match self.names.meaning(name)? {
-            Meaning::Symbol(number) => Some((number as u16, self.shapes[number])),
-            Meaning::Variable(_) => None,
-        }
-    }
+    pub arities: &'s [u16],
 }
 
 /// Reads one term.
@@ -58,22 +47,16 @@ pub struct TermReader<'r, 'a> {
 }
 
 impl<'a> TermReader<'_, 'a> {
-    /// Reads a term: an operand, two operands with an operator between them, or operands joined by one AC operator,
-    /// which group to the left.
+    /// Reads a term: an operand, or operands joined by one operator, which group to the left.
     pub fn term(&mut self, depth: usize) -> Result<(), Complaint> {
         let start = self.nodes.len();
         self.operand(depth)?;
         let mut operators: Vec<Field> = Vec::new();
         while self.tokens.peek()?.kind == Kind::Operator {
             let token = self.tokens.take()?;
-            let (word, ac) = self.infix(token)?;
-            let operator = Field { word, place: token.place };
+            let operator = Field { word: self.operator(token)?, place: token.place };
             if operators.last().is_some_and(|last| last.word != operator.word) {
                 return Err(Complaint::at(token.place, "two operators in a row of terms: parentheses must part them"));
-            }
-            if !operators.is_empty() && !ac {
-                let text = format!("{} is not AC: parentheses must part three terms", token.quoted());
-                return Err(Complaint::at(token.place, text));
             }
             operators.push(operator);
             self.operand(depth)?;
@@ -82,19 +65,10 @@ impl<'a> TermReader<'_, 'a> {
         Ok(())
     }
 
-    /// The symbol of an operator between two terms, and whether it is AC.
-    fn infix(&self, token: Token) -> Result<(u16, bool), Complaint> {
-        match self.scope.symbol(token.text) {
-            Some((word, Shape { arity: None | Some(2), ac })) => Ok((word, ac)),
-            Some((_, Shape { arity, .. })) => {
-                let takes = counted(arity.unwrap_or(0).into(), "argument");
-                let text = format!("{} takes {takes}, so it stands between no two terms", token.quoted());
-                Err(Complaint::at(token.place, text))
-            }
-            None => {
-                let fault = Complaint::at(token.place, format!("{} is not a symbol of this book", token.quoted()));
-                Err(fault.hinted(hint::of_sign(token.text)))
-            }
+    fn operator(&self, token: Token) -> Result<u16, Complaint> {
+        match self.scope.names.meaning(token.text) {
+            Some(Meaning::Symbol(number)) => Ok(number as u16),
+            _ => Err(Complaint::at(token.place, format!("{} is not a symbol of this book", token.quoted()))),
         }
     }
 
@@ -109,22 +83,8 @@ impl<'a> TermReader<'_, 'a> {
                 self.term(depth + 1)?;
                 self.tokens.expect(Kind::Close, "an operator or `)`").map(|_| ())
             }
-            Kind::Operator if self.scope.symbol(token.text).is_some() => self.prefix(token, depth),
-            _ => {
-                let fault = Complaint::at(token.place, format!("a term is missing before {}", token.quoted()));
-                Err(fault.hinted(hint::of_sign(token.text)))
-            }
+            _ => Err(Complaint::at(token.place, format!("a term is missing before {}", token.quoted()))),
         }
-    }
-
-    /// Reads on after an operator that stands before its arguments, or has none.
-    fn prefix(&mut self, token: Token<'a>, depth: usize) -> Result<(), Complaint> {
-        let constant = self.scope.symbol(token.text).is_some_and(|(_, shape)| shape.arity == Some(0));
-        if constant || self.tokens.peek()?.kind == Kind::Open {
-            return self.named(token, depth);
-        }
-        let fault = Complaint::at(token.place, format!("a term is missing before {}", token.quoted()));
-        Err(fault.hinted(Some(format!("before its arguments it takes parentheses, `{}(..)`", token.text))))
     }
 
     /// Reads on after a name.
@@ -136,23 +96,20 @@ impl<'a> TermReader<'_, 'a> {
             }
             Some(Meaning::Symbol(number)) => {
                 self.push(number as u16, token.place)?;
-                self.arguments(token, self.scope.shapes[number].arity.map(usize::from), depth)
+                self.arguments(token, usize::from(self.scope.arities[number]), depth)
             }
             None => {
                 let text = format!("{} is neither a symbol nor a variable of this book", token.quoted());
-                Err(Complaint::at(token.place, text).hinted(hint::of_name(token.text, self.scope.names)))
+                Err(Complaint::at(token.place, text))
             }
         }
     }
 
-    /// Reads the arguments of a symbol, as many as its arity if that is known.
-    fn arguments(&mut self, symbol: Token<'a>, arity: Option<usize>, depth: usize) -> Result<(), Complaint> {
+    /// Reads the arguments of a symbol, as many as its arity.
+    fn arguments(&mut self, symbol: Token<'a>, arity: usize, depth: usize) -> Result<(), Complaint> {
         let mut count = 0;
         if self.tokens.peek()?.kind == Kind::Open {
             let mut next = self.tokens.take()?;
-            if self.tokens.peek()?.kind == Kind::Close {
-                next = self.tokens.take()?;
-            }
             while next.kind != Kind::Close {
                 self.term(depth + 1)?;
                 count += 1;
@@ -163,7 +120,9 @@ impl<'a> TermReader<'_, 'a> {
                 }
             }
         }
-        let Some(arity) = arity.filter(|&arity| arity != count) else { return Ok(()) };
+        if count == arity {
+            return Ok(());
+        }
         let text = format!("{} takes {}, and has {count}", symbol.quoted(), counted(arity, "argument"));
         Err(Complaint::at(symbol.place, text))
     }

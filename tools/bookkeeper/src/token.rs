@@ -51,8 +51,6 @@ pub struct Tokens<'a> {
     /// Whether the last token is one after which a line goes on.
     unfinished: bool,
     next: Option<Token<'a>>,
-    /// Whether the token that was taken last ended a line.
-    line_ended: bool,
 }
 
 /// Whether a character is a part of a word.
@@ -65,20 +63,9 @@ fn in_operator(sign: char) -> bool {
     !in_word(sign) && !sign.is_whitespace() && !sign.is_control() && !"(),#".contains(sign)
 }
 
-/// Whether a name is an operator, which may stand between its arguments.
+/// Whether a name is an operator, which stands between its arguments.
 pub fn is_operator(name: &str) -> bool {
     name.chars().all(in_operator)
-}
-
-/// Whether a name is a word.
-pub fn is_word(name: &str) -> bool {
-    name.chars().all(in_word)
-}
-
-/// Whether a symbol may be called by a name: a word, or an operator other than those that have a meaning.
-pub fn is_name(name: &str) -> bool {
-    let kind = name.chars().next().map(|sign| kind_of(sign, name));
-    is_word(name) && kind == Some(Kind::Word) || is_operator(name) && kind == Some(Kind::Operator)
 }
 
 impl<'a> Tokens<'a> {
@@ -86,14 +73,14 @@ impl<'a> Tokens<'a> {
         let source = source.strip_prefix('\u{feff}').unwrap_or(source);
         let place = Place { line: 1, column: 1 };
         let chars = source.char_indices().peekable();
-        Tokens { source, chars, place, depth: 0, unfinished: false, next: None, line_ended: false }
+        Tokens { source, chars, place, depth: 0, unfinished: false, next: None }
     }
 
     /// The token that comes next, which stays.
     pub fn peek(&mut self) -> Result<Token<'a>, Complaint> {
         let token = match self.next {
             Some(token) => token,
-            None => self.read().inspect_err(|_| self.line_ended = false)?,
+            None => self.read()?,
         };
         self.next = Some(token);
         Ok(token)
@@ -103,17 +90,7 @@ impl<'a> Tokens<'a> {
     pub fn take(&mut self) -> Result<Token<'a>, Complaint> {
         let token = self.peek()?;
         self.next = None;
-        self.line_ended = token.kind == Kind::LineEnd;
         Ok(token)
-    }
-
-    /// Leaves the rest of a line with a fault, and what it left open.
-    pub fn skip_line(&mut self) {
-        let ended = self.next.map_or(self.line_ended, |token| token.kind == Kind::LineEnd);
-        (self.next, self.depth, self.unfinished) = (None, 0, false);
-        if !ended {
-            self.skip_while(|sign| sign != '\n');
-        }
     }
 
     /// Takes the token that comes next if it is of a kind, else complains that `wanted` is missing.

@@ -1,6 +1,6 @@
-//! Trials: what the library says of a book with another rank, weight or coefficient.
+//! Trials: what the library says of a book with another rank or weight.
 
-use crate::sheet::{encode, entries, Rule, Sheet, ENTRY};
+use crate::sheet::{encode, Rule, Sheet, ENTRY, HEADER};
 
 /// The fields of a symbol that a change sets.
 const WEIGHT: usize = 2;
@@ -15,38 +15,23 @@ pub enum Change {
     Above { symbol: usize, other: usize },
     /// The symbol gets the weight.
     Weight { symbol: usize, weight: u16 },
-    /// An argument of the symbol, from 0, gets the coefficient, in a book that has some.
-    Coefficient { symbol: usize, argument: usize, coefficient: u16 },
-    /// The symbol, of arity 1, becomes the wrapper: it weighs 0, and is ranked above every other.
-    Wrapper { symbol: usize },
 }
 
 impl Change {
-    /// Applies the change to a sheet.
-    pub fn apply(self, words: &mut [u16]) {
-        let starts: Vec<usize> = entries(words).into_iter().map(|entry| entry.start).collect();
+    /// Applies the change to a sheet of that many symbols.
+    pub fn apply(self, words: &mut [u16], symbols: usize) {
         match self {
-            Change::Weight { symbol, weight } => words[starts[symbol] + WEIGHT] = weight,
-            Change::Coefficient { symbol, argument, coefficient } => {
-                words[starts[symbol] + ENTRY + argument] = coefficient;
-            }
-            Change::Above { symbol, other } => move_above(words, &starts, symbol, other),
-            Change::Wrapper { symbol } => {
-                words[starts[symbol] + WEIGHT] = 0;
-                let highest = (0..starts.len()).max_by_key(|&number| words[starts[number] + RANK]);
-                move_above(words, &starts, symbol, highest.unwrap_or(symbol));
-            }
+            Change::Weight { symbol, weight } => words[HEADER + ENTRY * symbol + WEIGHT] = weight,
+            Change::Above { symbol, other } => move_above(words, symbols, symbol, other),
         }
     }
 }
 
-/// Moves a symbol to just above another of higher rank, or leaves the highest; the ranks in use stay the same. The
-/// words of each symbol start where they are said to.
-fn move_above(words: &mut [u16], starts: &[usize], symbol: usize, other: usize) {
-    let rank = |number: usize| starts[number] + RANK;
+/// Moves a symbol to just above another of higher rank; the ranks in use stay the same.
+fn move_above(words: &mut [u16], symbols: usize, symbol: usize, other: usize) {
+    let rank = |number: usize| HEADER + ENTRY * number + RANK;
     let (from, to) = (words[rank(symbol)], words[rank(other)]);
-    let between = |number: &usize| (from..=to).contains(&words[rank(*number)]);
-    let mut moved: Vec<usize> = (0..starts.len()).filter(between).collect();
+    let mut moved: Vec<usize> = (0..symbols).filter(|&number| (from..=to).contains(&words[rank(number)])).collect();
     moved.sort_by_key(|&number| words[rank(number)]);
     let ranks: Vec<u16> = moved.iter().map(|&number| words[rank(number)]).collect();
     moved.rotate_left(1);
@@ -58,32 +43,19 @@ fn move_above(words: &mut [u16], starts: &[usize], symbol: usize, other: usize) 
 /// The marks of a whole book under a change, if the library takes it.
 pub fn marks(sheet: &Sheet, change: Change) -> Option<Vec<u8>> {
     let (symbols, nodes) = sheet.parts();
-    let mut words = [symbols, nodes].concat();
-    change.apply(&mut words);
-    marks_of(&words)
+    marks_of([symbols, nodes].concat(), sheet, change)
 }
 
 /// The mark of one rule under a change, if the library takes it.
-pub fn mark(sheet: &Sheet, rule: Rule, change: Change) -> Option<u8> {
-    let mut words = with_rule(sheet, rule);
-    change.apply(&mut words);
-    marks_of(&words)?.first().copied()
-}
-
-/// The mark of one rule under the symbols of a book, if the library takes it.
-pub fn rule_mark(sheet: &Sheet, rule: Rule) -> Option<u8> {
-    marks_of(&with_rule(sheet, rule))?.first().copied()
-}
-
-/// The symbols of a sheet with one rule.
-fn with_rule(sheet: &Sheet, (left, right): Rule) -> Vec<u16> {
+pub fn mark(sheet: &Sheet, (left, right): Rule, change: Change) -> Option<u8> {
     let mut words = [sheet.parts().0, left, right].concat();
     words[RULE_COUNT] = 1;
-    words
+    marks_of(words, sheet, change)?.first().copied()
 }
 
-fn marks_of(words: &[u16]) -> Option<Vec<u8>> {
+fn marks_of(mut words: Vec<u16>, sheet: &Sheet, change: Change) -> Option<Vec<u8>> {
+    change.apply(&mut words, sheet.symbols().len());
     let mut marks = vec![0; usize::from(words[RULE_COUNT])];
-    ackbo::mark(&encode(words).ok()?, &mut marks).ok()?;
+    ackbo::mark(&encode(&words).ok()?, &mut marks).ok()?;
     Some(marks)
 }

@@ -1,8 +1,8 @@
-//! The program itself: statuses, streams, files.
+//! The program itself: statuses, streams, files, a reader that stops.
 
 mod common;
 
-use std::io::Write;
+use std::io::{Read, Write};
 use std::process::{Command, Output, Stdio};
 
 use common::{sample, sample_path};
@@ -61,16 +61,19 @@ fn help_teaches_a_text_that_assembles() {
     assert!(String::from_utf8(output.stdout).unwrap().starts_with(told));
 }
 
-/// A complaint that has a place begins with it, and every other one with the program's name.
 #[test]
-fn complaints_begin_with_places() {
-    let complaint = |arguments: &[&str], input: &[u8]| String::from_utf8(fed(arguments, input).stderr).unwrap();
-    assert!(complaint(&["mark", "-"], b"w0\n").starts_with("-:1:3: the weight of a variable, a number, is missing"));
-    assert!(complaint(&["mark", "-"], b"w0\n").ends_with("\n    w0\n      ^\n"));
-    assert!(complaint(&["mark", "-"], &sample("refused.book")).starts_with("bookkeeper: -: symbol 4, rank 3: "));
-    assert!(complaint(&["mark"], b"").starts_with("bookkeeper: the command takes FILE"));
-    let term = complaint(&["pick", "-", "u)", "u"], &sample("sample.txt"));
-    assert!(term.starts_with("bookkeeper: the first term: line 1, column 2: "), "{term}");
+fn reader_that_stops_is_no_error() {
+    let rules = "z -> z\n".repeat(1_000);
+    let text = format!("w0 1\nsymbol z arity 0 weight 1 rank 0\n{rules}");
+    let mut command = program();
+    command.args(["mark", "-"]).stdin(Stdio::piped()).stdout(Stdio::piped()).stderr(Stdio::piped());
+    let mut child = command.spawn().unwrap();
+    let mut output = child.stdout.take().unwrap();
+    child.stdin.take().unwrap().write_all(text.as_bytes()).unwrap();
+    output.read_exact(&mut [0; 4]).unwrap();
+    drop(output);
+    let ended = child.wait_with_output().unwrap();
+    assert_eq!((ended.status.code(), ended.stderr), (Some(1), Vec::new()));
 }
 
 #[test]

@@ -9,14 +9,9 @@ use twin::generate::{Book, Random};
 const SEED: u64 = 20_002;
 const RANDOM_TEXTS: usize = 60_000;
 const MUTATED_TEXTS: usize = 60_000;
-/// The most bytes of what is said of a text: 20 faults, each with its line, cut if it is long.
-const MOST_WORDS: usize = 8_000;
 
 /// Parts of random texts.
-const PARTS: [&str; 47] = [
-    "form",
-    "coefficients",
-    "3",
+const PARTS: [&str; 44] = [
     "w0",
     "variables",
     "symbol",
@@ -181,8 +176,8 @@ fn long_and_deep_texts() {
     ] {
         let text = format!("{}{rule}", HEAD.replace("order + > f > z\n", ""));
         let outcome = run_on(&["assemble", "text"], &[("text", text.as_bytes())]);
-        assert!(outcome.status >= 2 && outcome.complaint.is_some_and(|words| words.len() < MOST_WORDS));
+        assert!(outcome.status >= 2 && outcome.complaint.is_some_and(|words| words.len() < 300));
         let outcome = run_on(&["assemble", "text"], &[("text", format!("{HEAD}{rule}").as_bytes())]);
-        assert!(outcome.complaint.is_none_or(|words| words.len() < MOST_WORDS));
+        assert!(outcome.complaint.is_none_or(|words| words.len() < 300));
     }
 }

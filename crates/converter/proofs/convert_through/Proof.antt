@@ -51,7 +51,7 @@ write-items-requires c κs =
     let (file, end, read, parts) = rw (c4 .value .given .1) at (c8 .unpack .ensures) in
     let long = length-take-le (c4 .value .given .0 .0) (c8 .unpack .last .1 .1 .0) (omega
     (arith, sheet-short (a .book .now) (a .sheet .now) _ file _ _ parts (c13 .pre), c8 .unpack .kept .1 .1 .0)) in
-    let begin = sheet-begin (a .book .now) (a .sheet .now) _ file _ _ parts (c13 .pre) in (
+    let begin = sheet-begin (a .book .now) (a .sheet .now) _ file _ _ parts (c13 .pre) end read in (
       (begin .0, omega (arith, begin .1, long)),
       length-take-le (length (a .book .now)) (a .out .now) (c .before .before .if1 .left)
           ∙ sheet-bits (a .book .now) (a .sheet .now) _ file _ _ parts (c13 .pre) end read,
@@ -76,7 +76,8 @@ returns-3 c =
     let (file, end, read, parts) = rw (c7 .value .given .1) at (c11 .unpack .ensures) in
     rw (
       c2 .write-items .ensures,
-      sheet-packed (a .book .now) (a .sheet .now) (c11 .unpack .last .1 .1 .0) file _ _ parts (c16 .pre),
+      sheet-packed (a .book .now) (a .sheet .now) (c11 .unpack .last .1 .1 .0) file _ _ parts (c16 .pre) end
+          read,
     ) (convert-written (a .book .now) (a .out .now) file end read (c5 .if1 .left))
 
 pub convert-through-spec : {M : Type 1} → statement M

@@ -15,7 +15,7 @@ returns-2 c =
     let c3 = c .before .before .before in
     let c7 = c3 .before .before .before .before in
     let (file, end, read, parts) = rw (c3 .enum-told2 .given .1) at (c7 .read-packed .ensures) in
-    (file, end, read, c .wide .ensures .0 ∙ c .before .word-at .ensures ∙ rules-counted _ _ _ _ _ file _ _ parts)
+    (file, end, read, c .wide .ensures .0 ∙ c .before .word-at .ensures ∙ rules-counted _ _ _ _ file _ _ parts)
 
 pub count-rules-spec : {M : Type 1} → statement M
 count-rules-spec =

@@ -3,7 +3,7 @@ use mathlib.Core.Path.{refl}
 use native.Mathlib.Omega.{arith}
 use Rattle.format.specs.Layout.{maxNodes}
 use Rattle.format.specs.Reading.{bitSource}
-use Rattle.format.specs.Format.{forestReader}
+use Rattle.format.specs.Format.{sideReader}
 use Rattle.answers.specs.Answer.{answerOf}
 use Rattle.sides.proofs.SideLaws.{side-read}
 use borrow.Author.Needs.{needs}
@@ -21,7 +21,7 @@ returns c =
     rw (c .answer-of .ensures) (
       λ σ k. side-read (a .unused .now) (a .words .now) (read .last .1 .1 .0) (read .last .1 .1 .1 .0) _
           (answerOf (read .result) (read .last .1 .1 .1 .1 .0) (read .last .1 .1 .1 .1 .1 .0))
-          (forestReader (bitSource (a .t1 .now)) (a .unused .now) σ maxNodes 1 (a .at)) (c9 .pre .0 .2) refl
+          (sideReader (bitSource (a .t1 .now)) maxNodes (a .unused .now) σ (a .at)) (c9 .pre .0 .2) refl
           (read .ensures .0 σ k (a .unused .now) refl),
       (read .ensures .1 .0, (read .ensures .1 .1 .0, omega (arith, read .ensures .1 .1 .2))),
     )

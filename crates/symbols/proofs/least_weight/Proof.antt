@@ -6,7 +6,7 @@ use Prim.Native.Nat.{ℕ, suc, zero}
 use lib.Dec.{eqb}
 use lib.ListN.{getD}
 use Rattle.format.specs.Layout.{firstForm}
-use Rattle.format.specs.Symbols.{leastWeightIn}
+use Rattle.format.specs.Forms.{leastWeightIn}
 use borrow.Author.Needs.{needs}
 use Rattle.symbols.proofs.least_weight.Statement.{statement}
 use Rattle.symbols.proofs.least_weight.Tie as tie

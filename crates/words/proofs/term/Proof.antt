@@ -12,7 +12,7 @@ terms-requires c κs =
     let c5 = c3 .before .before in
     let a = c5 .args in (
       (omega arith, omega arith, c3 .lesser .ensures),
-      (rw (all-allowed (a .at)) (omega arith), omega arith, omega arith),
+      (rw (all-allowed (a .at) (a .most)) (omega arith), omega arith, omega arith),
     )
 
 sub-answer-of : tie.Need-sub-answer-of
@@ -22,7 +22,7 @@ returns : tie.Need-returns
 returns c =
     let c7 = c .before .before .before .before .before .before .before in
     let a = c7 .args in (
-      λ σ table. c .answer-of .ensures ∙ rw (all-allowed (a .at)) at
+      λ σ table. c .answer-of .ensures ∙ rw (all-allowed (a .at) (a .most)) at
           (c .before .terms .ensures .0 σ table (a .unused) refl),
       rw (c .answer-of .ensures) (c .before .terms .ensures .1 .0),
     )

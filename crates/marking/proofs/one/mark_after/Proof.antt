@@ -2,7 +2,7 @@
 use native.Mathlib.Omega.{arith}
 use Rattle.format.specs.Layout.{formNumber}
 use Rattle.format.specs.Reading.{bitSource}
-use Rattle.format.specs.Format.{unusedOf}
+use Rattle.format.specs.Forms.{unusedOf}
 use Rattle.symbols.specs.Table.{signatureOf}
 use Rattle.marking.proofs.OneLaws.{never-skipped, never-read, mark-there}
 use borrow.Author.Needs.{needs}

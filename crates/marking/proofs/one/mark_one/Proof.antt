@@ -16,7 +16,7 @@ front-requires : tie.Need-front-requires
 unfolding Reached
 front-requires c κs =
     let c4 = c .before .before .before .before in
-    (rw (c .before .value .given .1) at (c4 .read-head .ensures)) .1 .fewSymbols
+    (rw (c .before .value .given .1) at (c4 .read-head .ensures)) .fewSymbols
 
 slice-aggregate-mark-after : tie.Need-slice-aggregate-mark-after
 unfolding Reached
@@ -32,9 +32,9 @@ mark-after-requires c κs =
     let c6 = c3 .before .before .before in
     let c11 = c6 .before .before .before .before .before in
     let head = rw (c3 .value .given .1) at (c6 .read-head .ensures) in (
-      (head .1 .short, head .1 .within),
+      (head .short, head .within),
       rw (c .before .front .ensures .0)
-          (is-table (c11 .args .book .now) _ _ _ _ (sym (c6 .read-head .kept .1 .1 .1 .1 .0)) (head .1)),
+          (is-table _ (c11 .args .book .now) _ _ _ _ _ (sym (c6 .read-head .kept .1 .1 .1 .1 .0)) head),
     )
 
 returns : tie.Need-returns
@@ -55,7 +55,8 @@ returns-2 c h =
     let c12 = c7 .before .before .before .before .before in
     let a = c12 .args in
     let head = rw (c4 .value .given .1) at (c7 .read-head .ensures) in
-    one-marked (a .book .now) (a .index) _ _ _ _ (sym (read-packed formNumber (a .book .now) []) ∙ head .0)
+    one-marked (a .book .now) (a .index) (head .form) (head .taken) _ _ _ _
+    (sym (read-packed formNumber (a .book .now) []) ∙ head .whole)
     (rw (c2 .front .ensures .0) at (c .mark-after .ensures)) h
 
 pub mark-one-spec : {M : Type 1} → statement M

@@ -7,7 +7,8 @@ use lib.ListN.{length}
 use Rattle.terms.specs.Signature.{Signature}
 use Rattle.format.specs.Layout.{formNumber}
 use Rattle.format.specs.Reading.{bitSource}
-use Rattle.format.specs.Format.{Sides, unusedOf}
+use Rattle.format.specs.Forms.{unusedOf}
+use Rattle.format.specs.Format.{Sides}
 use Rattle.symbols.specs.Arities.{Arities}
 use Rattle.reader.proofs.RuleLaws.{Done, done-none, done-fault, done-more, done-all}
 use borrow.Author.Needs.{needs}

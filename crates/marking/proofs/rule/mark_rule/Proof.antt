@@ -3,7 +3,7 @@ use mathlib.Core.Path.{refl}
 use native.Mathlib.Omega.{arith}
 use Rattle.format.specs.Layout.{formNumber}
 use Rattle.format.specs.Reading.{bitSource}
-use Rattle.format.specs.Format.{unusedOf}
+use Rattle.format.specs.Forms.{unusedOf}
 use Rattle.symbols.specs.Table.{signatureOf}
 use Rattle.sides.proofs.SideLaws.{sides}
 use Rattle.marking.proofs.SideLaws.{side-term, left-unread, rule-marked}

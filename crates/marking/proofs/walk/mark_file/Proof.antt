@@ -15,7 +15,7 @@ front-requires : tie.Need-front-requires
 unfolding Reached
 front-requires c κs =
     let c4 = c .before .before .before .before in
-    (rw (c .before .value .given .1) at (c4 .read-head .ensures)) .1 .fewSymbols
+    (rw (c .before .value .given .1) at (c4 .read-head .ensures)) .fewSymbols
 
 slice-aggregate-mark-under : tie.Need-slice-aggregate-mark-under
 unfolding Reached
@@ -32,11 +32,11 @@ mark-under-requires c κs =
     let c8 = c5 .before .before .before in
     let c14 = c8 .before .before .before .before .before .before in
     let head = rw (c5 .value .given .1) at (c8 .read-head .ensures) in (
-      (head .1 .short, head .1 .within),
+      (head .short, head .within),
       (
         rw (c3 .front .ensures .0)
-            (is-table (c14 .args .book .now) _ _ _ _ (sym (c8 .read-head .kept .1 .1 .1 .1 .0)) (head .1)),
-        head .1 .fewRules,
+            (is-table _ (c14 .args .book .now) _ _ _ _ _ (sym (c8 .read-head .kept .1 .1 .1 .1 .0)) head),
+        head .fewRules,
         c14 .pre,
       ),
     )
@@ -58,8 +58,8 @@ returns-2 c =
     let c12 = c9 .before .before .before in
     let c18 = c12 .before .before .before .before .before .before in
     let head = rw (c9 .value .given .1) at (c12 .read-head .ensures) in
-    rw (sym (read-packed formNumber (c18 .args .book .now) []) ∙ head .0)
-    (rw (c7 .front .ensures .0) at (c3 .mark-under .ensures))
+    rw (sym (read-packed formNumber (c18 .args .book .now) []) ∙ head .whole)
+    (rw (c7 .front .ensures .0) at (c3 .mark-under .ensures (head .form) (head .taken)))
 
 pub mark-file-spec : {M : Type 1} → statement M
 mark-file-spec =

@@ -7,7 +7,7 @@ use mir.Syntax.{w64}
 use mir.ValLaws.{toZ-ofZ}
 use Rattle.format.specs.Layout.{formNumber}
 use Rattle.format.specs.Reading.{bitSource}
-use Rattle.format.specs.Format.{unusedOf}
+use Rattle.format.specs.Forms.{unusedOf}
 use Rattle.symbols.specs.Table.{signatureOf}
 use Rattle.marking.proofs.WalkLaws.{ListedSoFar, listed-none, listed-fault, listed-more, listed-all}
 use borrow.Author.Needs.{needs}

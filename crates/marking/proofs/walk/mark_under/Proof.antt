@@ -5,7 +5,7 @@ use mathlib.Core.Bool.{true}
 use native.Mathlib.Omega.{arith}
 use Rattle.format.specs.Layout.{formNumber}
 use Rattle.format.specs.Reading.{bitSource}
-use Rattle.format.specs.Format.{unusedOf}
+use Rattle.format.specs.Forms.{unusedOf}
 use Rattle.symbols.specs.Table.{signatureOf}
 use Rattle.format.proofs.FormatLaws.{rules-length}
 use Rattle.reader.specs.Source.{sourceOf}
@@ -25,7 +25,7 @@ mark-rules-requires c κs =
 
 returns : tie.Need-returns
 unfolding sourceOf
-returns c =
+returns c form taken =
     let c3 = c .before .before .before in
     let c8 = c3 .before .before .before .before .before in
     let c19 = c8 .before .before .before .before .before .before .before .before .before .before .before in
@@ -37,30 +37,30 @@ returns c =
     in (
       _,
       _,
-      rest-ended formNumber true (a .book .now) [] σ (a .count) (a .at) (read .0) _ (read .1)
+      rest-ended formNumber form taken true (a .book .now) [] σ (a .count) (a .at) (read .0) _ (read .1)
           (c3 .value .given .0 .1 .0) (rw (sym (c .before .is-padding .ensures) ∙ c .if1 .taken)),
-      marked-as σ (read .0) (a .count) _ _ _ _ _ long (c19 .pre .1 .1) (within .0) (read .2),
+      marked-as form σ (read .0) (a .count) _ _ _ _ _ long (c19 .pre .1 .1) (within .0) (read .2),
     )
 
 returns-2 : tie.Need-returns-2
 unfolding sourceOf
-returns-2 c =
+returns-2 c form taken =
     let c6 = c .before .before .before .before .before .before in
     let c17 = c6 .before .before .before .before .before .before .before .before .before .before .before in
     let a = c17 .args in
-    rest-unread formNumber true (a .book .now) [] (signatureOf (a .table .now)) (a .count) (a .at) _ _
+    rest-unread formNumber form taken true (a .book .now) [] (signatureOf (a .table .now)) (a .count) (a .at) _ _
     (rw (c .before .offset .given .1) at (c6 .mark-rules .ensures .0))
 
 returns-3 : tie.Need-returns-3
 unfolding sourceOf
-returns-3 c =
+returns-3 c form taken =
     let c3 = c .before .before .before in
     let c8 = c3 .before .before .before .before .before in
     let c19 = c8 .before .before .before .before .before .before .before .before .before .before .before in
     let a = c19 .args in
     let read = rw (c3 .value .given .1) at (c8 .mark-rules .ensures .0) in
-    rest-unended formNumber true (a .book .now) [] (signatureOf (a .table .now)) (a .count) (a .at) (read .0) _
-    (read .1) _ _
+    rest-unended formNumber form taken true (a .book .now) [] (signatureOf (a .table .now)) (a .count) (a .at)
+    (read .0) _ (read .1) _ _
     (rw (sym (c .before .is-padding .ensures) ∙ c .if1 .left))
 
 pub mark-under-spec : {M : Type 1} → statement M

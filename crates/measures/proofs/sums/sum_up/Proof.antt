@@ -4,9 +4,9 @@ use Prim.Native.Nat.{_-_, _≤_}
 use native.Mathlib.Omega.{arith}
 use lib.ListN.{length, drop}
 use Rattle.symbols.specs.Table.{signatureOf}
-use Rattle.measures.specs.Totals.{SumsWithin, WordTotals}
-use Rattle.measures.proofs.TotalLaws.{term-nodes, totals-none, totals-more, sums-within-more, totalled}
-use Rattle.measures.proofs.TotalLaws.{AllFrom, stored-room, stored-from}
+use Rattle.weights.specs.Totals.{SumsWithin, WordTotals}
+use Rattle.weights.proofs.TotalLaws.{term-nodes, totals-none, totals-more, sums-within-more, totalled}
+use Rattle.measures.proofs.StoreLaws.{AllFrom, stored-room, stored-from}
 use borrow.Author.Needs.{needs}
 use Rattle.measures.proofs.sums.sum_up.Statement.{statement}
 use Rattle.measures.proofs.sums.sum_up.Tie as tie

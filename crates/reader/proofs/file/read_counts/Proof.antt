@@ -14,12 +14,12 @@ use Rattle.reader.proofs.file.read_counts.Tie as tie
 
 returns : tie.Need-returns
 unfolding countsReader
-returns c =
+returns c reader taken =
     rw (c .enum-told .given .1, sym (rw (c .enum-told .given .1) at (c .before .before .field-at-least .ensures .0)))
 
 returns-2 : tie.Need-returns-2
 unfolding countsReader
-returns-2 c =
+returns-2 c reader taken =
     let c4 = c .before .before .before .before in
     let c6 = c4 .before .before in
     let count = sym (rw (c4 .read .given .1) at (c6 .field-at-least .ensures .0)) in
@@ -34,7 +34,7 @@ cast-w0 c =
 
 returns-3 : tie.Need-returns-3
 unfolding countsReader
-returns-3 c =
+returns-3 c reader taken =
     let c4 = c .before .before .before .before in
     let c6 = c4 .before .before in
     let c8 = c6 .before .before in
@@ -72,7 +72,7 @@ read-table-requires c κs =
 
 returns-4 : tie.Need-returns-4
 unfolding countsReader
-returns-4 c =
+returns-4 c reader taken =
     let c5 = c .before .before .before .before .before in
     let c7 = c5 .before .before in
     let c9 = c7 .before .before in
@@ -97,7 +97,8 @@ returns-4 c =
     (w0-stands (a .packed) (a .book .now) (a .sheet .now) 16 _ _ _ second (w0 .0))
     (c .before .before .read-table .kept .1 .1 .1 .0)
     (room-le (a .packed) _ _ (a .table .now) (table-le _ few) (c19 .pre .1))
-    (reach 3 10 _ _ _ (reach 2 16 _ _ _ second (w0 .0)) rules) (c19 .pre .0 .0) few some (leb-true 1 _ (w0 .1)))
+    (reach 3 10 _ _ _ (reach 2 16 _ _ _ second (w0 .0)) rules) (c19 .pre .0 .0) few some (leb-true 1 _ (w0 .1))
+    reader taken)
 
 pub read-counts-spec : {M : Type 1} → statement M
 read-counts-spec =

@@ -22,7 +22,7 @@ front-requires : tie.Need-front-requires
 unfolding Reached
 front-requires c κs =
     let c5 = c .before .before .before .before .before in
-    (rw (c .before .read .given .1) at (c5 .read-head .ensures)) .1 .fewSymbols
+    (rw (c .before .read .given .1) at (c5 .read-head .ensures)) .fewSymbols
 
 slice-aggregate-arities : tie.Need-slice-aggregate-arities
 unfolding Reached
@@ -47,7 +47,7 @@ read-packed-rules-requires c κs =
     let c6 = c .before .before .before .before .before .before in
     let c10 = c6 .before .before .before .before in
     let head = rw (c6 .read .given .1) at (c10 .read-head .ensures) in
-    (head .1 .short, head .1 .within, head .1 .fewRules)
+    (head .short, head .within, head .fewRules)
 
 returns-2 : tie.Need-returns-2
 unfolding Reached
@@ -69,7 +69,7 @@ unfolding Reached
 is-padding-requires c κs =
     let c12 = c .before .before .before .before .before .before .before .before .before .before .before .before in
     let c16 = c12 .before .before .before .before in
-    (rw (c12 .read .given .1) at (c16 .read-head .ensures)) .1 .short
+    (rw (c12 .read .given .1) at (c16 .read-head .ensures)) .short
 
 returns-3 : tie.Need-returns-3
 unfolding Reached

@@ -27,7 +27,7 @@ slice-aggregate-arities c =
     let c6 = c3 .before .before .before in
     let c11 = c6 .before .before .before .before .before in
     let head = rw (c3 .head .given .1) at (c6 .read-head .ensures) in
-    sym (length-take-le _ (c11 .args .sheet .now) (head .1 .within .1))
+    sym (length-take-le _ (c11 .args .sheet .now) (head .within .1))
 
 arities-requires : tie.Need-arities-requires
 unfolding Reached
@@ -36,8 +36,8 @@ arities-requires c κs =
     let c6 = c3 .before .before .before in
     let c11 = c6 .before .before .before .before .before in
     let head = rw (c3 .head .given .1) at (c6 .read-head .ensures) in
-    let long = length-take-le _ (c11 .args .sheet .now) (head .1 .within .1) in
-    omega (arith, long, head .1 .within .0, table-le _ (head .1 .fewSymbols))
+    let long = length-take-le _ (c11 .args .sheet .now) (head .within .1) in
+    omega (arith, long, head .within .0, table-le _ (head .fewSymbols))
 
 read-word-rules-requires : tie.Need-read-word-rules-requires
 unfolding Reached
@@ -48,8 +48,8 @@ read-word-rules-requires c κs =
     let c13 = c8 .before .before .before .before .before in
     let head = rw (c5 .head .given .1) at (c8 .read-head .ensures) in (
       (
-        omega (arith, head .1 .within .0, table-le _ (head .1 .fewSymbols)),
-        head .1 .fewRules,
+        omega (arith, head .within .0, table-le _ (head .fewSymbols)),
+        head .fewRules,
         c3 .unused-at-start .ensures .1,
       ),
       (signatureOf (take (c5 .head .given .0 .1 .0) (c13 .args .sheet .now)), c .before .arities .ensures),

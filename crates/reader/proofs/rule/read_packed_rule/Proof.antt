@@ -2,7 +2,8 @@
 use mathlib.Core.Path.{_∙_}
 use native.Mathlib.Omega.{arith}
 use Rattle.format.specs.Reading.{bitSource}
-use Rattle.format.specs.Format.{unusedOf, ruleReader}
+use Rattle.format.specs.Forms.{unusedOf}
+use Rattle.format.specs.Format.{ruleReader}
 use Rattle.reader.proofs.RuleLaws.{rule-as-read, rule-renumbered}
 use borrow.Author.Needs.{needs}
 use Rattle.reader.proofs.rule.read_packed_rule.Statement.{statement}

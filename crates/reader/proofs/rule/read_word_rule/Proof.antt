@@ -25,6 +25,7 @@ term-requires-2 c κs =
     let left = sym (c3 .term .ensures .0 σ table) ∙ c .before .read .given .1 in (
       omega (arith, terms-end (a .sheet .now) σ (a .unused) maxNodes 1 (a .at) _ _ left),
       omega (arith, rw (c .before .read .given .1) at (c3 .term .ensures .1)),
+      omega arith,
     )
 
 returns-2 : tie.Need-returns-2

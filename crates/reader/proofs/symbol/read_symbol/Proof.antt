@@ -8,7 +8,7 @@ use Rattle.symbols.specs.Table.{symbolsAt}
 use Rattle.symbols.proofs.EntryLaws.{entry-words}
 use Rattle.format.specs.Errors.{weightInadmissible, rankTaken}
 use Rattle.format.specs.Layout.{weightWidth, rankWidth}
-use Rattle.format.specs.Symbols.{leastWeightIn}
+use Rattle.format.specs.Forms.{leastWeightIn}
 use Rattle.reader.specs.Source.{sourceOf, tableOf}
 use Rattle.reader.proofs.SourceLaws.{tested-field, entry-stands, reached-entry}
 use Rattle.reader.proofs.SymbolLaws.{not-false, symbol-parts, taken-put, stored-same}

@@ -1,4 +1,5 @@
 -- Each branch is the call for its source; a packed file has its header stored before.
+use mathlib.Core.Path.{_∙_}
 use native.Mathlib.Omega.{arith}
 use Rattle.symbols.proofs.EntryLaws.{table-some}
 use Rattle.reader.proofs.SymbolLaws.{symbols-headed}
@@ -8,27 +9,29 @@ use Rattle.reader.proofs.symbol.read_symbols.Tie as tie
 
 put-header-requires : tie.Need-put-header-requires
 put-header-requires c κs =
-    let c5 = c .before .before .before .before .before in
-    omega (arith, table-some (c5 .args .count), rw (c .before .if1 .taken) at (c5 .pre .0 .2))
+    let c6 = c .before .before .before .before .before .before in
+    omega (arith, table-some (c6 .args .count), rw (c .before .before .if1 .taken) at (c6 .pre .0 .2))
 
 read-symbols-from-requires : tie.Need-read-symbols-from-requires
 read-symbols-from-requires c κs =
     let c3 = c .before .before .before in
-    let c5 = c3 .before .before in
-    let c9 = c5 .before .before .before .before in
-    let packed = c5 .if1 .taken in
-    let room = rw packed at (c9 .pre .0 .2) in
-    ((c9 .pre .0 .0, c9 .pre .0 .1, omega (arith, room, c3 .put-header .kept .0)), rw packed at (c9 .pre .1 .0))
+    let c6 = c3 .before .before .before in
+    let c10 = c6 .before .before .before .before in
+    let packed = c6 .if1 .taken in
+    let room = rw packed at (c10 .pre .0 .2) in
+    ((c10 .pre .0 .0, c10 .pre .0 .1, omega (arith, room, c3 .put-header .kept .0)), rw packed at (c10 .pre .1 .0))
 
 returns : tie.Need-returns
 returns c =
     let c6 = c .before .before .before .before .before .before in
-    let c8 = c6 .before .before in
-    let c12 = c8 .before .before .before .before in
-    let a = c12 .args in
-    rw (c8 .if1 .taken) (symbols-headed (a .count) (a .w0) (a .rules) _ (c .before .before .read-symbols-from .result) _
-    (a .table .now)
-    (c6 .put-header .last .0) _ (c6 .put-header .ensures) (c .before .before .read-symbols-from .ensures))
+    let c7 = c6 .before in
+    let c9 = c7 .before .before in
+    let c13 = c9 .before .before .before .before in
+    let a = c13 .args in
+    rw (c9 .if1 .taken) (symbols-headed _ (a .count) (a .w0) (a .rules) _
+    (c .before .before .read-symbols-from .result) _ (a .table .now) (c6 .put-header .last .0) _
+    (c6 .put-header .ensures ∙ rw (c7 .stored-form .ensures))
+    (c .before .before .read-symbols-from .ensures))
 
 read-symbols-from-requires-2 : tie.Need-read-symbols-from-requires-2
 read-symbols-from-requires-2 c κs =
@@ -42,5 +45,5 @@ returns-2 c =
 
 pub read-symbols-spec : {M : Type 1} → statement M
 read-symbols-spec =
-    tie.close (tie.spec (λ c. search needs) (λ c. search needs) put-header-requires read-symbols-from-requires
-    (λ c. search needs) returns read-symbols-from-requires-2 (λ c. search needs) returns-2)
+    tie.close (tie.spec (λ c κs. search needs) (λ c. search needs) (λ c. search needs) put-header-requires
+    read-symbols-from-requires (λ c. search needs) returns read-symbols-from-requires-2 (λ c. search needs) returns-2)

@@ -7,7 +7,8 @@ use Rattle.terms.specs.Signature.{Symbol}
 use Prim.Native.Nat.{_+_, _-_, _≤_}
 use native.Mathlib.Nat.{sub-zero}
 use lib.ListN.{length}
-use Rattle.format.specs.Symbols.{leastWeightIn, symbolsReader}
+use Rattle.format.specs.Forms.{leastWeightIn}
+use Rattle.format.specs.Symbols.{symbolsReader}
 use Rattle.symbols.specs.Table.{symbolsAt, tableWords, symbolsWords}
 use Rattle.symbols.proofs.TableLaws.{length-symbols}
 use Rattle.symbols.proofs.EntryLaws.{table-more, table-start}

@@ -4,11 +4,11 @@ use Rattle.order.proofs.compare.exceeds.Reads as exceeds
 use Rattle.order.proofs.compare.greater.Reads as greater
 use Rattle.order.proofs.compare.+compare+covers+exceeds+flattened+greater+rows_greater.Lts-greater as greater-lts
 use Rattle.measures.proofs.sums.total_at.Reads as total-at-reads
-use Rattle.measures.proofs.totals.first_oftener.Reads as first-oftener-reads
+use Rattle.weights.proofs.totals.first_oftener.Reads as first-oftener-reads
 use native.Mathlib.Omega.{arith}
 use Rattle.terms.proofs.OftenerLaws.{oftener-none}
 use Rattle.symbols.specs.Table.{signatureOf}
-use Rattle.equivalence.specs.Parts.{partAt}
+use Rattle.subterms.specs.Parts.{partAt}
 use Rattle.order.proofs.GreaterLaws.{greater-oftener}
 use Rattle.order.proofs.compare.+compare+covers+exceeds+flattened+greater+rows_greater.Proof.Measures.{
   exceeds-below,

@@ -1,0 +1,3 @@
+-- The laws of parts, in reading order.
+pub mod PartLaws
+pub mod FormedLaws

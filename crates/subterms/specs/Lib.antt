@@ -1,0 +1,2 @@
+-- Terms as parts of their node words, by offset.
+pub mod Parts

@@ -1,0 +1,1 @@
+// Terms as parts of their node words, by offset: definitions and laws. There is no code here.

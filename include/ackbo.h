@@ -27,7 +27,7 @@
 
    ackbo_text.h has names and words for refusals and marks, and the limits; docs/MARKS.md says what each means.
 
-   Stack, at most, as measured: ackbo_convert 224 KB and ackbo_decode 120 KB, for every book; ackbo_encode 2 KB,
+   Stack, at most, as measured: ackbo_convert 224 KB and ackbo_decode 120 KB, for every book; ackbo_encode 4 KB,
    ackbo_fingerprint 7 KB, ackbo_oftener 12 KB; ackbo_compare, ackbo_pick and ackbo_mark 72 KB and ackbo_page 81 KB,
    where AC symbols nest 63 deep. */
 #ifndef ACKBO_H

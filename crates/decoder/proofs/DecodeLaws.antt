@@ -28,7 +28,7 @@ use Rattle.symbols.proofs.EntryLaws.{table-entries}
 use Rattle.answers.specs.declared.Answer.the-variants.{Got}
 use Rattle.sides.specs.Side.{rulesWords}
 use Rattle.sides.proofs.UnpackedLaws.{unpacked-parts, unpacked-length}
-use Rattle.reader.specs.File.{PackedParts, rulesIn, storedForm, storedFile}
+use Rattle.reader.specs.File.{PackedParts, rulesIn, storedFile}
 use Rattle.decoder.specs.Sheet.{Unpacked}
 
 -- ---- a file whose words were stored in two parts

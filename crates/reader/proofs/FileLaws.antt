@@ -2,9 +2,9 @@
 --     read-parts                                    the whole file by its form and what follows
 --     symbols-fault, head-read, head-answer, table-of     what follows a header
 --     rest-unread, rest-unended, rest-ended         what follows the symbols
-use mathlib.Core.Path.{_≡_, refl, sym, ap, _∙_}
+use mathlib.Core.Path.{_≡_, sym, ap, _∙_}
 use mathlib.Core.List.{List, [], _∷_}
-use mathlib.Core.Bool.{Bool, true, false, false≢true}
+use mathlib.Core.Bool.{Bool, true}
 use Prim.Native.Nat.{ℕ, _+_, _*_, _≤_, _<_}
 use native.Mathlib.Omega.{arith}
 use lib.Dec.{leb}
@@ -28,10 +28,10 @@ use Rattle.symbols.proofs.TableLaws.{length-symbols}
 use Rattle.symbols.proofs.EntryLaws.{table-le, table-entries, signature-front, front-weight, front-words}
 use Rattle.answers.specs.declared.Answer.{Answer}
 use Rattle.answers.specs.declared.Answer.the-variants.{Got, Fault}
-use Rattle.reader.specs.Source.{sourceOf, Reached, tableOf, Room, Stored, tested}
+use Rattle.reader.specs.Source.{sourceOf, Reached, tested}
 use Rattle.reader.specs.File.{restReader, tableReader, countsReader, storedForm, HeadParts, HeadRead}
 use Rattle.reader.specs.Symbol.{SymbolsRead}
-use Rattle.reader.proofs.SourceLaws.{tested-then, field-fits, reached-symbols, room-table, room-same}
+use Rattle.reader.proofs.SourceLaws.{tested-then, field-fits, reached-symbols}
 
 -- ---- the whole file by its form and what follows
 
@@ -114,14 +114,13 @@ symbols-admissible packed bytes words form w0 n at ss end e positive start =
       reached-symbols packed bytes words 4 least n at ss end start read,
     )
 
--- The words that were stored before the rules of a packed file, and w0.
-front-of : (form w0 symbols rules : ℕ) (before words table : List ℕ) (packed : Bool) →
-    Stored packed 0 (form ∷ symbols ∷ w0 ∷ rules
-    ∷ symbolsWords (symbolsAt (tableOf packed words table) 0 symbols)) before table →
-    Room packed (tableWords symbols) before → (packed ≡ false → weightOf words ≡ w0) →
-    (weightOf (tableOf packed words table) ≡ w0) × (packed ≡ true → take (tableWords symbols) table
-    ≡ frontWords form (record { w0 = w0; symbols = symbolsAt (tableOf packed words table) 0 symbols }) rules)
-front-of form w0 symbols rules before words table true stored room stands =
+-- The words that were stored before the rules, and w0.
+front-of : (form w0 symbols rules : ℕ) (before table : List ℕ) →
+    table ≡ sets before 0 (form ∷ symbols ∷ w0 ∷ rules ∷ symbolsWords (symbolsAt table 0 symbols)) →
+    tableWords symbols ≤ length before →
+    (weightOf table ≡ w0) × (take (tableWords symbols) table
+    ≡ frontWords form (record { w0 = w0; symbols = symbolsAt table 0 symbols }) rules)
+front-of form w0 symbols rules before table stored room =
     let ss = symbolsAt table 0 symbols in
     let σ : Signature = record { w0 = w0; symbols = ss } in
     let n : length ss ≡ symbols = length-symbols table 0 symbols in
@@ -129,9 +128,8 @@ front-of form w0 symbols rules before words table true stored room stands =
     stored ∙ ap (λ (k : ℕ). sets before 0 (form ∷ k ∷ w0 ∷ rules ∷ symbolsWords ss)) (sym n) in
     let r : tableWords (length ss) ≤ length before = rw n room in (
       front-weight before table form σ rules r e,
-      λ yes. ap (λ (k : ℕ). take (tableWords k) table) (sym n) ∙ front-words before table form σ rules r e,
+      ap (λ (k : ℕ). take (tableWords k) table) (sym n) ∙ front-words before table form σ rules r e,
     )
-front-of form w0 symbols rules before words table false stored room stands = (stands refl, λ no. absurd (false≢true no))
 
 module _ (form : ℕ) (packed : Bool) (bytes words : List ℕ) (w0 symbols rules at : ℕ) where
   pub symbols-fault : (code offset : ℕ) →
@@ -141,58 +139,50 @@ module _ (form : ℕ) (packed : Bool) (bytes words : List ℕ) (w0 symbols rules
   symbols-fault code offset e = rw e
 
   module _ (before table : List ℕ) where
-    abbrev T : List ℕ
-    T = tableOf packed words table
-
     abbrev σ : Signature
-    σ = record { w0 = w0; symbols = symbolsAt T 0 symbols }
+    σ = record { w0 = w0; symbols = symbolsAt table 0 symbols }
 
     pub head-read : (next : ℕ) →
         symbolTableReader (sourceOf packed bytes words) (leastWeightIn form w0) symbols at ≡ got (σ .symbols) next →
-        Stored packed 0 (storedForm form ∷ symbols ∷ w0 ∷ rules ∷ symbolsWords (σ .symbols)) before table →
-        (packed ≡ false → weightOf words ≡ w0) → length table ≡ length before →
-        Room packed (tableWords symbols) before → Reached packed bytes words 4 at → length bytes ≤ maxBytes →
-        symbols < 256 → rules < 1024 → 0 < w0 →
-        (reader : ℕ) → isTaken reader form ≡ true →
+        table ≡ sets before 0 (storedForm form ∷ symbols ∷ w0 ∷ rules ∷ symbolsWords (σ .symbols)) →
+        length table ≡ length before → tableWords symbols ≤ length before → Reached packed bytes words 4 at →
+        length bytes ≤ maxBytes → symbols < 256 → rules < 1024 → 0 < w0 → (reader : ℕ) → isTaken reader form ≡ true →
         HeadRead reader packed bytes words (tableReader form packed bytes words w0 symbols rules at) (Got symbols next)
         table rules
     unfolding tableReader
-    head-read next read stored stands same room start short few some positive reader taken =
+    head-read next read stored same room start short few some positive reader taken =
         let (admissible, reached) =
         symbols-admissible packed bytes words form w0 symbols at (σ .symbols) next read positive start in
         let within = rw (← table-entries symbols) at reached in
-        let long = room-table packed bytes words table (tableWords symbols) next
-        (room-same packed _ before table same room) within in
-        let (weight, front) =
-        front-of (storedForm form) w0 symbols rules before words table packed stored room stands in
-        let e : signatureOf (take (tableWords symbols) T) ≡ σ = signature-front T symbols long ∙ rw weight in
+        let long : tableWords symbols ≤ length table = rw same room in
+        let (weight, front) = front-of (storedForm form) w0 symbols rules before table stored room in
+        let e : signatureOf (take (tableWords symbols) table) ≡ σ = signature-front table symbols long ∙ rw weight in
         record {
           form = form;
           taken = taken;
           whole = rw (read, e);
-          symbolCount = rw e (sym (length-symbols T 0 symbols));
+          symbolCount = rw e (sym (length-symbols table 0 symbols));
           short = short;
           fewSymbols = few;
           fewRules = some;
           admissible = rw e admissible;
           within = within;
+          fits = long;
           front = rw e front;
         }
 
     -- What the answer to the symbols makes of the head.
     pub head-answer : (r : Answer) →
         SymbolsRead (symbolTableReader (sourceOf packed bytes words) (leastWeightIn form w0) symbols at)
-        (λ (ss : List Symbol). Stored packed 0 (storedForm form ∷ symbols ∷ w0 ∷ rules ∷ symbolsWords ss) before table)
-        r (σ .symbols) →
-        (packed ≡ false → weightOf words ≡ w0) → length table ≡ length before →
-        Room packed (tableWords symbols) before → Reached packed bytes words 4 at → length bytes ≤ maxBytes →
-        symbols < 256 → rules < 1024 → 0 < w0 →
-        (reader : ℕ) → isTaken reader form ≡ true →
+        (λ (ss : List Symbol). table ≡ sets before 0 (storedForm form ∷ symbols ∷ w0 ∷ rules ∷ symbolsWords ss)) r
+        (σ .symbols) →
+        length table ≡ length before → tableWords symbols ≤ length before → Reached packed bytes words 4 at →
+        length bytes ≤ maxBytes → symbols < 256 → rules < 1024 → 0 < w0 → (reader : ℕ) → isTaken reader form ≡ true →
         HeadRead reader packed bytes words (tableReader form packed bytes words w0 symbols rules at) r table rules
-    head-answer (Got value next) (read, all, stored) stands same room start short few some positive reader taken =
-        rw (all ∙ length-symbols T 0 symbols)
-        (head-read next read stored stands same room start short few some positive reader taken)
-    head-answer (Fault offset code) read stands same room start short few some positive reader taken =
+    head-answer (Got value next) (read, all, stored) same room start short few some positive reader taken =
+        rw (all ∙ length-symbols table 0 symbols)
+        (head-read next read stored same room start short few some positive reader taken)
+    head-answer (Fault offset code) read same room start short few some positive reader taken =
         symbols-fault code offset read
 
 -- The table that reading the head of a packed file leaves.

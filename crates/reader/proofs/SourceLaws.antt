@@ -4,14 +4,12 @@
 --     field-fits                 a field that is read is within its width
 --     reached-start, reached-field, reached-entry, reached-symbols     where fields, and symbols, end
 --     reached-le                 an offset of one of the first fields is no further than a file's bits
---     entry-stands, w0-stands    what was read among words stands there
---     room-le, room-same, room-table    room for a table
+--     room-fits                  a table with room has room for the symbols that are counted
 use mathlib.Core.Path.{_≡_, refl}
 use mathlib.Core.List.{List, [], _∷_, flatMap}
 use mathlib.Core.Bool.{Bool, true, false}
 use Prim.Native.Nat.{ℕ, _+_, _*_, _^_, _≤_, _<_}
 use native.Mathlib.Omega.{arith}
-use lib.Dec.{eqb}
 use lib.ListN.{length, getD}
 use Rattle.terms.specs.Signature.{Symbol}
 use Rattle.format.specs.Layout.{formNumber, arityWidth, acWidth, weightWidth, rankWidth, maxBytes}
@@ -25,9 +23,9 @@ use Rattle.format.proofs.ReadingLaws.{holds-got}
 use Rattle.format.proofs.SpellingLaws.{spells→coded}
 use Rattle.format.proofs.CodingLaws.{word-coding, bit-coding}
 use Rattle.format.proofs.FormatLaws.{symbols-read}
-use Rattle.symbols.specs.Table.{symbolAt, tableWords}
-use Rattle.symbols.proofs.EntryLaws.{table-next}
-use Rattle.reader.specs.Source.{sourceOf, Reached, tableOf, Room, tested, readSource}
+use Rattle.symbols.specs.Table.{tableWords}
+use Rattle.symbols.proofs.EntryLaws.{table-le, table-next}
+use Rattle.reader.specs.Source.{sourceOf, Reached, Room, tested, readSource}
 
 pub read-packed : (form : ℕ) (bytes words : List ℕ) → readSource form true bytes words ≡ readBytesIn form bytes
 unfolding readSource readBytesIn sourceOf
@@ -115,19 +113,23 @@ reached-field false bytes words fields width at v next h e =
     let (f, n, l, a) = word-coding words .read→code (field width v) at next e in
     (omega arith, l)
 
--- ---- what stands among words
+-- ---- room for the symbols
 
 word-stands : (bytes words : List ℕ) (width at v next : ℕ) → sourceOf false bytes words .field width at ≡ got v next →
     getD words at 0 ≡ v
 unfolding sourceOf
 word-stands bytes words width at v next e = word-coding words .read→code (field width v) at next e .3 .0
 
-pub w0-stands : (packed : Bool) (bytes words : List ℕ) (width at v next : ℕ) → Reached packed bytes words 2 at →
-    sourceOf packed bytes words .field width at ≡ got v next → packed ≡ false → getD words 2 0 ≡ v
+pub room-fits : (packed : Bool) (bytes words table : List ℕ) (width at n next : ℕ) → Room packed words table →
+    Reached packed bytes words 1 at → sourceOf packed bytes words .field width at ≡ got n next → n < 256 →
+    tableWords n ≤ length table
 unfolding Reached
-w0-stands packed bytes words width at v next h e z =
-    let (here, in-words) = rw z at h in
-    rw here at (word-stands bytes words width at v next (rw z at e))
+room-fits true bytes words table width at n next room start e few = omega (arith, table-le n few)
+room-fits false bytes words table width at n next room start e few =
+    let same : getD words 1 0 ≡ n = rw (start .0) at (word-stands bytes words width at n next e) in
+    rw same at room few
+
+-- ---- the symbols
 
 -- The four fields of a symbol.
 module _ (packed : Bool) (bytes words : List ℕ) (number at arity n₁ ac n₂ weight n₃ rank n₄ : ℕ)
@@ -151,42 +153,6 @@ module _ (packed : Bool) (bytes words : List ℕ) (number at arity n₁ ac n₂ 
 
   pub reached-entry : Reached packed bytes words (tableWords (number + 1)) n₄
   reached-entry = rw (table-next number) (reach _ _ _ _ _ r₃ e₄)
-
-  pub entry-stands : packed ≡ false →
-      symbolAt words number ≡ record { arity = arity; ac = eqb ac 1; weight = weight; precedence = rank }
-  unfolding Reached tableWords
-  entry-stands z =
-      let a₁ : 4 * number + 4 ≡ at = omega (arith, (rw z at start) .0) in
-      let a₂ : 4 * number + 5 ≡ n₁ = omega (arith, (rw z at r₁) .0) in
-      let a₃ : 4 * number + 6 ≡ n₂ = omega (arith, (rw z at r₂) .0) in
-      let a₄ : 4 * number + 7 ≡ n₃ = omega (arith, (rw z at r₃) .0) in
-      rw (
-        a₁,
-        a₂,
-        a₃,
-        a₄,
-        word-stands bytes words _ at arity n₁ (rw z at e₁),
-        word-stands bytes words _ n₁ ac n₂ (rw z at e₂),
-        word-stands bytes words _ n₂ weight n₃ (rw z at e₃),
-        word-stands bytes words _ n₃ rank n₄ (rw z at e₄),
-      )
-
--- ---- room
-
-pub room-le : (packed : Bool) (m n : ℕ) (table : List ℕ) → m ≤ n → Room packed n table → Room packed m table
-room-le true m n table h r = omega arith
-room-le false m n table h r = tt
-
-pub room-same : (packed : Bool) (n : ℕ) (table other : List ℕ) → length other ≡ length table → Room packed n table →
-    Room packed n other
-room-same true n table other e r = omega arith
-room-same false n table other e r = tt
-
-pub room-table : (packed : Bool) (bytes words table : List ℕ) (n at : ℕ) → Room packed n table →
-    Reached packed bytes words n at → n ≤ length (tableOf packed words table)
-unfolding Reached
-room-table true bytes words table n at r h = r
-room-table false bytes words table n at r h = omega arith
 
 -- A symbol takes four words.
 length-coded : (ss : List Symbol) → length (flatMap (λ i. itemWord i ∷ []) (flatMap symbolItems ss))

@@ -6,9 +6,8 @@
 --     symbols-fault, symbols-past          reading some symbols by reading one
 --     symbols-done, symbols-headed         reading so many by a loop, and the header
 --     table-unread, table-outranked, table-ranked     all symbols, by the first that is outranked
---     stored-same, stored-more, stored-none   what is stored of a packed file
 use mathlib.Core.Path.{_≡_, refl, sym, _∙_}
-use mathlib.Core.List.{List, [], _∷_, _++_, map}
+use mathlib.Core.List.{List, [], _∷_, _++_}
 use mathlib.Core.Bool.{Bool, true, false, _||_, not}
 use Prim.Native.Nat.{ℕ, suc, _+_, _-_, _≤_, _<_}
 use native.Mathlib.Omega.{arith}
@@ -24,12 +23,10 @@ use Rattle.format.specs.Layout.{arityWidth, acWidth, weightWidth, rankWidth}
 use Rattle.format.specs.Reading.{Reading, Reader, _>>=_, _>>_, give, here, require, Source}
 use Rattle.format.specs.Reading.Reading.{got, fault}
 use Rattle.format.specs.Symbols.{heldBy, firstOutranked, weightOffset, symbolReader, symbolsReader, symbolTableReader}
-use Rattle.format.specs.Packing.{itemWord, symbolItems}
 use Rattle.format.proofs.ReadingLaws.{andThen-same}
 use Rattle.format.proofs.RankLaws.{outranked-le}
-use Rattle.reader.specs.Source.{Stored, tested}
-use Rattle.symbols.specs.Table.{tableWords, symbolsWords}
-use Rattle.symbols.proofs.EntryLaws.{entries-more}
+use Rattle.reader.specs.Source.{tested}
+use Rattle.symbols.specs.Table.{symbolsWords}
 use Rattle.answers.specs.Answer.{readingOf}
 use Rattle.answers.specs.declared.Answer.{Answer}
 use Rattle.answers.specs.declared.Answer.the-variants.{Got, Fault}
@@ -154,29 +151,11 @@ module _ (source : Source) (least : ℕ → ℕ) (count at : ℕ) where
 -- The symbols are stored after the header.
 pub symbols-headed : (form count w0 rules : ℕ) (reading : Reading (List Symbol)) (r : Answer) (ss : List Symbol)
     (table headed after : List ℕ) → headed ≡ sets table 0 (form ∷ count ∷ w0 ∷ rules ∷ []) →
-    SymbolsRead reading (λ (ss : List Symbol). Stored true 4 (symbolsWords ss) headed after) r ss →
-    SymbolsRead reading
-    (λ (ss : List Symbol). Stored true 0 (form ∷ count ∷ w0 ∷ rules ∷ symbolsWords ss) table after) r ss
+    SymbolsRead reading (λ (ss : List Symbol). after ≡ sets headed 4 (symbolsWords ss)) r ss →
+    SymbolsRead reading (λ (ss : List Symbol). after ≡ sets table 0 (form ∷ count ∷ w0 ∷ rules ∷ symbolsWords ss)) r ss
 symbols-headed form count w0 rules reading (Got value next) ss table headed after e (read, all, stored) =
     (read, all, stored ∙ rw e (sym (sets-append table 0 (form ∷ count ∷ w0 ∷ rules ∷ []) (symbolsWords ss))))
 symbols-headed form count w0 rules reading (Fault offset code) ss table headed after e read = read
-
-pub stored-same : (packed : Bool) (index : ℕ) (words other before after : List ℕ) → words ≡ other →
-    Stored packed index words before after → Stored packed index other before after
-stored-same true index words other before after e stored = rw e at stored
-stored-same false index words other before after e stored = tt
-
--- The entries before are stored, and one more.
-pub stored-more : (packed : Bool) (table before after : List ℕ) (n : ℕ) (ss : List Symbol) (s : Symbol) →
-    n ≡ length ss → Stored packed 4 (symbolsWords ss) table before →
-    Stored packed (tableWords n) (map itemWord (symbolItems s)) before after →
-    Stored packed 4 (symbolsWords (ss ++ (s ∷ []))) table after
-stored-more true table before after n ss s e f g = entries-more table before after n ss s e f g
-stored-more false table before after n ss s e f g = tt
-
-pub stored-none : (packed : Bool) (table : List ℕ) → Stored packed 4 (symbolsWords []) table table
-stored-none true table = refl
-stored-none false table = tt
 
 -- ---- a symbol, by the answers to its fields
 

@@ -1,7 +1,7 @@
 -- What the code that reads a whole file has to show at each of its ends, by the answers to its head and to its rules.
 --     packed-unread, packed-unended, packed-read    a packed file
 --     sheet-unread, sheet-unended, sheet-read       a sheet
-use mathlib.Core.Path.{_≡_, refl, sym, ap, _∙_}
+use mathlib.Core.Path.{_≡_, sym, ap, _∙_}
 use mathlib.Core.List.{List, []}
 use mathlib.Core.Bool.{Bool, true, false}
 use Prim.Native.Nat.{ℕ, _≤_}
@@ -84,7 +84,7 @@ module _ (form : ℕ) (bytes table before after : List ℕ) (h : Answer) (symbol
             size = size ∙ ap tableWords (parts .symbolCount);
             few = few;
             words =
-                ap (λ (k : ℕ). take k table) size ∙ parts .front refl
+                ap (λ (k : ℕ). take k table) size ∙ parts .front
                 ∙ ap (frontWords (storedForm (parts .form)) τ) (sym n);
             signature = ap (λ (k : ℕ). signatureOf (take k table)) size;
             admissible = parts .admissible;
@@ -103,12 +103,12 @@ module _ (form : ℕ) (bytes table before after : List ℕ) (h : Answer) (symbol
 
 module _ (words table : List ℕ) (h : Answer) (symbols rules start : ℕ) (e : h ≡ Got symbols start)
     (read : HeadRead formNumber false [] words (readSource formNumber false [] words) h table rules)
-    (cells : List ℕ) (a : Arities (signatureOf (take start words)) cells) (unused : ℕ)
-    (u : unused ≡ unusedOf formNumber)
+    (front : ℕ) (size : front ≡ tableWords symbols) (cells : List ℕ)
+    (a : Arities (signatureOf (take front table)) cells) (unused : ℕ) (u : unused ≡ unusedOf formNumber)
     (x : Answer) (ruled : (σ : Signature) → Arities σ cells →
     x ≡ endOf (rulesReader (wordSource words) unused σ rules start)) where
   abbrev υ : Signature
-  υ = signatureOf (take (tableWords symbols) words)
+  υ = signatureOf (take (tableWords symbols) table)
 
   sheetParts : HeadParts formNumber false [] words (readSource formNumber false [] words) table symbols rules start
   sheetParts = rw e at read
@@ -117,8 +117,7 @@ module _ (words table : List ℕ) (h : Answer) (symbols rules start : ℕ) (e : 
   sheetWhole = sym (read-words words) ∙ sheetParts .whole
 
   rulesEnd : endOf (rulesReader (wordSource words) (unusedOf formNumber) υ rules start) ≡ x
-  unfolding Reached
-  rulesEnd = sym (rw u at (ruled υ (rw (sheetParts .within .0) at a)))
+  rulesEnd = sym (rw u at (ruled υ (rw size at a)))
 
   pub sheet-unread : (code offset : ℕ) → x ≡ Fault offset code → readWords words ≡ fault code offset
   unfolding sourceOf

@@ -19,7 +19,7 @@ use Rattle.symbols.specs.Table.{signatureOf, tableWords, maxTableWords, frontWo
 use Rattle.answers.specs.declared.Answer.{Answer}
 use Rattle.answers.specs.declared.Answer.the-variants.{Got, Fault}
 use Rattle.sides.specs.Side.{rulesWords}
-use Rattle.reader.specs.Source.{sourceOf, Reached, tableOf, tested}
+use Rattle.reader.specs.Source.{sourceOf, Reached, tested}
 
 module _ (form : ℕ) (packed : Bool) (bytes words : List ℕ) where
   -- What follows the symbols: the rules, and what may stand after them.
@@ -64,16 +64,17 @@ pub record HeadParts (reader : ℕ) (packed : Bool) (bytes words : List ℕ) (re
     (symbols rules offset : ℕ) : Type 0 where
   pub form : ℕ
   pub taken : isTaken reader form ≡ true
-  pub whole : reading ≡ restReader form packed bytes words (signatureOf (take (tableWords symbols)
-      (tableOf packed words table))) rules offset
-  pub symbolCount : symbols ≡ length (signatureOf (take (tableWords symbols) (tableOf packed words table)) .symbols)
+  pub whole : reading ≡ restReader form packed bytes words (signatureOf (take (tableWords symbols) table))
+      rules offset
+  pub symbolCount : symbols ≡ length (signatureOf (take (tableWords symbols) table) .symbols)
   pub short : length bytes ≤ maxBytes
   pub fewSymbols : symbols < 256
   pub fewRules : rules < 1024
-  pub admissible : Admissible (signatureOf (take (tableWords symbols) (tableOf packed words table)))
+  pub admissible : Admissible (signatureOf (take (tableWords symbols) table))
   pub within : Reached packed bytes words (tableWords symbols) offset
-  pub front : packed ≡ true → take (tableWords symbols) table ≡ frontWords (storedForm form) (signatureOf
-      (take (tableWords symbols) (tableOf packed words table))) rules
+  pub fits : tableWords symbols ≤ length table
+  pub front : take (tableWords symbols) table
+      ≡ frontWords (storedForm form) (signatureOf (take (tableWords symbols) table)) rules
 
 -- What is read, the answer to the head, which says how many symbols there are, and the table and the count of rules
 -- afterwards.

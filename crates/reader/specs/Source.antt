@@ -2,16 +2,16 @@
 use mathlib.Core.List.{List}
 use mathlib.Core.Path.{_≡_}
 use mathlib.Core.Bool.{Bool, true, false, cond}
-use Prim.Native.Nat.{ℕ, _*_, _≤_}
+use Prim.Native.Nat.{ℕ, _*_, _≤_, _<_}
 use lib.ListN.{length}
 use lib.Dec.{leb}
-use lib.Seq.{sets}
 use Rattle.format.specs.Errors.{fileTooLong}
 use Rattle.format.specs.Layout.{maxBytes}
 use Rattle.format.specs.Reading.{Reading, Reader, _>>=_, _>>_, give, here, require, Source, bitSource, wordSource}
 use Rattle.format.specs.Reading.Reading.{fault}
 use Rattle.format.specs.Format.{RuleFile}
 use Rattle.format.specs.Files.{wholeReader}
+use Rattle.symbols.specs.Table.{symbolCountOf, tableWords, maxTableWords}
 
 unfoldable pub sourceOf : Bool → List ℕ → List ℕ → Source
 sourceOf true bytes words = bitSource bytes
@@ -22,20 +22,10 @@ unfoldable pub Reached : Bool → List ℕ → List ℕ → ℕ → ℕ → Type
 Reached true bytes words fields at = at ≤ 8 * length bytes
 Reached false bytes words fields at = (at ≡ fields) × (at ≤ length words)
 
--- The words with a file's table: those stored where the file is packed, else its own, whose front is one.
-abbrev pub tableOf : Bool → List ℕ → List ℕ → List ℕ
-tableOf true words table = table
-tableOf false words table = words
-
--- Where the file is packed there is room for so many words of a table.
-abbrev pub Room : Bool → ℕ → List ℕ → Type 0
-Room true n table = n ≤ length table
-Room false n table = Unit {0}
-
--- Where the file is packed, words were stored in the table from an index on; among words they stand.
-abbrev pub Stored : Bool → ℕ → List ℕ → List ℕ → List ℕ → Type 0
-Stored true index words before after = after ≡ sets before index words
-Stored false index words before after = Unit {0}
+-- Room in a table for the symbols that a file may have; among words, for as many as its header says.
+abbrev pub Room : Bool → List ℕ → List ℕ → Type 0
+Room true words table = maxTableWords ≤ length table
+Room false words table = symbolCountOf words < 256 → tableWords (symbolCountOf words) ≤ length table
 
 -- A field that is to pass a test, with that error where it does not.
 unfoldable pub tested : Source → ℕ → (ℕ → Bool) → ℕ → Reader ℕ

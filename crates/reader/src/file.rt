@@ -1,6 +1,6 @@
 // Reading a whole file, packed or a sheet: what stands before its rules, and its rules, or its first fault.
 ghost use mathlib.Core.Path.{_≡_};
-ghost use mathlib.Core.Bool.{true};
+ghost use mathlib.Core.Bool.{true, false};
 ghost use Prim.Native.Nat.{ℕ, _≤_};
 ghost use lib.ListN.{length};
 ghost use Rattle.format.specs.Layout.{maxBytes};
@@ -28,7 +28,7 @@ fn read_counts(
     at: usize,
 ) -> Answer
     requires { ⌜ (length (now book) ≤ maxBytes) × Reached packed (now book) (now sheet) 1 at ⌝ }
-    requires { ⌜ Room packed maxTableWords (now table) ⌝ }
+    requires { ⌜ Room packed (now sheet) (now table) ⌝ }
     ensures { λ r. ⌜
         ((reader : ℕ) → isTaken reader form ≡ true →
         HeadRead reader packed (now (book .entry)) (now (sheet .entry))
@@ -72,8 +72,8 @@ fn form_error(form: usize) -> u8
     format::WRONG_FORM
 }
 
-// Reads the header and the symbols of a file that a reader of that form takes, the symbols of a packed one into the
-// table, and stores the count of rules; the value is how many symbols there are.
+// Reads the header and the symbols of a file that a reader of that form takes into the table, and stores the count of
+// rules; the value is how many symbols there are.
 pub fn read_head(
     book: &[u8],
     sheet: &[u16],
@@ -82,7 +82,7 @@ pub fn read_head(
     table: &mut [u16],
     rules: &mut usize,
 ) -> Answer
-    requires { ⌜ Room packed maxTableWords (now table) ⌝ }
+    requires { ⌜ Room packed (now sheet) (now table) ⌝ }
     ensures { λ r. ⌜
         HeadRead form packed (now (book .entry)) (now (sheet .entry))
         (readSource form packed (now (book .entry)) (now (sheet .entry))) r (now (table .exit)) (now (rules .exit))
@@ -132,18 +132,20 @@ pub fn read_packed(book: &[u8], form: u16, table: &mut [u16], words: &mut [u16])
     Answer::Fault { code, offset: next }
 }
 
-// Reads a sheet. The value is how many symbols it has, and in place of an offset how many words stand before its rules.
-pub fn read_sheet(sheet: &[u16]) -> Answer
+// Reads a sheet, its symbols into a table that has room for them. The value is how many symbols it has, and in place of
+// an offset how many words stand before its rules.
+fn read_sheet_into(sheet: &[u16], table: &mut [u16]) -> Answer
+    requires { ⌜ Room false (now sheet) (now table) ⌝ }
     ensures { λ r. ⌜ SheetRead (now (sheet .entry)) (readWords (now (sheet .entry))) r ⌝ }
 {
-    let mut none = [0u16; 0];
     let mut rules = 0;
-    let head = read_head(&[0u8; 0], sheet, false, format::FORM, &mut none, &mut rules);
-    let Answer::Got { value: _, next } = head else {
+    let head = read_head(&[0u8; 0], sheet, false, format::FORM, table, &mut rules);
+    let Answer::Got { value, next } = head else {
         return head;
     };
     let unused = variables::unused_at_start(format::FORM);
-    let arities = &symbols::arities(&sheet[..next]);
+    let front = symbols::front(value);
+    let arities = &symbols::arities(&table[..front]);
     let read = read_word_rules(arities, sheet, unused, rules, next);
     let Answer::Got { value: _, next } = read else {
         return read;
@@ -153,4 +155,16 @@ pub fn read_sheet(sheet: &[u16]) -> Answer
     }
     let code = format::WORDS_LEFT_OVER;
     Answer::Fault { code, offset: next }
+}
+
+// The same, with a table of its own: one of few words, which are sooner cleared, where the sheet says that it will do.
+pub fn read_sheet(sheet: &[u16]) -> Answer
+    ensures { λ r. ⌜ SheetRead (now (sheet .entry)) (readWords (now (sheet .entry))) r ⌝ }
+{
+    if symbols::symbol_count(sheet) <= symbols::FEW_SYMBOLS {
+        let mut table = [0u16; symbols::FEW_TABLE_WORDS];
+        return read_sheet_into(sheet, &mut table);
+    }
+    let mut table = [0u16; symbols::TABLE_WORDS];
+    read_sheet_into(sheet, &mut table)
 }

@@ -1,19 +1,19 @@
 // The symbol table of a rule file: a symbol's entry, and all of them into a table.
 ghost use mathlib.Core.Path.{_≡_};
-ghost use mathlib.Core.List.{List, [], _∷_, _++_, map};
-ghost use mathlib.Core.Bool.{false, not};
+ghost use mathlib.Core.List.{List, [], _∷_, map};
+ghost use mathlib.Core.Bool.{not};
 ghost use Prim.Native.Nat.{ℕ, _+_, _≤_, _<_};
-ghost use lib.Dec.{eqb};
 ghost use lib.ListN.{length};
+ghost use lib.Seq.{sets};
 ghost use Rattle.terms.specs.Signature.{Symbol};
 ghost use Rattle.format.specs.Errors.{rankTaken};
 ghost use Rattle.format.specs.Layout.{maxBytes, rankWidth};
 ghost use Rattle.format.specs.Forms.{leastWeightIn};
 ghost use Rattle.format.specs.Symbols.{heldBy, symbolReader, symbolsReader};
 ghost use Rattle.format.specs.Packing.{itemWord, symbolItems};
-ghost use Rattle.symbols.specs.Table.{symbolAt, symbolsAt, tableWords, symbolsWords};
+ghost use Rattle.symbols.specs.Table.{symbolsAt, tableWords, symbolsWords};
 ghost use Rattle.answers.specs.Answer.{readingOf, Below};
-ghost use Rattle.reader.specs.Source.{sourceOf, Reached, tableOf, Room, Stored, tested};
+ghost use Rattle.reader.specs.Source.{sourceOf, Reached, tested};
 ghost use Rattle.reader.specs.File.{storedForm};
 ghost use Rattle.reader.specs.Symbol.{TakenBy, SymbolPut, SymbolsRead};
 use crate::field::field;
@@ -42,34 +42,7 @@ fn read_rank(book: &[u8], sheet: &[u16], packed: bool, taken: &[bool; RANKS], at
     read
 }
 
-// Stores the entry of the symbol of that number where the file is packed; among words it stands.
-fn put_entry(
-    table: &mut [u16],
-    packed: bool,
-    number: usize,
-    arity: u16,
-    ac: u16,
-    weight: u16,
-    rank: u16,
-)
-    requires { ⌜ (number < 256) × Room packed (tableWords (number + 1)) (now table) ⌝ }
-    ensures { λ _. ⌜
-        ((words : List ℕ) (s : Symbol) →
-        s ≡ record { arity = arity; ac = eqb ac 1; weight = weight; precedence = rank } →
-        (packed ≡ false → symbolAt words number ≡ s) →
-        symbolsAt (tableOf packed words (now (table .exit))) 0 (number + 1)
-        ≡ symbolsAt (tableOf packed words (now (table .entry))) 0 number ++ (s ∷ []))
-        ⌝ }
-    ensures { λ _. ⌜
-        Stored packed (tableWords number) (arity ∷ ac ∷ weight ∷ rank ∷ []) (now (table .entry)) (now (table .exit))
-        ⌝ }
-{
-    if packed {
-        symbols::put_symbol(table, number, arity, ac, weight, rank);
-    }
-}
-
-// Reads the symbol of that number, of a packed file into the table, after those before it, and marks its rank.
+// Reads the symbol of that number into the table, after those before it, and marks its rank.
 fn read_symbol(
     book: &[u8],
     sheet: &[u16],
@@ -81,20 +54,20 @@ fn read_symbol(
     number: usize,
     at: usize,
 ) -> Answer
-    requires { ⌜ (length (now book) ≤ maxBytes) × (number < 256) × Room packed (tableWords (number + 1)) (now table) ⌝ }
+    requires { ⌜ (length (now book) ≤ maxBytes) × (number < 256) × (tableWords (number + 1) ≤ length (now table)) ⌝ }
     requires { ⌜ Reached packed (now book) (now sheet) (tableWords number) at ⌝ }
     requires { ⌜
-        TakenBy (symbolsAt (tableOf packed (now sheet) (now table)) 0 number) (now taken) × (length (now taken) ≡ 256)
+        TakenBy (symbolsAt (now table) 0 number) (now taken) × (length (now taken) ≡ 256)
         ⌝ }
     ensures { λ r. ⌜
         SymbolPut
         (symbolReader (sourceOf packed (now (book .entry)) (now (sheet .entry))) (leastWeightIn form w0)
-        (symbolsAt (tableOf packed (now (sheet .entry)) (now (table .entry))) 0 number) at)
-        (symbolsAt (tableOf packed (now (sheet .entry)) (now (table .entry))) 0 number)
+        (symbolsAt (now (table .entry)) 0 number) at)
+        (symbolsAt (now (table .entry)) 0 number)
         (Reached packed (now (book .entry)) (now (sheet .entry)) (tableWords (number + 1)))
-        (λ (s : Symbol). Stored packed (tableWords number) (map itemWord (symbolItems s)) (now (table .entry))
-        (now (table .exit))) r
-        (symbolsAt (tableOf packed (now (sheet .entry)) (now (table .exit))) 0 (number + 1)) (now (taken .exit))
+        (λ (s : Symbol). now (table .exit)
+        ≡ sets (now (table .entry)) (tableWords number) (map itemWord (symbolItems s))) r
+        (symbolsAt (now (table .exit)) 0 (number + 1)) (now (taken .exit))
         ⌝ }
     ensures { λ r. ⌜ length (now (taken .exit)) ≡ 256 ⌝ }
 {
@@ -130,12 +103,12 @@ fn read_symbol(
     let Answer::Got { value, next: _ } = read else {
         return read;
     };
-    put_entry(table, packed, number, arity, ac, weight, value as u16);
+    symbols::put_symbol(table, number, arity, ac, weight, value as u16);
     taken[value] = true;
     read
 }
 
-// Reads that many symbols, those of a packed file into the table; the value is their number.
+// Reads that many symbols into the table; the value is their number.
 fn read_symbols_from(
     book: &[u8],
     sheet: &[u16],
@@ -146,13 +119,13 @@ fn read_symbols_from(
     count: usize,
     at: usize,
 ) -> Answer
-    requires { ⌜ (length (now book) ≤ maxBytes) × (count < 256) × Room packed (tableWords count) (now table) ⌝ }
+    requires { ⌜ (length (now book) ≤ maxBytes) × (count < 256) × (tableWords count ≤ length (now table)) ⌝ }
     requires { ⌜ Reached packed (now book) (now sheet) 4 at ⌝ }
     ensures { λ r. ⌜
         SymbolsRead
         (symbolsReader (sourceOf packed (now (book .entry)) (now (sheet .entry))) (leastWeightIn form w0) count [] at)
-        (λ (ss : List Symbol). Stored packed 4 (symbolsWords ss) (now (table .entry)) (now (table .exit))) r
-        (symbolsAt (tableOf packed (now (sheet .entry)) (now (table .exit))) 0 count)
+        (λ (ss : List Symbol). now (table .exit) ≡ sets (now (table .entry)) 4 (symbolsWords ss)) r
+        (symbolsAt (now (table .exit)) 0 count)
         ⌝ }
 {
     let mut taken = [false; RANKS];
@@ -191,8 +164,7 @@ fn stored_form(form: u16) -> u16
     form
 }
 
-// The same, the header of a packed file stored too, by one branch on the source, so that the compiler makes a loop for
-// each.
+// The same, the header stored too, by one branch on the source, so that the compiler makes a loop for each.
 pub fn read_symbols(
     book: &[u8],
     sheet: &[u16],
@@ -204,18 +176,18 @@ pub fn read_symbols(
     rules: usize,
     at: usize,
 ) -> Answer
-    requires { ⌜ (length (now book) ≤ maxBytes) × (count < 256) × Room packed (tableWords count) (now table) ⌝ }
+    requires { ⌜ (length (now book) ≤ maxBytes) × (count < 256) × (tableWords count ≤ length (now table)) ⌝ }
     requires { ⌜ Reached packed (now book) (now sheet) 4 at × (rules < 1024) ⌝ }
     ensures { λ r. ⌜
         SymbolsRead
         (symbolsReader (sourceOf packed (now (book .entry)) (now (sheet .entry))) (leastWeightIn form w0) count [] at)
-        (λ (ss : List Symbol). Stored packed 0 (storedForm form ∷ count ∷ w0 ∷ rules ∷ symbolsWords ss)
-        (now (table .entry)) (now (table .exit))) r
-        (symbolsAt (tableOf packed (now (sheet .entry)) (now (table .exit))) 0 count)
+        (λ (ss : List Symbol). now (table .exit)
+        ≡ sets (now (table .entry)) 0 (storedForm form ∷ count ∷ w0 ∷ rules ∷ symbolsWords ss)) r
+        (symbolsAt (now (table .exit)) 0 count)
         ⌝ }
 {
+    symbols::put_header(table, stored_form(form), count as u16, w0, rules as u16);
     if packed {
-        symbols::put_header(table, stored_form(form), count as u16, w0, rules as u16);
         return read_symbols_from(book, sheet, true, table, form, w0, count, at);
     }
     read_symbols_from(book, sheet, false, table, form, w0, count, at)

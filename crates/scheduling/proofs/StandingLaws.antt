@@ -4,14 +4,13 @@
 --     allowed-none, allowed-many, allowed-last           the numbers of a turn
 --     left-few                                           a job with rules left has at most 1,023
 use mathlib.Core.List.{List, []}
-use mathlib.Core.Path.{_≡_, refl, sym, ap, _∙_}
-use mathlib.Core.Bool.{Bool, true, false, false≢true, cond, _&&_}
-use Prim.Native.Nat.{ℕ, _+_, _-_, _*_, _≤_, _<_}
+use mathlib.Core.Path.{_≡_, refl, _∙_}
+use mathlib.Core.Bool.{Bool, true, false, false≢true, _&&_}
+use Prim.Native.Nat.{ℕ, _+_, _-_, _≤_, _<_}
 use native.Mathlib.Omega.{arith}
 use lib.Dec.{leb, ltb}
-use lib.ListN.{getD, take, drop, length-map}
+use lib.ListN.{take, drop, length-map}
 use lib.ListN
-use lib.Seq.{getD-take}
 use borrow.Author.Tests.{lt-ltb, le-ltb, le-leb, lt-leb, ltb-true, leb-true}
 use Rattle.format.specs.Reading.{Reading}
 use Rattle.format.specs.Reading.Reading.{got, fault}
@@ -19,7 +18,8 @@ use Rattle.format.specs.Format.{RuleFile, systemOf}
 use Rattle.format.specs.Files.{readBytes}
 use Rattle.format.specs.Statements.IsRead.{fromBytes}
 use Rattle.format.proofs.Theorems.{readable-well-formed}
-use Rattle.symbols.specs.Table.{tableWords}
+use Rattle.symbols.specs.Table.{ruleCountOf}
+use Rattle.symbols.proofs.EntryLaws.{front-rules}
 use Rattle.reader.specs.File.{PackedParts}
 use Rattle.operations.specs.declared.Job.{Job}
 use Rattle.operations.specs.Marking.{marksOf}
@@ -29,10 +29,9 @@ use Rattle.scheduling.specs.declared.Standing.the-variants.{Bad, Done, L
 use Rattle.scheduling.specs.Search.{standingOf, isAllowed}
 
 pub rules-counted : (bytes table before after : List ℕ) (file : RuleFile) (nodes front : ℕ) →
-    PackedParts bytes table before after file nodes front → getD table 3 0 ≡ ListN.length (file .rules)
-unfolding tableWords
+    PackedParts bytes table before after file nodes front → ruleCountOf table ≡ ListN.length (file .rules)
 rules-counted bytes table before after file nodes front p =
-    sym (getD-take front table 3 0 (omega (arith, p .size))) ∙ ap (λ (l : List ℕ). getD l 3 0) (p .words)
+    front-rules table _ (file .signature) _ (ListN.length (file .signature .symbols)) (rw (p .size) at (p .words))
 
 length-marks : (file : RuleFile) → ListN.length (marksOf (systemOf file)) ≡ ListN.length (file .rules)
 length-marks file = length-map (systemOf file .rules) _ ∙ length-map (file .rules) _

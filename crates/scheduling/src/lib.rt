@@ -15,9 +15,6 @@ use operations::TurnReply;
 
 const MAX_JOBS: usize = 32;
 
-// The word of a symbol table that has the count of rules.
-const RULES_WORD: usize = 3;
-
 // How many rules a packed file has, where it is read.
 pub enum Rules {
     Counted(usize),
@@ -52,7 +49,7 @@ fn count_rules(book: &[u8]) -> Rules
     let mut none = [0u16; 0];
     match reader::read_packed(book, format::FORM, &mut table, &mut none) {
         Answer::Fault { .. } => Rules::Refused,
-        Answer::Got { .. } => Rules::Counted(symbols::wide(symbols::word_at(&table, RULES_WORD))),
+        Answer::Got { .. } => Rules::Counted(symbols::rule_count(&table)),
     }
 }
 

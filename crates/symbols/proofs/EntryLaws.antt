@@ -1,11 +1,12 @@
 -- The words of entries in a table, and in a sheet.
 --     stored-four                        four stores one after the other
---     table-le, table-more, table-next, table-start, table-entries, table-some     how many words a table has
---     symbols-stand, symbols-put         one symbol more that stands, or was stored
+--     table-le, table-few, table-more, table-next, table-start, table-entries, table-some    how many words a table has
+--     symbols-put                        one symbol more that was stored
 --     signature-front                    the signature of a table's front part
 --     length-symbolsWords, entry-words   how many words the symbols take in a sheet, and those of an entry
 --     entries-more                       the entries stored one by one
 --     front-weight, front-words          w0, and all words, of a table where a sheet's front was stored
+--     front-rules                        the count of rules of such a table
 use mathlib.Core.Path.{_≡_, refl, sym, ap, _∙_}
 use mathlib.Core.List.{List, [], _∷_, _++_, map}
 use Prim.Native.Nat.{ℕ, suc, zero, _+_, _-_, _*_, _/_, _≤_, _<_}
@@ -18,8 +19,8 @@ use lib.Seq.{sets, sets-eq, getD-take, getD-append-add, length-take-le, take-app
 use Rattle.multisets.proofs.ListLaws.{sets-append}
 use Rattle.terms.specs.Signature.{Symbol, Signature}
 use Rattle.format.specs.Packing.{itemWord, symbolItems}
-use Rattle.symbols.specs.Table.{symbolAt, symbolsAt, signatureOf, weightOf, tableWords, maxTableWords}
-use Rattle.symbols.specs.Table.{symbolsWords, frontWords}
+use Rattle.symbols.specs.Table.{symbolAt, symbolsAt, signatureOf, weightOf, ruleCountOf, tableWords}
+use Rattle.symbols.specs.Table.{maxTableWords, fewSymbols, fewTableWords, symbolsWords, frontWords}
 
 pub stored-four : (l l₁ l₂ l₃ l₄ : List ℕ) (i a b c d : ℕ) → l₁ ≡ set l i a → l₂ ≡ set l₁ (i + 1) b →
     l₃ ≡ set l₂ (i + 2) c → l₄ ≡ set l₃ (i + 3) d → l₄ ≡ sets l i (a ∷ b ∷ c ∷ d ∷ [])
@@ -34,6 +35,10 @@ stored-four l l₁ l₂ l₃ l₄ i a b c d h₁ h₂ h₃ h₄ =
 pub table-le : (n : ℕ) → n < 256 → tableWords n ≤ maxTableWords
 unfolding tableWords
 table-le n h = omega arith
+
+pub table-few : (n : ℕ) → n ≤ fewSymbols → tableWords n ≤ fewTableWords
+unfolding tableWords
+table-few n h = omega arith
 
 pub table-more : (m n : ℕ) → m < n → tableWords (m + 1) ≤ tableWords n
 unfolding tableWords
@@ -72,12 +77,6 @@ symbols-snoc l f zero = rw add-zero
 symbols-snoc l f (suc n) =
     let e : suc f + n ≡ f + suc n = omega arith in
     ap (λ (ss : List Symbol). symbolAt l f ∷ ss) (rw e at (symbols-snoc l (suc f) n))
-
-pub symbols-stand : (l : List ℕ) (n : ℕ) (s : Symbol) → symbolAt l n ≡ s →
-    symbolsAt l 0 (n + 1) ≡ symbolsAt l 0 n ++ (s ∷ [])
-symbols-stand l n s e =
-    let z : 0 + n ≡ n = omega arith in
-    rw (add-one n) (symbols-snoc l 0 n ∙ rw (z, e))
 
 -- Words stored from an index on, and the words before them.
 module _ (l : List ℕ) (i : ℕ) (vs : List ℕ) (h : i + length vs ≤ length l) where
@@ -173,3 +172,8 @@ module _ (table after : List ℕ) (form : ℕ) (σ : Signature) (rules : ℕ)
       let n : 4 + 4 * length (σ .symbols) ≡ length (frontWords form σ rules) =
       omega (arith, length-symbolsWords (σ .symbols)) in
       rw (e, sets-eq (frontWords form σ rules) table 0 fits, n) (take-append-seam (frontWords form σ rules) _)
+
+pub front-rules : (table : List ℕ) (form : ℕ) (σ : Signature) (rules n : ℕ) →
+    take (tableWords n) table ≡ frontWords form σ rules → ruleCountOf table ≡ rules
+front-rules table form σ rules n e =
+    sym (getD-take (tableWords n) table 3 0 (omega (arith, table-some n))) ∙ ap ruleCountOf e

@@ -1,5 +1,5 @@
--- The symbol table as words, and the signature that it means. The words lie as at the front of a sheet: w0 is the
--- third, and the symbols begin after the header's four.
+-- The symbol table as words, and the signature that it means. The header's four words come first, as in a sheet: the
+-- form, the count of symbols, w0, the count of rules.
 use mathlib.Core.List.{List, [], _∷_, _++_, map}
 use Prim.Native.Nat.{ℕ, suc, zero, _+_, _-_, _*_, _/_}
 use lib.Dec.{eqb}
@@ -21,20 +21,32 @@ abbrev pub symbolsAt : List ℕ → ℕ → ℕ → List Symbol
 symbolsAt table f zero = []
 symbolsAt table f (suc n) = symbolAt table f ∷ symbolsAt table (suc f) n
 
--- The weight of a variable.
+-- What the header says.
+abbrev pub symbolCountOf : List ℕ → ℕ
+symbolCountOf words = getD words 1 0
+
 abbrev pub weightOf : List ℕ → ℕ
-weightOf table = getD table 2 0
+weightOf words = getD words 2 0
+
+abbrev pub ruleCountOf : List ℕ → ℕ
+ruleCountOf words = getD words 3 0
 
 -- The last symbol's words may be fewer than four.
 unfoldable pub signatureOf : List ℕ → Signature
 signatureOf table = record { w0 = weightOf table; symbols = symbolsAt table 0 ((length table - 1) / 4) }
 
--- How many words a table of so many symbols has, and how many one may have.
+-- How many words a table of so many symbols has, how many one may have, and how many one of few symbols.
 unfoldable pub tableWords : ℕ → ℕ
 tableWords n = 4 + 4 * n
 
 abbrev pub maxTableWords : ℕ
 maxTableWords = 1024
+
+abbrev pub fewSymbols : ℕ
+fewSymbols = 31
+
+abbrev pub fewTableWords : ℕ
+fewTableWords = 128
 
 -- The words of the symbols in a sheet, and all words before the rules, of which the first is the form.
 abbrev pub symbolsWords : List Symbol → List ℕ

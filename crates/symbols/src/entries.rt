@@ -4,10 +4,16 @@ ghost use mathlib.Core.List.{[], _∷_};
 ghost use Prim.Native.Nat.{_+_, _≤_, _<_};
 ghost use lib.ListN.{length};
 ghost use lib.Seq.{sets};
-ghost use Rattle.symbols.specs.Table.{signatureOf, tableWords, maxTableWords};
+ghost use Rattle.symbols.specs.Table.{symbolCountOf, ruleCountOf, signatureOf, tableWords, maxTableWords};
+use crate::wide;
+use crate::word_at;
 
-// How many words a symbol table may have.
+// How many words a symbol table may have, and how many one of few symbols.
 pub const TABLE_WORDS: usize = 4 + 4 * format::MAX_SYMBOLS;
+
+pub const FEW_SYMBOLS: usize = 31;
+
+pub const FEW_TABLE_WORDS: usize = 4 + 4 * FEW_SYMBOLS;
 
 // How many words of a table so many symbols take.
 pub fn front(symbols: usize) -> usize
@@ -15,6 +21,20 @@ pub fn front(symbols: usize) -> usize
     ensures { λ r. ⌜ (r ≡ tableWords symbols) × (r ≤ maxTableWords) ⌝ }
 {
     4 + 4 * symbols
+}
+
+// The count of symbols by the header of a table, or of a sheet.
+pub fn symbol_count(words: &[u16]) -> usize
+    ensures { λ r. ⌜ r ≡ symbolCountOf (now (words .entry)) ⌝ }
+{
+    wide(word_at(words, 1))
+}
+
+// The count of rules by the header.
+pub fn rule_count(words: &[u16]) -> usize
+    ensures { λ r. ⌜ r ≡ ruleCountOf (now (words .entry)) ⌝ }
+{
+    wide(word_at(words, 3))
 }
 
 // How many symbols a table has.

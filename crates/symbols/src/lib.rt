@@ -16,11 +16,15 @@ use format::NODE_WORDS;
 mod entries;
 mod ranks;
 
+pub use crate::entries::FEW_SYMBOLS;
+pub use crate::entries::FEW_TABLE_WORDS;
 pub use crate::entries::TABLE_WORDS;
 pub use crate::entries::count;
 pub use crate::entries::front;
 pub use crate::entries::put_header;
 pub use crate::entries::put_symbol;
+pub use crate::entries::rule_count;
+pub use crate::entries::symbol_count;
 pub use crate::ranks::first_outranked;
 
 // The word as an index.

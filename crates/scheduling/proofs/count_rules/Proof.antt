@@ -12,12 +12,12 @@ returns c =
 
 returns-2 : tie.Need-returns-2
 returns-2 c =
-    let c3 = c .before .before .before in
-    let c7 = c3 .before .before .before .before in
-    let (file, end, read, parts) = rw (c3 .enum-told2 .given .1) at (c7 .read-packed .ensures) in
-    (file, end, read, c .wide .ensures .0 ∙ c .before .word-at .ensures ∙ rules-counted _ _ _ _ file _ _ parts)
+    let c2 = c .before .before in
+    let c6 = c2 .before .before .before .before in
+    let (file, end, read, parts) = rw (c2 .enum-told2 .given .1) at (c6 .read-packed .ensures) in
+    (file, end, read, c .rule-count .ensures ∙ rules-counted _ _ _ _ file _ _ parts)
 
 pub count-rules-spec : {M : Type 1} → statement M
 count-rules-spec =
     tie.close (tie.spec (λ c. search needs) (λ c. search needs) (λ c κs. search needs) (λ c. search needs)
-    (λ c. search needs) (λ c. search needs) (λ c κs. search needs) (λ c κs. search needs) returns returns-2)
+    (λ c. search needs) (λ c. search needs) (λ c κs. search needs) returns returns-2)

@@ -3,10 +3,9 @@ use mathlib.Core.Path.{sym}
 use native.Mathlib.Omega.{arith}
 use lib.Dec.{leb}
 use borrow.Author.Tests.{leb-true}
-use Rattle.symbols.proofs.EntryLaws.{table-le}
 use Rattle.reader.specs.Source.{sourceOf}
 use Rattle.reader.specs.File.{countsReader}
-use Rattle.reader.proofs.SourceLaws.{tested-field, reached-field, w0-stands, room-le}
+use Rattle.reader.proofs.SourceLaws.{tested-field, reached-field, room-fits}
 use Rattle.reader.proofs.FileLaws.{head-answer}
 use borrow.Author.Needs.{needs}
 use Rattle.reader.proofs.file.read_counts.Statement.{statement}
@@ -63,7 +62,12 @@ read-table-requires c κs =
     let reach = reached-field (a .packed) (a .book .now) (a .sheet .now) in
     let second = reach 1 8 _ _ _ (c16 .pre .0 .1) (count .0) in
     let few = rw (c10 .read .given .1) at (c12 .field-at-least .ensures .1) in (
-      (c16 .pre .0 .0, few, room-le (a .packed) _ _ (a .table .now) (table-le _ few) (c16 .pre .1)),
+      (
+        c16 .pre .0 .0,
+        few,
+        room-fits (a .packed) (a .book .now) (a .sheet .now) (a .table .now) _ _ _ _ (c16 .pre .1) (c16 .pre .0 .1)
+            (count .0) few,
+      ),
       (
         reach 3 10 _ _ _ (reach 2 16 _ _ _ second (w0 .0)) rules,
         rw (c .before .before .read3 .given .1) at (c4 .field .ensures .1),
@@ -93,10 +97,9 @@ returns-4 c reader taken =
     let some = rw (c5 .read3 .given .1) at (c7 .field .ensures .1) in
     rw (count-read, w0-read, rules) (head-answer (a .form) (a .packed) (a .book .now) (a .sheet .now) _ _ _ _
     (a .table .now) (c .before .before .read-table .last .1 .1 .1 .0) (c .before .before .read-table .result)
-    (c .before .before .read-table .ensures)
-    (w0-stands (a .packed) (a .book .now) (a .sheet .now) 16 _ _ _ second (w0 .0))
-    (c .before .before .read-table .kept .1 .1 .1 .0)
-    (room-le (a .packed) _ _ (a .table .now) (table-le _ few) (c19 .pre .1))
+    (c .before .before .read-table .ensures) (c .before .before .read-table .kept .1 .1 .1 .0)
+    (room-fits (a .packed) (a .book .now) (a .sheet .now) (a .table .now) _ _ _ _ (c19 .pre .1) (c19 .pre .0 .1)
+    (count .0) few)
     (reach 3 10 _ _ _ (reach 2 16 _ _ _ second (w0 .0)) rules) (c19 .pre .0 .0) few some (leb-true 1 _ (w0 .1))
     reader taken)
 

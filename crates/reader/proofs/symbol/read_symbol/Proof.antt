@@ -1,17 +1,20 @@
 -- The four fields are read and tested in the order of the definition; the entry is stored after the earlier ones.
-use mathlib.Core.Path.{refl, sym, _∙_}
+use mathlib.Core.Path.{_≡_, sym, ap, _∙_}
+use mathlib.Core.List.{List, [], _∷_, _++_}
+use Prim.Native.Nat.{ℕ, _+_}
 use native.Mathlib.Omega.{arith}
 use lib.Dec.{eqb}
 use lib.ListN.{length-set}
+use lib.Seq.{sets}
 use Rattle.terms.specs.Signature.{Symbol}
-use Rattle.symbols.specs.Table.{symbolsAt}
-use Rattle.symbols.proofs.EntryLaws.{entry-words}
+use Rattle.symbols.specs.Table.{symbolsAt, tableWords}
+use Rattle.symbols.proofs.EntryLaws.{symbols-put, entry-words}
 use Rattle.format.specs.Errors.{weightInadmissible, rankTaken}
 use Rattle.format.specs.Layout.{weightWidth, rankWidth}
 use Rattle.format.specs.Forms.{leastWeightIn}
-use Rattle.reader.specs.Source.{sourceOf, tableOf}
-use Rattle.reader.proofs.SourceLaws.{tested-field, entry-stands, reached-entry}
-use Rattle.reader.proofs.SymbolLaws.{not-false, symbol-parts, taken-put, stored-same}
+use Rattle.reader.specs.Source.{sourceOf}
+use Rattle.reader.proofs.SourceLaws.{tested-field, reached-entry}
+use Rattle.reader.proofs.SymbolLaws.{not-false, symbol-parts, taken-put}
 use Rattle.reader.proofs.SymbolLaws.{arity-unread, mark-unread, mark-refused, weight-unread, rank-unread}
 use borrow.Author.Needs.{needs}
 use Rattle.reader.proofs.symbol.read_symbol.Statement.{statement}
@@ -102,13 +105,13 @@ returns-5 c =
       c23 .pre .1 .1 .1,
     )
 
-cast-put-entry : tie.Need-cast-put-entry
-cast-put-entry c =
+cast-put-symbol : tie.Need-cast-put-symbol
+cast-put-symbol c =
     let c4 = c .before .before .before .before in
     omega (arith, rw (c .before .before .read4 .given .1) at (c4 .read-rank .ensures .1))
 
-put-entry-requires : tie.Need-put-entry-requires
-put-entry-requires c κs =
+put-symbol-requires : tie.Need-put-symbol-requires
+put-symbol-requires c κs =
     let c25 = c .before .before .before .before .before .before .before .before .before .before .before .before
     .before .before .before .before .before .before .before .before .before .before .before .before .before in
     (c25 .pre .0 .1, c25 .pre .0 .2)
@@ -135,7 +138,7 @@ returns-6 c =
     let c24 = c22 .before .before in
     let c28 = c24 .before .before .before .before in
     let a = c28 .args in
-    let earlier = symbolsAt (tableOf (a .packed) (a .sheet .now) (a .table .now)) 0 (a .number) in
+    let earlier = symbolsAt (a .table .now) 0 (a .number) in
     let arity = sym (rw (c22 .read .given .1) at (c24 .field .ensures .0)) in
     let ac = sym (rw (c18 .read2 .given .1) at (c20 .field2 .ensures .0)) in
     let binary = sym (c16 .binary-if-ac .ensures) ∙ not-false _ (c15 .if1 .left) in
@@ -154,9 +157,9 @@ returns-6 c =
     let source = sourceOf (a .packed) (a .book .now) (a .sheet .now) in
     let weighed = tested-field source weightWidth _ weightInadmissible _ _ _ weight .0 in
     let ranked = tested-field source rankWidth _ rankTaken _ _ _ rank .0 in
-    let stored = c .before .before .put-entry .ensures .0 (a .sheet .now) s refl
-    (entry-stands (a .packed) (a .book .now)
-    (a .sheet .now) (a .number) (a .at) _ _ _ _ _ _ _ _ (c28 .pre .1 .0) arity ac weighed ranked) in (
+    let put = c .before .before .put-symbol .ensures in
+    let stored : symbolsAt (c .before .before .put-symbol .last .0) 0 (a .number + 1) ≡ earlier ++ (s ∷ []) =
+    rw put (symbols-put (a .table .now) (a .number) _ _ _ _ (c28 .pre .0 .2)) in (
       (
         s,
         parts ∙ rw (arity, ac, binary, weight, rank),
@@ -164,8 +167,8 @@ returns-6 c =
         rw stored (taken-put earlier s (a .taken .now) (c28 .pre .1 .1 .1) small (c28 .pre .1 .1 .0)),
         reached-entry (a .packed) (a .book .now) (a .sheet .now) (a .number) (a .at) _ _ _ _ _ _ _ _ (c28 .pre .1 .0)
             arity ac weighed ranked,
-        stored-same (a .packed) _ _ _ _ _ (entry-words _ _ _ _ (rw (c18 .read2 .given .1) at (c20 .field2 .ensures .1)))
-            (c .before .before .put-entry .ensures .1),
+        put ∙ ap (λ (ws : List ℕ). sets (a .table .now) (tableWords (a .number)) ws)
+            (entry-words _ _ _ _ (rw (c18 .read2 .given .1) at (c20 .field2 .ensures .1))),
       ),
       simp length-set (c28 .pre .1 .1 .1),
     )
@@ -176,4 +179,4 @@ read-symbol-spec =
     (λ c κs. search needs) (λ c. search needs) (λ c. search needs) returns-2 cast-ac binary-if-ac-requires
     returns-3 least-weight-requires (λ c κs. search needs) (λ c κs. search needs) (λ c. search needs)
     (λ c. search needs) returns-4 cast-weight read-rank-requires (λ c. search needs) (λ c. search needs)
-    returns-5 cast-put-entry put-entry-requires element-write-taken (λ c. search needs) returns-6)
+    returns-5 cast-put-symbol put-symbol-requires element-write-taken (λ c. search needs) returns-6)

@@ -7,27 +7,26 @@ use Rattle.terms.specs.Signature.{Symbol}
 use Prim.Native.Nat.{_+_, _-_, _≤_}
 use native.Mathlib.Nat.{sub-zero}
 use lib.ListN.{length}
+use lib.Seq.{sets}
 use Rattle.format.specs.Forms.{leastWeightIn}
 use Rattle.format.specs.Symbols.{symbolsReader}
 use Rattle.symbols.specs.Table.{symbolsAt, tableWords, symbolsWords}
 use Rattle.symbols.proofs.TableLaws.{length-symbols}
-use Rattle.symbols.proofs.EntryLaws.{table-more, table-start}
-use Rattle.reader.specs.Source.{sourceOf, Reached, tableOf, Stored}
+use Rattle.symbols.proofs.EntryLaws.{table-more, table-start, entries-more}
+use Rattle.reader.specs.Source.{sourceOf, Reached}
 use Rattle.reader.specs.Symbol.{TakenBy}
-use Rattle.reader.proofs.SourceLaws.{room-le, room-same}
-use Rattle.reader.proofs.SymbolLaws.{taken-none, symbols-fault, symbols-past, symbols-done, stored-more}
-use Rattle.reader.proofs.SymbolLaws.{stored-none}
+use Rattle.reader.proofs.SymbolLaws.{taken-none, symbols-fault, symbols-past, symbols-done}
 use Rattle.reader.proofs.symbol.read_symbols_from.Statement.{statement}
 use Rattle.reader.proofs.symbol.read_symbols_from.Tie as tie
 
 abbrev Inv-loop : tie.InvT-loop
 Inv-loop book sheet packed table₀ form w0 count at taken₀ here₀ number₀ table taken here number =
     (number ≤ count) × (length table ≡ length table₀) × (length taken ≡ 256) ×
-    TakenBy (symbolsAt (tableOf packed sheet table) 0 number) taken ×
+    TakenBy (symbolsAt table 0 number) taken ×
     (symbolsReader (sourceOf packed book sheet) (leastWeightIn form w0) count [] at ≡
     symbolsReader (sourceOf packed book sheet) (leastWeightIn form w0) (count - number)
-    (symbolsAt (tableOf packed sheet table) 0 number) here) × Reached packed book sheet (tableWords number) here ×
-    Stored packed 4 (symbolsWords (symbolsAt (tableOf packed sheet table) 0 number)) table₀ table
+    (symbolsAt table 0 number) here) × Reached packed book sheet (tableWords number) here ×
+    (table ≡ sets table₀ 4 (symbolsWords (symbolsAt table 0 number)))
 
 abbrev μ-loop : tie.MeasureT-loop
 μ-loop book sheet packed table₀ form w0 count at taken₀ here₀ number₀ table taken here number = count - number
@@ -41,7 +40,7 @@ loop-holds c =
       taken-none,
       rw sub-zero,
       rw table-start (c3 .pre .1),
-      stored-none (c3 .args .packed) (c3 .args .table .now),
+      refl,
     )
 
 read-symbol-requires : tie.Need-read-symbol-requires Inv-loop μ-loop
@@ -54,7 +53,7 @@ read-symbol-requires c κs =
       (
         c7 .pre .0 .0,
         omega arith,
-        room-le (a .packed) _ _ _ more (room-same (a .packed) _ (a .table .now) _ (v .1) (c7 .pre .0 .2)),
+        omega (arith, more, v .1, c7 .pre .0 .2),
       ),
       (v .5, (v .3, v .2)),
     )
@@ -74,7 +73,7 @@ returns c =
     let least = leastWeightIn (a .form) (a .w0) in
     let v = c9 .loop .inv in
     v .4 ∙ symbols-fault (sourceOf (a .packed) (a .book .now) (a .sheet .now)) least (a .count) (c9 .loop .number)
-    (omega arith) (symbolsAt (tableOf (a .packed) (a .sheet .now) (c9 .loop .table)) 0 (c9 .loop .number))
+    (omega arith) (symbolsAt (c9 .loop .table) 0 (c9 .loop .number))
     (c9 .loop .here) _ _
     (rw (c .before .offset .given .1) at (c5 .read-symbol .ensures .0))
 
@@ -92,14 +91,14 @@ loop-again c =
       c5 .read-symbol .ensures .1,
       taken,
       v .4 ∙ symbols-past (sourceOf (a .packed) (a .book .now) (a .sheet .now)) least (a .count) (c9 .loop .number)
-          (omega arith) (symbolsAt (tableOf (a .packed) (a .sheet .now) (c9 .loop .table)) 0 (c9 .loop .number))
+          (omega arith) (symbolsAt (c9 .loop .table) 0 (c9 .loop .number))
           (c9 .loop .here) s _ read ∙
           ap (λ (ss : List Symbol). symbolsReader (sourceOf (a .packed) (a .book .now) (a .sheet .now)) least
           (a .count - (c9 .loop .number + 1)) ss (c .before .value .given .0 .1 .0)) (sym stored),
       reached,
-      rw stored (stored-more (a .packed) (a .table .now) (c9 .loop .table) _ (c9 .loop .number)
-          (symbolsAt (tableOf (a .packed) (a .sheet .now) (c9 .loop .table)) 0 (c9 .loop .number)) s
-          (sym (length-symbols (tableOf (a .packed) (a .sheet .now) (c9 .loop .table)) 0 (c9 .loop .number))) (v .6)
+      rw stored (entries-more (a .table .now) (c9 .loop .table) _ (c9 .loop .number)
+          (symbolsAt (c9 .loop .table) 0 (c9 .loop .number)) s
+          (sym (length-symbols (c9 .loop .table) 0 (c9 .loop .number))) (v .6)
           put),
     )
 
@@ -116,7 +115,7 @@ returns-2 c =
     let e : number ≡ a .count = omega arith in
     let z : a .count - number ≡ 0 = omega arith in (
       v .4 ∙ symbols-done (sourceOf (a .packed) (a .book .now) (a .sheet .now)) least (a .count - number)
-          (symbolsAt (tableOf (a .packed) (a .sheet .now) (c .before .loop .table)) 0 number)
+          (symbolsAt (c .before .loop .table) 0 number)
           (c .before .loop .here) z ∙ rw e,
       sym (length-symbols _ 0 (a .count)),
       rw e at (v .6),

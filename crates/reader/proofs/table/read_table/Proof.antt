@@ -1,7 +1,7 @@
 -- The symbols are read, and then the first that is outranked is looked for.
 use native.Mathlib.Omega.{arith}
 use Rattle.symbols.proofs.TableLaws.{length-symbols}
-use Rattle.reader.specs.Source.{sourceOf, tableOf}
+use Rattle.reader.specs.Source.{sourceOf}
 use Rattle.reader.proofs.SourceLaws.{reached-le}
 use Rattle.reader.proofs.SymbolLaws.{table-unread, table-outranked, table-ranked}
 use borrow.Author.Needs.{needs}
@@ -29,10 +29,10 @@ returns-2 c =
     let c8 = c4 .before .before .before .before in
     let c13 = c8 .before .before .before .before .before in
     let a = c13 .args in
-    let table = tableOf (a .packed) (a .sheet .now) (c8 .read-symbols .last .1 .1 .1 .0) in
+    let table = c8 .read-symbols .last .1 .1 .1 .0 in
     let read = rw (c4 .enum-told .given .1) at (c8 .read-symbols .ensures) in
     table-outranked (sourceOf (a .packed) (a .book .now) (a .sheet .now)) _ (a .count) (a .at) _ _ (read .0) _
-    (c .before .before .outranked-in .ensures) (omega (arith, length-symbols table 0 (a .count))) _
+    (c .before .before .first-outranked .ensures) (omega (arith, length-symbols table 0 (a .count))) _
     (c .weight-offset .ensures (a .book .now) (a .sheet .now))
 
 returns-3 : tie.Need-returns-3
@@ -42,11 +42,11 @@ returns-3 c =
     let c12 = c7 .before .before .before .before .before in
     let a = c12 .args in
     let told = c3 .enum-told .given .1 in
-    let table = tableOf (a .packed) (a .sheet .now) (c7 .read-symbols .last .1 .1 .1 .0) in
+    let table = c7 .read-symbols .last .1 .1 .1 .0 in
     let read = rw told at (c7 .read-symbols .ensures) in
     rw told (
       table-ranked (sourceOf (a .packed) (a .book .now) (a .sheet .now)) _ (a .count) (a .at) _ _ (read .0) _
-          (c .before .outranked-in .ensures) (omega (arith, length-symbols table 0 (a .count))),
+          (c .before .first-outranked .ensures) (omega (arith, length-symbols table 0 (a .count))),
       read .1,
       read .2,
     )

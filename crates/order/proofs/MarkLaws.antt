@@ -31,9 +31,9 @@ use Rattle.operations.specs.Comparing.{relation}
 use Rattle.terms.specs.Marks.{isDecreasing}
 use Rattle.symbols.specs.Table.{signatureOf}
 use Rattle.subterms.proofs.PartLaws.{symbol}
-use Rattle.order.specs.Compared.{higherMark, rootAt}
-use Rattle.order.proofs.RootLaws.{root-variable}
-use Rattle.order.proofs.GreaterLaws.{byNone, root, unfolds}
+use Rattle.extensions.specs.Compared.{higherMark, rootAt}
+use Rattle.extensions.proofs.RootLaws.{root-variable}
+use Rattle.extensions.proofs.GreaterLaws.{byNone, root, unfolds}
 use Rattle.order.proofs.EquivalentLaws.{level, mark-of-equivalent}
 
 abbrev byMark : ℕ → Bool → ℕ → ℕ → Bool → ℕ

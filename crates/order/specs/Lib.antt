@@ -1,3 +1,2 @@
--- What the contracts of the comparison by the order say.
-pub mod Compared
+-- What the contracts of the comparison of whole terms say.
 pub mod Whole

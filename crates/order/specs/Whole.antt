@@ -13,7 +13,7 @@ use Rattle.symbols.specs.Table.{signatureOf}
 use Rattle.reader.specs.Promise.{Decoded}
 use Rattle.weights.specs.declared.totals.Totals.{Totals}
 use Rattle.weights.specs.Totals.{Totalled}
-use Rattle.order.specs.Compared.{weightAt, noneOftenerAt}
+use Rattle.extensions.specs.Compared.{weightAt, noneOftenerAt}
 
 module _ (table : List ℕ) where
   abbrev σ : Signature

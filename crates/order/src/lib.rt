@@ -1,9 +1,5 @@
-// The AC-compatible Knuth-Bendix order on decoded terms: node words in prefix order, with the keys and the sums of all
-// parts beside them. Throughout, s and t are the words of the left and of the right term, skeys and tkeys their keys,
-// ssums and tsums their sums by offset, stotal and ttotal their totals; shigh, slow and svars are the offsets of the
-// elements of a flattening on the left that stand above its symbol, below it, and are variables, thigh, tlow and tvars
-// those on the right.
-pub mod compare;
+// The AC-compatible Knuth-Bendix order on whole decoded terms: their mark and their relation. Throughout, s and t are
+// the node words of the left and of the right term, skeys and tkeys their keys, ssums and tsums their sums by offset,
+// stotal and ttotal their totals.
 pub mod mark;
-pub mod parts;
 pub mod relation;

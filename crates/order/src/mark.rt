@@ -1,9 +1,9 @@
 // The mark of two whole terms.
-use crate::compare::flattened;
-use crate::compare::higher;
-use crate::compare::rows_greater;
 use equivalence::equivalence::equivalent;
 use equivalence::keys::prepare;
+use extensions::compare::flattened;
+use extensions::compare::higher;
+use extensions::compare::rows_greater;
 use format::MAX_NODES;
 use format::VARIABLES;
 use measures::SUMS;
@@ -22,7 +22,7 @@ ghost use Rattle.reader.specs.Promise.{Decoded};
 ghost use Rattle.weights.specs.Nodes.{NodeSums};
 ghost use Rattle.weights.specs.Totals.{Totalled};
 ghost use Rattle.measures.specs.Sums.{Scale};
-ghost use Rattle.order.specs.Compared.{higherMark, rootAt};
+ghost use Rattle.extensions.specs.Compared.{higherMark, rootAt};
 ghost use Rattle.order.specs.Whole.{SameRoot, markOf};
 
 // The mark by the arguments of two whole terms with the same root: 3 to 6, or 0.

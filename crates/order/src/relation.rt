@@ -16,7 +16,7 @@ ghost use Rattle.reader.specs.Promise.{Decoded};
 ghost use Rattle.weights.specs.Nodes.{NodeSums};
 ghost use Rattle.weights.specs.Totals.{Totalled};
 ghost use Rattle.measures.specs.Sums.{SummedUp, Scale};
-ghost use Rattle.order.specs.Compared.{greaterAt};
+ghost use Rattle.extensions.specs.Compared.{greaterAt};
 ghost use Rattle.order.specs.Whole.{Level, relationOf};
 
 // Is the left one greater, of two terms of equal weight with the same root that are prepared?

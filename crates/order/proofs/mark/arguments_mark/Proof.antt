@@ -3,8 +3,8 @@
 use mathlib.Core.Path.{sym, _∙_}
 use Rattle.symbols.proofs.TableLaws.{few-at}
 use Rattle.equivalence.proofs.AlikeLaws.{ac-small}
-use Rattle.order.proofs.MeasureLaws.{inner-rows, inner-elements}
-use Rattle.order.proofs.RootLaws.{root-elements, root-row}
+use Rattle.extensions.proofs.MeasureLaws.{inner-rows, inner-elements}
+use Rattle.extensions.proofs.RootLaws.{root-elements, root-row}
 use borrow.Author.Needs.{needs}
 use Rattle.order.proofs.mark.arguments_mark.Statement.{statement}
 use Rattle.order.proofs.mark.arguments_mark.Tie as tie

@@ -6,11 +6,11 @@ use mathlib.Core.Path.{_≡_, sym, _∙_}
 use Prim.Native.Nat.{ℕ}
 use lib.ListN.{getD}
 use Rattle.symbols.proofs.TableLaws.{few-at}
-use Rattle.order.specs.Compared.{weightAt, noneOftenerAt, higherMark, isHigher, rootAt}
+use Rattle.extensions.specs.Compared.{weightAt, noneOftenerAt, higherMark, isHigher, rootAt}
 use Rattle.reader.specs.Promise.{Decoded}
 use Rattle.terms.proofs.OftenerLaws.{oftener-none}
 use Rattle.equivalence.proofs.AlikeLaws.{roots-differ}
-use Rattle.order.proofs.RootLaws.{root-differing}
+use Rattle.extensions.proofs.RootLaws.{root-differing}
 use Rattle.order.proofs.MarkLaws.{whole-seven, whole-one, whole-eight, whole-higher, whole-ten}
 use Rattle.order.proofs.WholeLaws.{table-small, left-some, right-some, left-complete, right-complete}
 use borrow.Author.Needs.{needs}

@@ -3,7 +3,7 @@ use mathlib.Core.Path.{ap}
 use lib.Dec.{ltb}
 use Rattle.terms.proofs.OftenerLaws.{oftener-none}
 use Rattle.symbols.proofs.TableLaws.{table-ones}
-use Rattle.order.proofs.GreaterLaws.{greater-oftener, greater-level}
+use Rattle.extensions.proofs.GreaterLaws.{greater-oftener, greater-level}
 use Rattle.order.proofs.WholeLaws.{left-some, right-some}
 use Rattle.order.proofs.relation.greater_level.Statement.{statement}
 use Rattle.order.proofs.relation.greater_level.Tie as tie

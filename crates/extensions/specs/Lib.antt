@@ -1,0 +1,2 @@
+-- What the contracts of the comparison of parts say.
+pub mod Compared

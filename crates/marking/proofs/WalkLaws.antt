@@ -1,10 +1,9 @@
 -- The walk over the rules of a file: what a loop has read, counted and stored, and what that says of the file.
---     decreasing-one, -none, -append                        how many marks are those of the order
+--     decreasing-append                                     how many marks are those of the order
 --     ListedSoFar, listed-none, listed-fault, listed-more, listed-all     the loop
 --     stored-front, marks-sides, marked-as                  what was stored first; a file whose rules are listed
 use mathlib.Core.List.{List, [], _∷_, _++_, map, map-append}
 use mathlib.Core.Path.{_≡_, refl, sym, ap, _∙_}
-use mathlib.Core.Bool.{true, false}
 use Prim.Native.Nat.{ℕ, _+_, _≤_, _<_}
 use native.Mathlib.Omega.{arith}
 use lib.IntN.{ℤ}
@@ -29,12 +28,6 @@ abbrev pub sidesThemselves : Sides → Sides
 sidesThemselves sides = sides
 
 -- ---- how many marks are those of the order
-
-pub decreasing-one : (m : ℕ) → isDecreasing m ≡ true → decreasingCount (m ∷ []) ≡ 1
-decreasing-one m e = rw e
-
-pub decreasing-none : (m : ℕ) → isDecreasing m ≡ false → decreasingCount (m ∷ []) ≡ 0
-decreasing-none m e = rw e
 
 decreasing-append : (l m : List ℕ) → decreasingCount (l ++ m) ≡ decreasingCount l + decreasingCount m
 decreasing-append l m = ap length (choose-append isDecreasing l m) ∙ length-append (choose isDecreasing l)

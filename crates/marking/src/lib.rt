@@ -1,5 +1,4 @@
 // Marking the rules of a rule file, and the text that `marker` prints.
-pub mod lines;
 pub mod mark;
 pub mod one;
 pub mod report;

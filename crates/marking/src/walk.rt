@@ -1,15 +1,14 @@
 // The walk over the rules of a packed file: each is read and marked, and its mark and margin are stored.
 ghost use mathlib.Core.Path.{_≡_};
-ghost use mathlib.Core.List.{[], _∷_};
+ghost use mathlib.Core.List.{[]};
 ghost use mathlib.Core.Bool.{true};
 ghost use Prim.Native.Nat.{ℕ, _*_, _≤_, _<_};
-ghost use lib.ListN.{length, set};
+ghost use lib.ListN.{length};
 ghost use Rattle.format.specs.Layout.{formNumber, maxBytes};
 ghost use Rattle.format.specs.Reading.{bitSource};
 ghost use Rattle.format.specs.Forms.{isTaken, unusedOf};
 ghost use Rattle.format.specs.Format.{rulesReader};
 ghost use Rattle.format.specs.Files.{readBytes};
-ghost use Rattle.operations.specs.Marking.{decreasingCount};
 ghost use Rattle.symbols.specs.Table.{signatureOf};
 ghost use Rattle.symbols.specs.Arities.{Arities};
 ghost use Rattle.answers.specs.Answer.{Within};
@@ -21,40 +20,14 @@ ghost use Rattle.marking.specs.Rule.{AllMarked, WholeMarked};
 use crate::rule::RuleReading;
 use bits::BitCursor;
 use bits::Read;
+use marks::decreases;
+use marks::put_margin;
+use marks::put_mark;
 
 // How many rules a file has and how many of them decrease, or an error's code and offset.
 pub enum FileMarked {
     Marked { rules: usize, decreasing: usize },
     Fault { code: u8, offset: usize },
-}
-
-// 1 for a mark of the order, 0 for another.
-fn decreases(mark: u8) -> usize
-    ensures { λ r. ⌜ r ≡ decreasingCount (mark ∷ []) ⌝ }
-    ensures { λ r. ⌜ r ≤ 1 ⌝ }
-{
-    if order::mark::is_decreasing(mark) {
-        1
-    } else {
-        0
-    }
-}
-
-// Stores the mark of a rule.
-fn put_mark(marks: &mut [u8], index: usize, mark: u8)
-    requires { ⌜ index < length (now marks) ⌝ }
-    ensures { λ _. ⌜ now (marks .exit) ≡ set (now (marks .entry)) index mark ⌝ }
-{
-    marks[index] = mark;
-}
-
-// Stores a margin, where there is room for it.
-fn put_margin(margins: &mut [i64], index: usize, margin: i64)
-    ensures { λ _. ⌜ now (margins .exit) ≡ set (now (margins .entry)) index margin ⌝ }
-{
-    if index < margins.len() {
-        margins[index] = margin;
-    }
 }
 
 // Reads that many rules, marks them and counts those that decrease; the value is that count.

@@ -14,7 +14,6 @@ use weights::totals::first_oftener;
 ghost use mathlib.Core.Path.{_≡_};
 ghost use Prim.Native.Nat.{_<_};
 ghost use lib.ListN.{length, getD};
-ghost use Rattle.terms.specs.Marks.{isDecreasing};
 ghost use Rattle.symbols.specs.Table.{signatureOf};
 ghost use Rattle.equivalence.specs.Keys.{BothPrepared};
 ghost use Rattle.equivalence.specs.Offsets.{alikeAt};
@@ -100,19 +99,6 @@ fn higher_mark(g: u16) -> u8
         return operations::FALLS_BY_WRAPPING;
     }
     operations::FALLS_BY_RANK
-}
-
-// Is it a mark of the order?
-pub fn is_decreasing(mark: u8) -> bool
-    ensures { λ r. ⌜ r ≡ isDecreasing mark ⌝ }
-{
-    if mark == 0 {
-        return false;
-    }
-    if mark <= operations::FALLS_BY_LOW_TERMS {
-        return true;
-    }
-    mark == operations::FALLS_BY_WRAPPING
 }
 
 // The mark of two terms with these totals, 1 to 11.

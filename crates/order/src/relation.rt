@@ -1,10 +1,10 @@
 // The relation of two whole terms.
 use crate::mark::arguments_mark;
-use crate::mark::is_decreasing;
 use crate::mark::mark;
 use crate::mark::prepare_both;
 use format::MAX_NODES;
 use format::VARIABLES;
+use marks::is_decreasing;
 use measures::SUMS;
 use operations::Relation;
 use weights::NODE_SUMS;

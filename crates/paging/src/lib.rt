@@ -110,7 +110,7 @@ pub fn board(book: &[u8], out: &mut [u8; PAGE_BYTES]) -> usize
     match page(book, out) {
         NumberReply::Accepted(count) => count,
         NumberReply::Refused(error) => {
-            marking::lines::put_refusal(out, marking::lines::long(error.code), error.offset as u64)
+            lines::put_refusal(out, lines::long(error.code), error.offset as u64)
         }
     }
 }

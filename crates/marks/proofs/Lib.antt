@@ -1,0 +1,2 @@
+-- What the count of a mark's proof cites.
+mod CountLaws

@@ -156,15 +156,19 @@ module _ (source : Source) (least : ℕ → ℕ) (count at : ℕ) where
     unfolding symbolTableReader
     table-ranked h = rw (e, eq-eqb (firstOutranked ss) (length ss) (omega (arith, outranked-le ss ss)))
 
--- The symbols are stored after the header.
-pub symbols-headed : (form count w0 rules : ℕ) (reading : Reading (List Symbol)) (r : Answer) (ss : List Symbol)
-    (table headed after : List ℕ) → headed ≡ sets table 0 (form ∷ count ∷ w0 ∷ rules ∷ []) →
-    SymbolsRead reading (λ (ss : List Symbol). Stored true 4 (symbolsWords ss) headed after) r ss →
+-- The symbols are stored after the header; what else is known of them stays known.
+pub symbols-headed : (form count w0 rules : ℕ) (reading : Reading (List Symbol)) (Known : List Symbol → Type 0)
+    (r : Answer) (ss : List Symbol) (table headed after : List ℕ) →
+    headed ≡ sets table 0 (form ∷ count ∷ w0 ∷ rules ∷ []) →
+    SymbolsRead reading (λ (ss : List Symbol). Stored true 4 (symbolsWords ss) headed after × Known ss) r ss →
     SymbolsRead reading
-    (λ (ss : List Symbol). Stored true 0 (form ∷ count ∷ w0 ∷ rules ∷ symbolsWords ss) table after) r ss
-symbols-headed form count w0 rules reading (Got value next) ss table headed after e (read, all, stored) =
-    (read, all, stored ∙ rw e (sym (sets-append table 0 (form ∷ count ∷ w0 ∷ rules ∷ []) (symbolsWords ss))))
-symbols-headed form count w0 rules reading (Fault offset code) ss table headed after e read = read
+    (λ (ss : List Symbol). Stored true 0 (form ∷ count ∷ w0 ∷ rules ∷ symbolsWords ss) table after × Known ss) r ss
+symbols-headed form count w0 rules reading Known (Got value next) ss table headed after e (read, all, (put, known)) = (
+  read,
+  all,
+  (put ∙ rw e (sym (sets-append table 0 (form ∷ count ∷ w0 ∷ rules ∷ []) (symbolsWords ss))), known),
+)
+symbols-headed form count w0 rules reading Known (Fault offset code) ss table headed after e read = read
 
 pub stored-same : (packed : Bool) (index : ℕ) (words other before after : List ℕ) → words ≡ other →
     Stored packed index words before after → Stored packed index other before after
@@ -208,26 +212,26 @@ module _ (source : Source) (least : ℕ → ℕ) (earlier : List Symbol) (at : �
           symbol-parts source least earlier at
           ∙ rw (sym (rw e at f), sym (rw g at h), sym binary ∙ not-true b wrong)
 
-      pub weight-unread : not b ≡ false → (l k : ℕ) → l ≡ k → k ≡ least arity → (z : Read)
-          (code offset : ℕ) → z ≡ read.Fault offset code →
-          readingOf (λ (v : ℕ). v) (told z) ≡ tested source weightWidth (leb l) weightInadmissible (m .at) →
-          symbol ≡ fault code offset
-      weight-unread right l k p q z code offset i j =
-          symbol-parts source least earlier at
-          ∙ rw (sym (rw e at f), sym (rw g at h), sym binary ∙ not-false b right, sym (rw (i, p ∙ q) at j))
+      abbrev Tested : Read → Type 0
+      Tested z =
+          readingOf (λ (v : ℕ). v) (told z) ≡ tested source weightWidth (leb (least arity)) weightInadmissible (m .at)
 
-      pub rank-unread : not b ≡ false → (l k : ℕ) → l ≡ k → k ≡ least arity → (z : Read) (weight : ℕ) (o : BitCursor) →
-          z ≡ read.Got weight o → readingOf (λ (v : ℕ). v) (told z) ≡ tested source weightWidth (leb l)
-          weightInadmissible (m .at) →
+      pub weight-unread : not b ≡ false → (z : Read) (code offset : ℕ) → z ≡ read.Fault offset code → Tested z →
+          symbol ≡ fault code offset
+      weight-unread right z code offset i j =
+          symbol-parts source least earlier at
+          ∙ rw (sym (rw e at f), sym (rw g at h), sym binary ∙ not-false b right, sym (rw i at j))
+
+      pub rank-unread : not b ≡ false → (z : Read) (weight : ℕ) (o : BitCursor) → z ≡ read.Got weight o → Tested z →
           (taken : List Bool) → TakenBy earlier taken → (r : Read) (code offset : ℕ) → r ≡ read.Fault offset code →
           ((es : List Symbol) → TakenBy es taken → readingOf (λ (v : ℕ). v) (told r)
           ≡ tested source rankWidth (λ (rank : ℕ). not (heldBy es rank)) rankTaken (o .at)) → symbol ≡ fault code offset
-      rank-unread right l k p q z weight o i j taken t r code offset u v =
+      rank-unread right z weight o i j taken t r code offset u v =
           symbol-parts source least earlier at
           ∙ rw (
             sym (rw e at f),
             sym (rw g at h),
             sym binary ∙ not-false b right,
-            sym (rw (i, p ∙ q) at j),
+            sym (rw i at j),
             sym (rw u at (v earlier t)),
           )

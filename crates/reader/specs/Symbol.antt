@@ -1,8 +1,9 @@
 -- What the answers of reading the symbols stand for.
 use mathlib.Core.Path.{_≡_}
 use mathlib.Core.List.{List, [], _∷_, _++_}
-use mathlib.Core.Bool.{Bool, false}
+use mathlib.Core.Bool.{Bool, false, _&&_, _||_}
 use Prim.Native.Nat.{ℕ, _<_}
+use lib.Dec.{eqb}
 use lib.ListN.{length, getD}
 use Rattle.terms.specs.Signature.{Symbol}
 use Rattle.format.specs.Reading.{Reading}
@@ -14,6 +15,19 @@ use Rattle.answers.specs.declared.Answer.the-variants.{Got, Fault}
 -- The ranks that are marked are those of the symbols.
 abbrev pub TakenBy : List Symbol → List Bool → Type 0
 TakenBy symbols taken = (rank : ℕ) → rank < 256 → getD taken rank false ≡ heldBy symbols rank
+
+-- 02: the symbol is a wrapper; one of the symbols is.
+abbrev pub isZeroWeightUnary : Symbol → Bool
+isZeroWeightUnary s = eqb (s .arity) 1 && eqb (s .weight) 0
+
+abbrev pub hasZeroWeightUnary : List Symbol → Bool
+hasZeroWeightUnary [] = false
+hasZeroWeightUnary (s ∷ ss) = isZeroWeightUnary s || hasZeroWeightUnary ss
+
+-- The flag before and after the weight of a symbol of that arity: set where it was, and by a weight of 0 of arity 1.
+abbrev pub Weighed : ℕ → Bool → Answer → Bool → Type 0
+Weighed arity before (Got weight next) after = after ≡ (before || (eqb arity 1 && eqb weight 0))
+Weighed arity before (Fault offset code) after = Unit {0}
 
 -- What is read after the earlier symbols, where it ends and what is stored of it, the answer, and the symbols and the
 -- marks afterwards.

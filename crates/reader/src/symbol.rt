@@ -1,7 +1,7 @@
 // The symbol table of a rule file: a symbol's entry, and all of them into a table.
 ghost use mathlib.Core.Path.{_≡_};
 ghost use mathlib.Core.List.{List, [], _∷_, _++_, map};
-ghost use mathlib.Core.Bool.{false, not};
+ghost use mathlib.Core.Bool.{false, _||_, not};
 ghost use Prim.Native.Nat.{ℕ, _+_, _≤_, _<_};
 ghost use lib.Dec.{eqb};
 ghost use lib.ListN.{length};
@@ -16,8 +16,9 @@ ghost use Rattle.answers.specs.Answer.{readingOf, Below};
 ghost use Rattle.bits.specs.Cursor.{told};
 ghost use Rattle.reader.specs.Source.{sourceOf, Reached, tableOf, Room, Stored, tested};
 ghost use Rattle.reader.specs.File.{storedForm};
-ghost use Rattle.reader.specs.Symbol.{TakenBy, SymbolPut, SymbolsRead};
+ghost use Rattle.reader.specs.Symbol.{TakenBy, isZeroWeightUnary, hasZeroWeightUnary, SymbolPut, SymbolsRead};
 use crate::field::field;
+use crate::weight::read_weight;
 use bits::BitCursor;
 use bits::Read;
 use format::RANKS;
@@ -79,13 +80,15 @@ fn put_entry(
     }
 }
 
-// Reads the symbol of that number, of a packed file into the table, after those before it, and marks its rank.
+// Reads the symbol of that number, of a packed file into the table, after those before it, and marks its rank. The flag
+// is set if it has arity 1 and weighs 0.
 fn read_symbol(
     book: &[u8],
     sheet: &[u16],
     packed: bool,
     table: &mut [u16],
     taken: &mut [bool; RANKS],
+    weightless: &mut bool,
     form: u16,
     w0: u16,
     number: usize,
@@ -103,7 +106,7 @@ fn read_symbol(
         (symbolsAt (tableOf packed (now (sheet .entry)) (now (table .entry))) 0 number)
         (Reached packed (now (book .entry)) (now (sheet .entry)) (tableWords (number + 1)))
         (λ (s : Symbol). Stored packed (tableWords number) (map itemWord (symbolItems s)) (now (table .entry))
-        (now (table .exit))) (told r)
+        (now (table .exit)) × (now (weightless .exit) ≡ (now (weightless .entry) || isZeroWeightUnary s))) (told r)
         (symbolsAt (tableOf packed (now (sheet .entry)) (now (table .exit))) 0 (number + 1)) (now (taken .exit))
         ⌝ }
     ensures { λ r. ⌜ length (now (taken .exit)) ≡ 256 ⌝ }
@@ -123,16 +126,7 @@ fn read_symbol(
         let code = format::AC_NOT_BINARY;
         return Read::Fault { code, offset };
     }
-    let least = symbols::wide(symbols::least_weight(form, w0, arity));
-    let read = crate::field::field_at_least(
-        book,
-        sheet,
-        packed,
-        cursor,
-        format::WEIGHT_WIDTH,
-        least,
-        format::WEIGHT_INADMISSIBLE,
-    );
+    let read = read_weight(book, sheet, packed, form, w0, arity, weightless, cursor);
     let Read::Got { value, cursor } = read else {
         return read;
     };
@@ -146,24 +140,27 @@ fn read_symbol(
     read
 }
 
-// Reads that many symbols, those of a packed file into the table; the value is their number.
+// Reads that many symbols, those of a packed file into the table; the value is their number, and the flag is set if one
+// has arity 1 and weighs 0.
 fn read_symbols_from(
     book: &[u8],
     sheet: &[u16],
     packed: bool,
     table: &mut [u16],
+    weightless: &mut bool,
     form: u16,
     w0: u16,
     count: usize,
     cursor: BitCursor,
 ) -> Read
     requires { ⌜ (length (now book) ≤ maxBytes) × (count < 256) × Room packed (tableWords count) (now table) ⌝ }
-    requires { ⌜ Reached packed (now book) (now sheet) 4 (cursor .at) ⌝ }
+    requires { ⌜ Reached packed (now book) (now sheet) 4 (cursor .at) × (now weightless ≡ false) ⌝ }
     ensures { λ r. ⌜
         SymbolsRead
         (symbolsReader (sourceOf packed (now (book .entry)) (now (sheet .entry))) (leastWeightIn form w0) count []
         (cursor .at))
-        (λ (ss : List Symbol). Stored packed 4 (symbolsWords ss) (now (table .entry)) (now (table .exit))) (told r)
+        (λ (ss : List Symbol). Stored packed 4 (symbolsWords ss) (now (table .entry)) (now (table .exit))
+        × (now (weightless .exit) ≡ hasZeroWeightUnary ss)) (told r)
         (symbolsAt (tableOf packed (now (sheet .entry)) (now (table .exit))) 0 count)
         ⌝ }
 {
@@ -177,6 +174,7 @@ fn read_symbols_from(
             packed,
             table,
             &mut taken,
+            weightless,
             form,
             w0,
             number,
@@ -210,6 +208,7 @@ pub fn read_symbols(
     sheet: &[u16],
     packed: bool,
     table: &mut [u16],
+    weightless: &mut bool,
     form: u16,
     w0: u16,
     count: usize,
@@ -217,19 +216,41 @@ pub fn read_symbols(
     cursor: BitCursor,
 ) -> Read
     requires { ⌜ (length (now book) ≤ maxBytes) × (count < 256) × Room packed (tableWords count) (now table) ⌝ }
-    requires { ⌜ Reached packed (now book) (now sheet) 4 (cursor .at) × (rules < 1024) ⌝ }
+    requires { ⌜
+        Reached packed (now book) (now sheet) 4 (cursor .at) × (rules < 1024) × (now weightless ≡ false)
+        ⌝ }
     ensures { λ r. ⌜
         SymbolsRead
         (symbolsReader (sourceOf packed (now (book .entry)) (now (sheet .entry))) (leastWeightIn form w0) count []
         (cursor .at))
         (λ (ss : List Symbol). Stored packed 0 (storedForm form ∷ count ∷ w0 ∷ rules ∷ symbolsWords ss)
-        (now (table .entry)) (now (table .exit))) (told r)
+        (now (table .entry)) (now (table .exit)) × (now (weightless .exit) ≡ hasZeroWeightUnary ss)) (told r)
         (symbolsAt (tableOf packed (now (sheet .entry)) (now (table .exit))) 0 count)
         ⌝ }
 {
     if packed {
         symbols::put_header(table, stored_form(form), count as u16, w0, rules as u16);
-        return read_symbols_from(book, sheet, true, table, form, w0, count, cursor);
+        return read_symbols_from(
+            book,
+            sheet,
+            true,
+            table,
+            weightless,
+            form,
+            w0,
+            count,
+            cursor,
+        );
     }
-    read_symbols_from(book, sheet, false, table, form, w0, count, cursor)
+    read_symbols_from(
+        book,
+        sheet,
+        false,
+        table,
+        weightless,
+        form,
+        w0,
+        count,
+        cursor,
+    )
 }

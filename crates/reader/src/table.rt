@@ -1,5 +1,5 @@
-// The symbol table of a rule file with what is tested after its last symbol: one of arity 1 that weighs 0 is to be
-// ranked above every other.
+// The symbol table of a rule file with what is tested after its last symbol: one of arity 1 that weighs 0, if there is
+// one, is to be ranked above every other.
 ghost use mathlib.Core.Path.{_≡_};
 ghost use mathlib.Core.List.{List, _∷_};
 ghost use Prim.Native.Nat.{ℕ, _*_, _≤_, _<_};
@@ -66,11 +66,13 @@ pub fn read_table(
         (symbolsAt (tableOf packed (now (sheet .entry)) (now (table .exit))) 0 count)
         ⌝ }
 {
+    let mut weightless = false;
     let read = crate::symbol::read_symbols(
         book,
         sheet,
         packed,
         table,
+        &mut weightless,
         form,
         w0,
         count,
@@ -80,6 +82,9 @@ pub fn read_table(
     let Read::Got { .. } = read else {
         return read;
     };
+    if !weightless {
+        return read;
+    }
     let low = outranked_in(sheet, packed, table, count);
     if low < count {
         let code = format::WEIGHT_INADMISSIBLE;

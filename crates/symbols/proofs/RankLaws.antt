@@ -1,10 +1,9 @@
 -- The ranks of the symbols of a table, one by one.
 --     Unranked: unranked-none, unranked-more, unranked-found, unranked-done     a search for a higher rank
---     weighs-something                          a symbol of another arity, or that weighs more, is not too low
 --     Searched: searched-none, searched-more, searched-found, searched-done     a search for a symbol that is outranked
-use mathlib.Core.Path.{_≡_, refl, sym, _∙_}
+use mathlib.Core.Path.{_≡_, _∙_}
 use mathlib.Core.List.{List}
-use mathlib.Core.Bool.{Bool, true, false, _&&_, false≢true}
+use mathlib.Core.Bool.{Bool, true, false, _&&_}
 use Prim.Native.Nat.{ℕ, suc, zero, _+_, _-_, _*_, _≤_, _<_}
 use native.Mathlib.Nat.{sub-zero, zero-add}
 use native.Mathlib.Numerals.{add-one}
@@ -15,12 +14,6 @@ use borrow.Author.Tests.{lt-ltb, le-ltb}
 use Rattle.terms.specs.Signature.{Symbol}
 use Rattle.format.specs.Symbols.{outranks, outrankedFrom, firstOutranked}
 use Rattle.symbols.specs.Table.{symbolAt, symbolsAt}
-
--- Where the first two tests fail together, so do all three.
-fails-all : (a b c : Bool) → (a && b) ≡ false → (a && (b && c)) ≡ false
-fails-all true true c e = absurd (false≢true (sym e))
-fails-all true false c e = refl
-fails-all false b c e = refl
 
 module _ (table : List ℕ) (count : ℕ) where
   module _ (rank : ℕ) where
@@ -55,11 +48,6 @@ module _ (table : List ℕ) (count : ℕ) where
   isTooLow f =
       eqb (symbolAt table f .arity) 1 && (eqb (symbolAt table f .weight) 0
       && outranks (symbolsAt table 0 count) (symbolAt table f .precedence))
-
-  pub weighs-something : (f : ℕ) → (eqb (getD table (4 * f + 4) 0) 1 && eqb (getD table (4 * f + 6) 0) 0) ≡ false →
-      isTooLow f ≡ false
-  weighs-something f = fails-all (eqb (getD table (4 * f + 4) 0) 1) (eqb (getD table (4 * f + 6) 0) 0)
-      (outranks symbols (symbolAt table f .precedence))
 
   -- None before f is.
   abbrev pub Searched : ℕ → Type 0

@@ -1,6 +1,6 @@
 // The decoded symbol table: access to a symbol by its number. Only these functions know how the words lie.
 ghost use mathlib.Core.Path.{_≡_};
-ghost use mathlib.Core.Bool.{cond, _||_};
+ghost use mathlib.Core.Bool.{not, _&&_, _||_};
 ghost use Prim.Native.Nat.{_+_, _*_, _^_, _≤_, _<_};
 ghost use lib.Dec.{eqb};
 ghost use lib.ListN.{length, getD};
@@ -84,20 +84,23 @@ pub fn binary_if_ac(arity: u16, ac: u16) -> bool
     ac <= (4u16 >> arity) % 2
 }
 
-// The least weight of a symbol of arity 1 in a file of that form.
-fn least_unary(form: u16) -> u16
-    ensures { λ r. ⌜ r ≡ cond (eqb form firstForm) 1 0 ⌝ }
+// The least weight of a symbol of that arity in form 1, without a branch on the arity.
+pub fn least_weight(w0: u16, arity: u16) -> u16
+    requires { ⌜ arity < 8 ⌝ }
+    ensures { λ r. ⌜ r ≡ leastWeightIn firstForm w0 arity ⌝ }
 {
-    if form == FIRST_FORM { 1 } else { 0 }
+    let least = [w0, 1, 0, 0, 0, 0, 0, 0];
+    least[wide(arity)]
 }
 
-// The least weight of a symbol of that arity in a file of that form, without a branch on the arity.
-pub fn least_weight(form: u16, w0: u16, arity: u16) -> u16
-    requires { ⌜ arity < 8 ⌝ }
-    ensures { λ r. ⌜ r ≡ leastWeightIn form w0 arity ⌝ }
+// Whether a symbol of that arity may weigh less than that in a file of that form.
+pub fn may_weigh_less(form: u16, arity: u16) -> bool
+    ensures { λ r. ⌜ r ≡ (not (eqb form firstForm) && eqb arity 1) ⌝ }
 {
-    let least = [w0, least_unary(form), 0, 0, 0, 0, 0, 0];
-    least[wide(arity)]
+    if form == FIRST_FORM {
+        return false;
+    }
+    arity == 1
 }
 
 // Stores the cells of all symbols of a table, one more than how many arguments each calls for.

@@ -1,8 +1,7 @@
 // The symbols of arity 1 that weigh 0, by their ranks.
 ghost use mathlib.Core.Path.{_≡_};
-ghost use mathlib.Core.Bool.{false, _&&_};
-ghost use Prim.Native.Nat.{_+_, _*_, _≤_, _<_};
-ghost use lib.ListN.{length};
+ghost use mathlib.Core.Bool.{_&&_};
+ghost use Prim.Native.Nat.{_<_};
 ghost use lib.Dec.{eqb};
 ghost use Rattle.format.specs.Symbols.{outranks, firstOutranked};
 ghost use Rattle.symbols.specs.Table.{symbolAt, symbolsAt};
@@ -40,8 +39,8 @@ fn is_too_low(table: &[u16], count: usize, f: usize) -> bool
     is_outranked(table, count, word_at(table, 4 * f + 7))
 }
 
-// The number of the first such symbol; where there is none, the count of symbols. It looks at each in turn.
-fn search_outranked(table: &[u16], count: usize) -> usize
+// The number of the first such symbol; where there is none, the count of symbols.
+pub fn first_outranked(table: &[u16], count: usize) -> usize
     requires { ⌜ count < 256 ⌝ }
     ensures { λ r. ⌜ r ≡ firstOutranked (symbolsAt (now (table .entry)) 0 count) ⌝ }
 {
@@ -53,45 +52,4 @@ fn search_outranked(table: &[u16], count: usize) -> usize
         f += 1;
     }
     count
-}
-
-// Whether a symbol of that arity and weight has arity 1 and weighs 0.
-fn is_weightless(arity: u16, weight: u16) -> bool
-    ensures { λ r. ⌜ r ≡ (eqb arity 1 && eqb weight 0) ⌝ }
-{
-    if arity != 1 {
-        return false;
-    }
-    weight == 0
-}
-
-// Whether some symbol has arity 1 and weighs 0. The loop goes on past the first, so that the compiler looks at several
-// symbols at once.
-fn has_weightless(table: &[u16], count: usize) -> bool
-    requires { ⌜ (count < 256) × (4 * count + 4 ≤ length (now table)) ⌝ }
-    ensures { λ r. ⌜ (r ≡ false → firstOutranked (symbolsAt (now (table .entry)) 0 count) ≡ count) ⌝ }
-{
-    let mut found = false;
-    let mut f = 0;
-    while f < count {
-        if is_weightless(table[4 * f + 4], table[4 * f + 6]) {
-            found = true;
-        }
-        f += 1;
-    }
-    found
-}
-
-// The number of the first symbol that is too low; where there is none, the count of symbols. Few tables have a symbol
-// of arity 1 that weighs 0.
-pub fn first_outranked(table: &[u16], count: usize) -> usize
-    requires { ⌜ count < 256 ⌝ }
-    ensures { λ r. ⌜ r ≡ firstOutranked (symbolsAt (now (table .entry)) 0 count) ⌝ }
-{
-    if 4 * count + 4 <= table.len() {
-        if !has_weightless(table, count) {
-            return count;
-        }
-    }
-    search_outranked(table, count)
 }

@@ -53,63 +53,60 @@ returns-3 c =
     .before in
     (search fields, c13 .pre .1 .1 .1)
 
-least-weight-requires : tie.Need-least-weight-requires
-least-weight-requires c κs =
-    let c7 = c .before .before .before .before .before .before .before in
-    let c9 = c7 .before .before in
-    rw (c7 .read .given .1) at (c9 .field .ensures .1)
+read-weight-requires : tie.Need-read-weight-requires
+read-weight-requires c κs =
+    let c8 = c .before .before .before .before .before .before .before .before in
+    let c10 = c8 .before .before in
+    let c14 = c10 .before .before .before .before in
+    (c14 .pre .0 .0, rw (c8 .read .given .1) at (c10 .field .ensures .1))
 
 returns-4 : tie.Need-returns-4
 returns-4 c =
-    let c3 = c .before .before .before in
-    let c4 = c3 .before in
+    let c4 = c .before .before .before .before in
     let c5 = c4 .before in
-    let c6 = c5 .before in
-    let c8 = c6 .before .before in
-    let c10 = c8 .before .before in
-    let c12 = c10 .before .before in
-    let c14 = c12 .before .before in
-    let c18 = c14 .before .before .before .before in
+    let c7 = c5 .before .before in
+    let c9 = c7 .before .before in
+    let c11 = c9 .before .before in
+    let c13 = c11 .before .before in
+    let c17 = c13 .before .before .before .before in
     rw (c .enum-told3 .given .1) (
-      weight-unread _ _ _ _ _ _ _ (c12 .read .given .1) (c14 .field .ensures .0) _ _ _
-          (c8 .read2 .given .1) (c10 .field2 .ensures .0) _ (c6 .binary-if-ac .ensures)
-          (c5 .if1 .left) _ _ (c3 .wide .ensures .0) (c4 .least-weight .ensures) _ _ _
-          (c .enum-told3 .given .1) (c .before .before .field-at-least .ensures .0),
-      c18 .pre .1 .1 .1,
+      weight-unread _ _ _ _ _ _ _ (c11 .read .given .1) (c13 .field .ensures .0) _ _ _
+          (c7 .read2 .given .1) (c9 .field2 .ensures .0) _ (c5 .binary-if-ac .ensures)
+          (c4 .if1 .left) _ _ _
+          (c .enum-told3 .given .1) (c .before .before .read-weight .ensures .0),
+      c17 .pre .1 .1 .1,
     )
 
 cast-weight : tie.Need-cast-weight
 cast-weight c =
     let c3 = c .before .before .before in
-    omega (arith, rw (c .before .read3 .given .1) at (c3 .field-at-least .ensures .1))
+    omega (arith, rw (c .before .read3 .given .1) at (c3 .read-weight .ensures .1 .0))
 
 read-rank-requires : tie.Need-read-rank-requires
 read-rank-requires c κs =
     let c10 = c .before .before .before .before .before .before .before .before .before .before in
-    let c20 = c10 .before .before .before .before .before .before .before .before .before .before in
-    c20 .pre .0 .0
+    let c19 = c10 .before .before .before .before .before .before .before .before .before in
+    c19 .pre .0 .0
 
 returns-5 : tie.Need-returns-5
 returns-5 c =
     let c5 = c .before .before .before .before .before in
     let c7 = c5 .before .before in
-    let c8 = c7 .before in
-    let c9 = c8 .before in
+    let c9 = c7 .before .before in
     let c10 = c9 .before in
-    let c11 = c10 .before in
-    let c13 = c11 .before .before in
-    let c15 = c13 .before .before in
-    let c17 = c15 .before .before in
-    let c19 = c17 .before .before in
-    let c23 = c19 .before .before .before .before in
+    let c12 = c10 .before .before in
+    let c14 = c12 .before .before in
+    let c16 = c14 .before .before in
+    let c18 = c16 .before .before in
+    let c22 = c18 .before .before .before .before in
     rw (c .enum-told4 .given .1) (
-      rank-unread _ _ _ _ _ _ _ (c17 .read .given .1) (c19 .field .ensures .0) _ _ _
-          (c13 .read2 .given .1) (c15 .field2 .ensures .0) _ (c11 .binary-if-ac .ensures)
-          (c10 .if1 .left) _ _ (c8 .wide .ensures .0) (c9 .least-weight .ensures) _ _ _
-          (c5 .read3 .given .1) (c7 .field-at-least .ensures .0) (c23 .args .taken .now)
-          (c23 .pre .1 .1 .0) _ _ _
+      rank-unread _ _ _ _ _ _ _ (c16 .read .given .1) (c18 .field .ensures .0) _ _ _
+          (c12 .read2 .given .1) (c14 .field2 .ensures .0) _ (c10 .binary-if-ac .ensures)
+          (c9 .if1 .left) _ _ _
+          (c5 .read3 .given .1) (c7 .read-weight .ensures .0) (c22 .args .taken .now)
+          (c22 .pre .1 .1 .0) _ _ _
           (c .enum-told4 .given .1) (c .before .before .read-rank .ensures .0),
-      c23 .pre .1 .1 .1,
+      c22 .pre .1 .1 .1,
     )
 
 cast-put-entry : tie.Need-cast-put-entry
@@ -121,8 +118,8 @@ put-entry-requires : tie.Need-put-entry-requires
 put-entry-requires c κs =
     let c10 = c .before .before .before .before .before .before .before .before .before .before in
     let c20 = c10 .before .before .before .before .before .before .before .before .before .before in
-    let c25 = c20 .before .before .before .before .before in
-    (c25 .pre .0 .1, c25 .pre .0 .2)
+    let c24 = c20 .before .before .before .before in
+    (c24 .pre .0 .1, c24 .pre .0 .2)
 
 element-write-taken : tie.Need-element-write-taken
 element-write-taken c =
@@ -136,56 +133,57 @@ returns-6 c =
     let c7 = c5 .before .before in
     let c10 = c7 .before .before .before in
     let c12 = c10 .before .before in
-    let c13 = c12 .before in
-    let c14 = c13 .before in
+    let c14 = c12 .before .before in
     let c15 = c14 .before in
-    let c16 = c15 .before in
-    let c18 = c16 .before .before in
-    let c20 = c18 .before .before in
-    let c22 = c20 .before .before in
-    let c24 = c22 .before .before in
-    let c28 = c24 .before .before .before .before in
-    let a = c28 .args in
+    let c17 = c15 .before .before in
+    let c19 = c17 .before .before in
+    let c21 = c19 .before .before in
+    let c23 = c21 .before .before in
+    let c27 = c23 .before .before .before .before in
+    let a = c27 .args in
     let earlier = symbolsAt (tableOf (a .packed) (a .sheet .now) (a .table .now)) 0 (a .number) in
-    let arity = sym (rw (c22 .read .given .1) at (c24 .field .ensures .0)) in
-    let ac = sym (rw (c18 .read2 .given .1) at (c20 .field2 .ensures .0)) in
-    let binary = sym (c16 .binary-if-ac .ensures) ∙ not-false _ (c15 .if1 .left) in
-    let least = c13 .wide .ensures .0 ∙ c14 .least-weight .ensures in
-    let weight = sym (rw (c10 .read3 .given .1, least) at (c12 .field-at-least .ensures .0)) in
-    let rank = sym (rw (c5 .read4 .given .1) at (c7 .read-rank .ensures .0 earlier (c28 .pre .1 .1 .0))) in
+    let arity = sym (rw (c21 .read .given .1) at (c23 .field .ensures .0)) in
+    let ac = sym (rw (c17 .read2 .given .1) at (c19 .field2 .ensures .0)) in
+    let binary = sym (c15 .binary-if-ac .ensures) ∙ not-false _ (c14 .if1 .left) in
+    let weight = sym (rw (c10 .read3 .given .1) at (c12 .read-weight .ensures .0)) in
+    let rank = sym (rw (c5 .read4 .given .1) at (c7 .read-rank .ensures .0 earlier (c27 .pre .1 .1 .0))) in
     let small = rw (c5 .read4 .given .1) at (c7 .read-rank .ensures .1) in
     let parts = symbol-parts (sourceOf (a .packed) (a .book .now) (a .sheet .now)) (leastWeightIn (a .form) (a .w0))
     earlier (a .cursor .at) in
     let s : Symbol = record {
-      arity = c22 .read .given .0 .0;
-      ac = eqb (c18 .read2 .given .0 .0) 1;
+      arity = c21 .read .given .0 .0;
+      ac = eqb (c17 .read2 .given .0 .0) 1;
       weight = c10 .read3 .given .0 .0;
       precedence = c5 .read4 .given .0 .0;
-      coefficients = ones (c22 .read .given .0 .0);
+      coefficients = ones (c21 .read .given .0 .0);
     } in
     let source = sourceOf (a .packed) (a .book .now) (a .sheet .now) in
     let weighed = tested-field source weightWidth _ weightInadmissible _ _ _ weight .0 in
     let ranked = tested-field source rankWidth _ rankTaken _ _ _ rank .0 in
     let stored = c .before .before .put-entry .ensures .0 (a .sheet .now) s refl
     (entry-stands (a .packed) (a .book .now)
-    (a .sheet .now) (a .number) (a .cursor .at) _ _ _ _ _ _ _ _ (c28 .pre .1 .0) arity ac weighed ranked) in (
+    (a .sheet .now) (a .number) (a .cursor .at) _ _ _ _ _ _ _ _ (c27 .pre .1 .0) arity ac weighed ranked) in (
       (
         s,
         parts ∙ rw (arity, ac, binary, weight, rank),
         stored,
-        rw stored (taken-put earlier s (a .taken .now) (c28 .pre .1 .1 .1) small (c28 .pre .1 .1 .0)),
+        rw stored (taken-put earlier s (a .taken .now) (c27 .pre .1 .1 .1) small (c27 .pre .1 .1 .0)),
         reached-entry (a .packed) (a .book .now) (a .sheet .now) (a .number) (a .cursor .at) _ _ _ _ _ _ _ _
-            (c28 .pre .1 .0) arity ac weighed ranked,
-        stored-same (a .packed) _ _ _ _ _ (entry-words _ _ _ _ (rw (c18 .read2 .given .1) at (c20 .field2 .ensures .1)))
-            (c .before .before .put-entry .ensures .1),
+            (c27 .pre .1 .0) arity ac weighed ranked,
+        (
+          stored-same (a .packed) _ _ _ _ _
+              (entry-words _ _ _ _ (rw (c17 .read2 .given .1) at (c19 .field2 .ensures .1)))
+              (c .before .before .put-entry .ensures .1),
+          rw (c10 .read3 .given .1) at (c12 .read-weight .ensures .1 .1),
+        ),
       ),
-      simp length-set (c28 .pre .1 .1 .1),
+      simp length-set (c27 .pre .1 .1 .1),
     )
 
 pub read-symbol-spec : {M : Type 1} → statement M
 read-symbol-spec =
     tie.close (tie.spec (λ c κs. search needs) (λ c. search needs) (λ c. search needs) returns cast-arity
     (λ c κs. search needs) (λ c. search needs) (λ c. search needs) returns-2 cast-ac binary-if-ac-requires
-    returns-3 least-weight-requires (λ c κs. search needs) (λ c κs. search needs) (λ c. search needs)
-    (λ c. search needs) returns-4 cast-weight read-rank-requires (λ c. search needs) (λ c. search needs)
-    returns-5 cast-put-entry put-entry-requires element-write-taken (λ c. search needs) returns-6)
+    returns-3 read-weight-requires (λ c. search needs) (λ c. search needs) returns-4 cast-weight read-rank-requires
+    (λ c. search needs) (λ c. search needs) returns-5 cast-put-entry put-entry-requires element-write-taken
+    (λ c. search needs) returns-6)

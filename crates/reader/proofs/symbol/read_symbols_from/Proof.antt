@@ -13,25 +13,28 @@ use Rattle.symbols.specs.Table.{symbolsAt, tableWords, symbolsWords}
 use Rattle.symbols.proofs.TableLaws.{length-symbols}
 use Rattle.symbols.proofs.EntryLaws.{table-more, table-start}
 use Rattle.reader.specs.Source.{sourceOf, Reached, tableOf, Stored}
-use Rattle.reader.specs.Symbol.{TakenBy}
+use Rattle.reader.specs.Symbol.{TakenBy, hasZeroWeightUnary}
 use Rattle.reader.proofs.SourceLaws.{room-le, room-same}
 use Rattle.reader.proofs.SymbolLaws.{taken-none, symbols-fault, symbols-past, symbols-done, stored-more}
 use Rattle.reader.proofs.SymbolLaws.{stored-none}
+use Rattle.reader.proofs.WeightLaws.{has-more}
 use Rattle.reader.proofs.symbol.read_symbols_from.Statement.{statement}
 use Rattle.reader.proofs.symbol.read_symbols_from.Tie as tie
 
 abbrev Inv-loop : tie.InvT-loop
-Inv-loop book sheet packed table₀ form w0 count taken₀ here₀ number₀ table taken here number =
+Inv-loop book sheet packed table₀ weightless₀ form w0 count taken₀ here₀ number₀ table weightless taken here number =
     (number ≤ count) × (length table ≡ length table₀) × (length taken ≡ 256) ×
     TakenBy (symbolsAt (tableOf packed sheet table) 0 number) taken ×
     (symbolsReader (sourceOf packed book sheet) (leastWeightIn form w0) count [] (here₀ .at) ≡
     symbolsReader (sourceOf packed book sheet) (leastWeightIn form w0) (count - number)
     (symbolsAt (tableOf packed sheet table) 0 number) (here .at)) ×
     Reached packed book sheet (tableWords number) (here .at) ×
-    Stored packed 4 (symbolsWords (symbolsAt (tableOf packed sheet table) 0 number)) table₀ table
+    Stored packed 4 (symbolsWords (symbolsAt (tableOf packed sheet table) 0 number)) table₀ table ×
+    (weightless ≡ hasZeroWeightUnary (symbolsAt (tableOf packed sheet table) 0 number))
 
 abbrev μ-loop : tie.MeasureT-loop
-μ-loop book sheet packed table₀ form w0 count taken₀ here₀ number₀ table taken here number = count - number
+μ-loop book sheet packed table₀ weightless₀ form w0 count taken₀ here₀ number₀ table weightless taken here number =
+    count - number
 
 loop-holds : tie.Need-loop-holds Inv-loop μ-loop
 loop-holds c =
@@ -41,21 +44,22 @@ loop-holds c =
       refl,
       taken-none,
       rw sub-zero,
-      rw table-start (c3 .pre .1),
+      rw table-start (c3 .pre .1 .0),
       stored-none (c3 .args .packed) (c3 .args .table .now),
+      c3 .pre .1 .1,
     )
 
 read-symbol-requires : tie.Need-read-symbol-requires Inv-loop μ-loop
 read-symbol-requires c κs =
-    let c3 = c .before .before .before in
-    let c7 = c3 .before .before .before .before in
-    let v = c3 .loop .inv in
-    let a = c7 .args in
-    let more = table-more (c3 .loop .number) (a .count) (omega arith) in (
+    let c4 = c .before .before .before .before in
+    let c8 = c4 .before .before .before .before in
+    let v = c4 .loop .inv in
+    let a = c8 .args in
+    let more = table-more (c4 .loop .number) (a .count) (omega arith) in (
       (
-        c7 .pre .0 .0,
+        c8 .pre .0 .0,
         omega arith,
-        room-le (a .packed) _ _ _ more (room-same (a .packed) _ (a .table .now) _ (v .1) (c7 .pre .0 .2)),
+        room-le (a .packed) _ _ _ more (room-same (a .packed) _ (a .table .now) _ (v .1) (c8 .pre .0 .2)),
       ),
       (v .5, (v .3, v .2)),
     )
@@ -63,45 +67,48 @@ read-symbol-requires c κs =
 same-length : tie.Need-same-length Inv-loop μ-loop
 same-length c =
     let c5 = c .before .before .before .before .before in
-    let c9 = c5 .before .before .before .before in
-    c5 .read-symbol .kept .1 .1 .1 .0 ∙ c9 .loop .inv .1
+    let c10 = c5 .before .before .before .before .before in
+    c5 .read-symbol .kept .1 .1 .1 .0 ∙ c10 .loop .inv .1
 
 returns : tie.Need-returns Inv-loop μ-loop
 returns c =
     let c5 = c .before .before .before .before .before in
-    let c9 = c5 .before .before .before .before in
-    let c13 = c9 .before .before .before .before in
-    let a = c13 .args in
+    let c10 = c5 .before .before .before .before .before in
+    let c14 = c10 .before .before .before .before in
+    let a = c14 .args in
     let least = leastWeightIn (a .form) (a .w0) in
-    let v = c9 .loop .inv in
-    v .4 ∙ symbols-fault (sourceOf (a .packed) (a .book .now) (a .sheet .now)) least (a .count) (c9 .loop .number)
-    (omega arith) (symbolsAt (tableOf (a .packed) (a .sheet .now) (c9 .loop .table)) 0 (c9 .loop .number))
-    (c9 .loop .here .at) _ _
+    let v = c10 .loop .inv in
+    v .4 ∙ symbols-fault (sourceOf (a .packed) (a .book .now) (a .sheet .now)) least (a .count) (c10 .loop .number)
+    (omega arith) (symbolsAt (tableOf (a .packed) (a .sheet .now) (c10 .loop .table)) 0 (c10 .loop .number))
+    (c10 .loop .here .at) _ _
     (rw (c .before .offset .given .1) at (c5 .read-symbol .ensures .0))
 
 loop-again : tie.Need-loop-again Inv-loop μ-loop
 loop-again c =
     let c5 = c .before .before .before .before .before in
-    let c9 = c5 .before .before .before .before in
-    let c13 = c9 .before .before .before .before in
-    let a = c13 .args in
+    let c10 = c5 .before .before .before .before .before in
+    let c14 = c10 .before .before .before .before in
+    let a = c14 .args in
     let least = leastWeightIn (a .form) (a .w0) in
-    let v = c9 .loop .inv in
+    let v = c10 .loop .inv in
     let (s, read, stored, taken, reached, put) = rw (c .before .value .given .1) at (c5 .read-symbol .ensures .0) in (
       omega arith,
       c5 .read-symbol .kept .1 .1 .1 .0 ∙ v .1,
       c5 .read-symbol .ensures .1,
       taken,
-      v .4 ∙ symbols-past (sourceOf (a .packed) (a .book .now) (a .sheet .now)) least (a .count) (c9 .loop .number)
-          (omega arith) (symbolsAt (tableOf (a .packed) (a .sheet .now) (c9 .loop .table)) 0 (c9 .loop .number))
-          (c9 .loop .here .at) s _ read ∙
+      v .4 ∙ symbols-past (sourceOf (a .packed) (a .book .now) (a .sheet .now)) least (a .count) (c10 .loop .number)
+          (omega arith) (symbolsAt (tableOf (a .packed) (a .sheet .now) (c10 .loop .table)) 0 (c10 .loop .number))
+          (c10 .loop .here .at) s _ read ∙
           ap (λ (ss : List Symbol). symbolsReader (sourceOf (a .packed) (a .book .now) (a .sheet .now)) least
-          (a .count - (c9 .loop .number + 1)) ss (c .before .value .given .0 .1 .0 .at)) (sym stored),
+          (a .count - (c10 .loop .number + 1)) ss (c .before .value .given .0 .1 .0 .at)) (sym stored),
       reached,
-      rw stored (stored-more (a .packed) (a .table .now) (c9 .loop .table) _ (c9 .loop .number)
-          (symbolsAt (tableOf (a .packed) (a .sheet .now) (c9 .loop .table)) 0 (c9 .loop .number)) s
-          (sym (length-symbols (tableOf (a .packed) (a .sheet .now) (c9 .loop .table)) 0 (c9 .loop .number))) (v .6)
-          put),
+      rw stored (stored-more (a .packed) (a .table .now) (c10 .loop .table) _ (c10 .loop .number)
+          (symbolsAt (tableOf (a .packed) (a .sheet .now) (c10 .loop .table)) 0 (c10 .loop .number)) s
+          (sym (length-symbols (tableOf (a .packed) (a .sheet .now) (c10 .loop .table)) 0 (c10 .loop .number))) (v .6)
+          (put .0)),
+      has-more (c10 .loop .weightless) _
+          (symbolsAt (tableOf (a .packed) (a .sheet .now) (c10 .loop .table)) 0 (c10 .loop .number)) _ s (v .7) (put .1)
+          stored,
     )
 
 same-length-2 : tie.Need-same-length-2 Inv-loop μ-loop
@@ -120,7 +127,7 @@ returns-2 c =
           (symbolsAt (tableOf (a .packed) (a .sheet .now) (c .before .loop .table)) 0 number)
           (c .before .loop .here .at) z ∙ rw e,
       sym (length-symbols _ 0 (a .count)),
-      rw e at (v .6),
+      (rw e at (v .6), rw e at (v .7)),
     )
 
 pub read-symbols-from-spec : {M : Type 1} → statement M

@@ -1,11 +1,13 @@
 -- The cells of the table of counts, and the counts of arities.
 --     no-nodes, no-terms, too-many              cells with no node, no term, more terms than nodes
 --     row-begun, row-step, row-end              a cell as a sum over arities, step by step
---     cells-more                                the table with one cell more
+--     no-constants                              without constants there are no terms
+--     cells-none, cells-more                    the table without constants, and with one cell more
 --     one-more-at, one-more-past, counts-begun, counts-small, counts-step, counts-end     the counts of arities
 use mathlib.Core.List.{List}
 use mathlib.Core.Path.{_≡_, refl, sym, ap, _∙_}
 use Prim.Native.Nat.{ℕ, suc, zero, _+_, _-_, _*_, _/_, _%_, _≤_, _<_}
+use native.Mathlib.Nat.{zero-mul, mul-zero}
 use native.Mathlib.Omega.{arith}
 use lib.Dec.{eqb}
 use lib.ListN.{length, getD, set, replicate, length-map, getD-replicate}
@@ -16,8 +18,8 @@ use Rattle.terms.specs.Signature.{Signature, symbolOf}
 use Rattle.terms.specs.Enumeration.{groundRows}
 use Rattle.terms.proofs.EnumerationLaws.{headed, rows-none, rows-symbol}
 use Rattle.enumerating.specs.Counts.{capped, rowCount, CellsTo, arityCount, ArityCounts, Small, OneMore}
-use Rattle.enumerating.proofs.CountLaws.{capped-add, capped-times, sumOver, length-over, sum-same, by-arity}
-use Rattle.enumerating.proofs.CountLaws.{arityCount-le}
+use Rattle.enumerating.proofs.CountLaws.{capped-add, capped-times, sumOver, length-over, sum-same, sum-none}
+use Rattle.enumerating.proofs.CountLaws.{by-arity, arityCount-le}
 
 -- ---- one more of an arity
 
@@ -57,19 +59,19 @@ module _ (σ : Signature) where
   abbrev pub summand : ℕ → ℕ → ℕ → ℕ
   summand nodes others a = arityCount σ a 0 (length (σ .symbols)) * rowsAt nodes others a
 
-  row-sum : (nodes others : ℕ) → nodes < 8 →
-      length (groundRows σ (suc nodes) (suc others)) ≡ sumOver (summand nodes others) 0 8
-  row-sum nodes others h =
+  row-sum : (nodes others to : ℕ) → nodes < to →
+      length (groundRows σ (suc nodes) (suc others)) ≡ sumOver (summand nodes others) 0 to
+  row-sum nodes others to h =
       ap length (rows-symbol σ nodes others)
       ∙ length-over (λ f. headed f (groundRows σ nodes (symbolOf σ f .arity + others))) 0 (length (σ .symbols))
       ∙ sum-same _ _ (λ f. length-map (groundRows σ nodes (symbolOf σ f .arity + others)) _) 0 (length (σ .symbols))
-      ∙ by-arity σ (rowsAt nodes others) 8
+      ∙ by-arity σ (rowsAt nodes others) to
       (λ a l. ap length (rows-none σ nodes (a + others) (omega arith))) 0 (length (σ .symbols))
 
   pub row-begun : (nodes others : ℕ) → nodes < 8 →
       capped (0 + sumOver (summand nodes others) 0 8) ≡ rowCount σ (suc nodes) (suc others)
   unfolding rowCount
-  row-begun nodes others h = ap (λ n. capped (0 + n)) (sym (row-sum nodes others h)) ∙ omega arith
+  row-begun nodes others h = ap (λ n. capped (0 + n)) (sym (row-sum nodes others 8 h)) ∙ omega arith
 
   pub row-step : (nodes others total a count rows total' : ℕ) → a < 8 →
       count ≡ arityCount σ a 0 (length (σ .symbols)) → rows ≡ rowCount σ nodes (a + others) →
@@ -97,6 +99,34 @@ module _ (σ : Signature) where
       let d : 8 - a ≡ 0 = omega arith in
       let k : capped (total + 0) ≡ rowCount σ (suc nodes) (suc others) = rw d at e in
       let m : capped (total + 0) ≡ total = omega arith in sym m ∙ k
+
+  -- ---- without constants
+
+  module _ (none : arityCount σ 0 0 (length (σ .symbols)) ≡ 0) where
+    pub no-constants : (nodes terms : ℕ) → 0 < nodes + terms → length (groundRows σ nodes terms) ≡ 0
+    unfolding groundRows
+    no-constants zero zero h = absurd (omega arith)
+    no-constants zero (suc others) h = refl
+    no-constants (suc nodes) zero h = refl
+    no-constants (suc nodes) (suc others) h =
+        row-sum nodes others (suc nodes) (omega arith)
+        ∙ sum-none (summand nodes others) 0 (suc nodes)
+        λ a i j. each a (λ b. no-constants nodes (suc b + others) (omega arith))
+      where
+        each : (a : ℕ) → ((b : ℕ) → rowsAt nodes others (suc b) ≡ 0) → summand nodes others a ≡ 0
+        each zero r = rw none (zero-mul (rowsAt nodes others 0))
+        each (suc b) r = rw (r b) (mul-zero (arityCount σ (suc b) 0 (length (σ .symbols))))
+
+    pub cells-none : CellsTo σ 64 (set (replicate 64 0) 0 1)
+    unfolding rowCount
+    cells-none nodes terms few below =
+        byOrder 0 (8 * nodes + terms)
+        (λ l. getD-set-other (replicate 64 0) 0 (8 * nodes + terms) 1 0 (λ d. omega arith)
+        ∙ getD-replicate {A = ℕ} 64 (8 * nodes + terms) 0 0 below
+        ∙ sym (ap capped (no-constants nodes terms (omega arith))))
+        λ l. let m : nodes ≡ 0 = omega arith in
+        let n : terms ≡ 0 = omega arith in
+        rw (m, n) (sym (no-nodes))
 
   -- ---- the table
 

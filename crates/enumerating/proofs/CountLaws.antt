@@ -1,6 +1,7 @@
 -- Sums over symbols, as sums over arities, and capped numbers.
 --     capped-add, capped-times      a capped part of a sum or a product
 --     sumOver, length-over          how many things numbers give
+--     sum-same, sum-none            sums of the same numbers, and of zeros
 --     by-arity, arityCount-le       a sum over symbols is one over arities, each times the symbols that have it
 use mathlib.Core.List.{List}
 use mathlib.Core.Path.{_≡_, refl, sym, ap, _∙_}
@@ -60,7 +61,7 @@ pub sum-same : (h k : ℕ → ℕ) → ((x : ℕ) → h x ≡ k x) → (f n : �
 sum-same h k e f zero = refl
 sum-same h k e f (suc n) = omega (arith, e f, sum-same h k e (suc f) n)
 
-sum-none : (h : ℕ → ℕ) (f n : ℕ) → ((x : ℕ) → f ≤ x → x < f + n → h x ≡ 0) → sumOver h f n ≡ 0
+pub sum-none : (h : ℕ → ℕ) (f n : ℕ) → ((x : ℕ) → f ≤ x → x < f + n → h x ≡ 0) → sumOver h f n ≡ 0
 sum-none h f zero e = refl
 sum-none h f (suc n) e =
     omega (arith, e f (omega arith) (omega arith), sum-none h (suc f) n λ x i j. e x (omega arith) (omega arith))

@@ -1,12 +1,13 @@
 -- The ends of counting and listing, by what their inputs are.
 --     size-range                                          the sizes that are not refused
 --     count-refused, count-done                           counting under a signature
---     list-outside, list-more, list-short, list-ready, list-done     listing under a signature
+--     list-outside, list-more, list-short, list-none, list-ready, list-done     listing under a signature
 --     book-refused, book-counted, book-unlisted, book-listed         the file, and then either
-use mathlib.Core.List.{List, _++_, flatten}
+use mathlib.Core.List.{List, [], _∷_, _++_, flatten}
 use mathlib.Core.Path.{_≡_, refl, sym, ap, _∙_}
 use mathlib.Core.Bool.{true, false, and-eq-true-iff as both}
 use Prim.Native.Nat.{ℕ, _+_, _-_, _*_, _≤_, _<_}
+use native.Mathlib.Nat.{mul-zero}
 use native.Mathlib.Omega.{arith}
 use lib.Dec.{leb}
 use lib.ListN.{length, take, drop, replicate}
@@ -39,6 +40,10 @@ size-range n e =
 -- An error at offset 0.
 abbrev at : ℕ → ℕ → Error
 at code input = record { code = code; input = input; offset = 0 }
+
+empty : {A : Type 0} (l : List A) → length l ≡ 0 → l ≡ []
+empty [] e = refl
+empty (a ∷ l) e = absurd (omega arith)
 
 term-count : (number : ℕ) → termCount (capped number) ≡ termCount number
 term-count number =
@@ -91,6 +96,12 @@ module _ (σ : Signature) (n : ℕ) where
               le-leb (length (groundTerms σ n)) 65535 (omega (arith, number)),
               lt-leb (n * length (groundTerms σ n)) (length words) (rw number at s),
             ))
+
+        pub list-none : cell ≡ 0 → Gives (accepted 0) words
+        unfolding listedTerms flatten
+        list-none z =
+            let e : groundTerms σ n ≡ [] = empty (groundTerms σ n) (omega (arith, number)) in
+            rw (h, e, mul-zero n, le-leb 0 (length words) (omega arith)) (refl, refl)
 
         module _ (s : n * cell ≤ length words) where
           abbrev row : List ℕ

@@ -121,13 +121,17 @@ fn next_cell(counts: &[u32; ARITIES], cells: &[u32; CELLS], index: usize) -> u32
     row_count(counts, cells, nodes - 1, terms - 1)
 }
 
-// The cells for up to 7 nodes and 7 terms.
+// The cells for up to 7 nodes and 7 terms. Without constants there is the row of no terms alone.
 pub fn row_counts(table: &[u16]) -> [u32; CELLS]
     requires { ⌜ length (now table) ≤ maxTableWords ⌝ }
     ensures { λ r. ⌜ Cells (signatureOf (now (table .entry))) r ⌝ }
 {
     let counts = arity_counts(table);
     let mut cells = [0u32; CELLS];
+    if counts[0] == 0 {
+        cells[0] = 1;
+        return cells;
+    }
     let mut i = 0;
     while i < CELLS {
         let cell = next_cell(&counts, &cells, i);

@@ -99,6 +99,9 @@ fn list_under(table: &[u16], words: &mut [u16], n: usize) -> NumberReply
     if words.len() < words_of(n, number) {
         return NumberReply::Refused(refusal(NO_ROOM_FOR_TERMS, 1, 0));
     }
+    if number == 0 {
+        return NumberReply::Accepted(0);
+    }
     let mut blocks = [0usize; walk::BLOCKS];
     let mut row = [0u16; rows::MAX_SIZE];
     NumberReply::Accepted(walk::walk(table, &cells, &mut blocks, n, 1, &mut row, n, words, 0))

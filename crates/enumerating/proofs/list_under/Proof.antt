@@ -4,7 +4,8 @@ use mathlib.Core.Path.{_∙_, ap, sym}
 use native.Mathlib.Omega.{arith}
 use Rattle.symbols.specs.Table.{signatureOf}
 use Rattle.operations.specs.Replies.Reply.{refused}
-use Rattle.enumerating.proofs.ReplyLaws.{size-range, list-outside, list-more, list-short, list-ready, list-done}
+use Rattle.enumerating.proofs.ReplyLaws.{size-range, list-outside, list-more, list-short, list-none}
+use Rattle.enumerating.proofs.ReplyLaws.{list-ready, list-done}
 use borrow.Author.Needs.{needs}
 use Rattle.enumerating.proofs.list_under.Statement.{statement}
 use Rattle.enumerating.proofs.list_under.Tie as tie
@@ -60,9 +61,21 @@ returns-3 c =
     (omega (arith, c .before .before .words-of .ensures)) in
     (ap refused (c .refusal3 .ensures) ∙ r, o)
 
+returns-4 : tie.Need-returns-4
+returns-4 c =
+    let c4 = c .before .before .before .before in
+    let c6 = c4 .before .before in
+    let c7 = c6 .before in
+    let c8 = c7 .before in
+    let c11 = c8 .before .before .before in
+    let σ = signatureOf (c11 .args .table .now) in
+    let size = sym (c8 .is-size .ensures) ∙ not-false _ (c7 .if1 .left) in
+    let cell = c4 .cell-at .ensures σ 64 (c6 .row-counts .ensures) (omega (arith, size-range (c11 .args .n) size .1)) in
+    list-none σ (c11 .args .n) (c11 .args .words .now) size (c4 .cell-at .result) cell (omega arith) (omega arith)
+
 walk-requires : tie.Need-walk-requires
 walk-requires c κs =
-    let c4 = c .before .before .before .before in
+    let c4 = c .before .before .before .before .before in
     let c5 = c4 .before in
     let c6 = c5 .before in
     let c7 = c6 .before in
@@ -82,9 +95,9 @@ walk-requires c κs =
           (omega (arith, c5 .words-of .ensures, c4 .if3 .left)) _ (c9 .row-counts .ensures),
     )
 
-returns-4 : tie.Need-returns-4
-returns-4 c =
-    let c7 = c .before .before .before .before .before .before .before in
+returns-5 : tie.Need-returns-5
+returns-5 c =
+    let c7 = c .before .before .before .before .before .before .before .before in
     let c8 = c7 .before in
     let c9 = c8 .before in
     let c10 = c9 .before in
@@ -116,6 +129,7 @@ list-under-spec =
     words-of-requires
     (λ c κs. search needs)
     returns-3
+    returns-4
     walk-requires
     (λ c. search needs)
-    returns-4)
+    returns-5)

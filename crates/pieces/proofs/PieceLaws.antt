@@ -88,6 +88,7 @@ module _ {σ : Signature} {ws keys : List ℕ} (P : Prepared σ ws keys) {i mask
       same = alone r (q .others) (q .first) (empty-list (q .others)
           (omega (arith, masked-one (elementsOf σ ws i) mask positive h, ap length (q .first))));
       isPiece = record { inside = q .inside; sum = λ p. absurd (omega arith) };
+      own = λ p. absurd (omega arith);
       apart = λ p. absurd (omega arith);
     }
 
@@ -95,6 +96,7 @@ module _ {σ : Signature} {ws keys : List ℕ} (P : Prepared σ ws keys) {i mask
     more-elements h = record {
       same = refl;
       isPiece = I;
+      own = λ p. refl;
       apart = λ p. masked-two (elementsOf σ ws i) mask (I .sum p .1) h;
     }
 

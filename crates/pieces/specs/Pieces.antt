@@ -65,4 +65,5 @@ module _ (σ : Signature) (ws : List ℕ) (offsets masks ps : List ℕ) where
 pub record IsNormal (σ : Signature) (ws : List ℕ) (i mask offset rest : ℕ) : Type 0 where
   pub same : pieceAt σ ws offset rest ≡ pieceAt σ ws i mask
   pub isPiece : IsPiece σ ws offset rest
+  pub own : 0 < rest → offset ≡ i
   pub apart : 0 < rest → 2 ≤ length (masked rest (elementsOf σ ws offset))

@@ -1,0 +1,3 @@
+-- The laws that the functions' proofs cite, in reading order.
+pub mod AgendaLaws
+pub mod BindingLaws

@@ -7,7 +7,7 @@
 --     paged-small                                      of the bytes of a page, and of an error's offset
 --     marked-small                                     of the counts and the score, and of an error's offset
 use mathlib.Core.List.{List, flatten}
-use mathlib.Core.Path.{_≡_, refl, sym, _∙_}
+use mathlib.Core.Path.{_≡_, refl, _∙_}
 use mathlib.Core.Bool.{Bool, true, false}
 use Prim.Native.Nat.{ℕ, _*_, _≤_, _<_}
 use native.Mathlib.Omega.{arith}
@@ -32,14 +32,13 @@ use Rattle.format.specs.Format.{RuleFile, systemOf}
 use Rattle.format.specs.Conversion.{convertedFile}
 use Rattle.format.specs.Files.{readBytesIn, readBytes, readWords, readFirstTerm, readTerm}
 use Rattle.format.specs.Packing.{packed, unpacked}
-use Rattle.operations.specs.declared.Error.{Error}
 use Rattle.operations.specs.declared.Summary.{Summary}
 use Rattle.operations.specs.Replies.{Reply, Written, _>>=_, _>>_, fromInput, demand, outcome}
 use Rattle.operations.specs.Replies.Reply.{accepted, refused}
 use Rattle.format.specs.Statements.IsRead.{fromBytes}
 use Rattle.operations.specs.Coding.{write, decoded, encoded}
 use Rattle.operations.specs.Converting.{converted}
-use Rattle.ackbo.specs.Numbers.{Small, numberOf, countOf, wordsOf, termsOf}
+use Rattle.boundary.specs.Numbers.{Small, numberOf, countOf, wordsOf, termsOf}
 use Rattle.format.proofs.FaultLaws.{fault-small}
 use Rattle.format.proofs.Theorems.{readable-well-formed, read-term-well-formed, faults-within}
 use Rattle.operations.specs.Inputs.{TermReader, Inputs, readTerms, readInputs}
@@ -61,12 +60,6 @@ abbrev nought : {A : Type 0} → A → ℕ
 nought a = 0
 
 module _ {A : Type 0} (m : A → ℕ) where
-  pub value-small : (r : Reply A) → Small (numberOf m r) → (a : A) → accepted a ≡ r → Small (m a)
-  value-small r h a e = rw (sym e) at h
-
-  pub offset-small : (r : Reply A) → Small (numberOf m r) → (e : Error) → refused e ≡ r → Small (e .offset)
-  offset-small r h e d = rw (sym d) at h
-
   read-small : {B : Type 0} (input : ℕ) (r : Reading B) (k : B → Reply A) →
       ((code offset : ℕ) → r ≡ fault code offset → Small offset) →
       ((b : B) (end : ℕ) → r ≡ got b end → Small (numberOf m (k b))) → Small (numberOf m (_>>=_ (fromInput input r) k))

@@ -1,4 +1,2 @@
--- What the code of the boundary cites.
+-- What the code of the operations for C cites.
 pub mod BoundLaws
-pub mod ReplyLaws
-pub mod TurnLaws

@@ -2,9 +2,6 @@
 pub mod turn;
 
 ghost use mathlib.Core.Path.{_≡_};
-ghost use mathlib.Core.List.{[], _∷_};
-ghost use Prim.Native.Nat.{_<_};
-ghost use lib.IntN.{pos};
 ghost use lib.Seq.{sets};
 ghost use Rattle.operations.specs.Coding.{decoded, encoded};
 ghost use Rattle.operations.specs.Converting.{converted};
@@ -13,86 +10,22 @@ ghost use Rattle.operations.specs.Picking.{picked};
 ghost use Rattle.operations.specs.Variables.{oftener};
 ghost use Rattle.operations.specs.Hashing.{fingerprinted};
 ghost use Rattle.operations.specs.Enumerating.{counted, listed};
-ghost use Rattle.operations.specs.Enums.{numberReply};
-ghost use Rattle.ackbo.specs.Numbers.{Small, numberOf, countOf, wordsOf, termsOf};
 ghost use Rattle.operations.specs.Marking.{marked};
 ghost use Rattle.operations.specs.Paging.{paged};
 ghost use Rattle.operations.specs.Boundary.{codeOf, valuesOf};
-ghost use Rattle.operations.specs.Boundary.{numberValues, relationValue, comparisonValues, sideValues, countValues};
+ghost use Rattle.operations.specs.Boundary.{numberValues, comparisonValues, sideValues, countValues};
 ghost use Rattle.operations.specs.Boundary.{summaryValues};
+use boundary::Values;
+use boundary::put_comparison;
+use boundary::put_error;
+use boundary::put_number;
+use boundary::put_side;
+use boundary::put_summary;
+use boundary::put_terms;
 use operations::CompareReply;
 use operations::CountReply;
-use operations::GreaterSide;
 use operations::MarkReply;
-use operations::NumberReply;
 use operations::PickReply;
-use operations::Relation;
-use operations::TermCount;
-
-// The values of a reply.
-type Values = [i64; 3];
-
-// Stores three values, and gives back the code.
-fn put_reply(reply: &mut Values, code: u8, first: i64, second: i64, third: i64) -> u8
-    ensures { λ r. ⌜ r ≡ code ⌝ }
-    ensures { λ _. ⌜ now (reply .exit) ≡ sets (now (reply .entry)) 0 (first ∷ second ∷ third ∷ []) ⌝ }
-{
-    reply[0] = first;
-    reply[1] = second;
-    reply[2] = third;
-    code
-}
-
-// The number as a signed one.
-fn signed(number: usize) -> i64
-    requires { ⌜ number < 9223372036854775808 ⌝ }
-    ensures { λ r. ⌜ r ≡ pos number ⌝ }
-{
-    number as i64
-}
-
-// Stores the three counts of an answer.
-fn put_counts(reply: &mut Values, first: usize, second: usize, third: usize) -> u8
-    requires { ⌜ (first < 9223372036854775808) × (second < 9223372036854775808) × (third < 9223372036854775808) ⌝ }
-    ensures { λ r. ⌜ r ≡ 0 ⌝ }
-    ensures { λ _. ⌜ now (reply .exit) ≡ sets (now (reply .entry)) 0 (pos first ∷ pos second ∷ pos third ∷ []) ⌝ }
-{
-    put_reply(reply, 0, signed(first), signed(second), signed(third))
-}
-
-// Stores the input and the offset of an error.
-fn put_error(reply: &mut Values, code: u8, input: u8, offset: usize) -> u8
-    requires { ⌜ offset < 9223372036854775808 ⌝ }
-    ensures { λ r. ⌜ r ≡ code ⌝ }
-    ensures { λ _. ⌜ now (reply .exit) ≡ sets (now (reply .entry)) 0 (pos input ∷ pos offset ∷ pos 0 ∷ []) ⌝ }
-{
-    put_reply(reply, code, input as i64, signed(offset), 0)
-}
-
-// Stores the count of an answer, or the error.
-fn put_number(reply: &mut Values, answer: NumberReply) -> u8
-    requires { ⌜ Small (numberOf countOf (numberReply answer)) ⌝ }
-    ensures { λ r. ⌜ r ≡ codeOf (numberReply answer) ⌝ }
-    ensures { λ _. ⌜
-        now (reply .exit) ≡ sets (now (reply .entry)) 0 (valuesOf numberValues (numberReply answer))
-        ⌝ }
-{
-    match answer {
-        NumberReply::Accepted(count) => put_counts(reply, count, 0, 0),
-        NumberReply::Refused(error) => put_error(reply, error.code, error.input, error.offset),
-    }
-}
-
-fn relation_value(relation: Relation) -> i64
-    ensures { λ r. ⌜ r ≡ relationValue relation ⌝ }
-{
-    match relation {
-        Relation::Greater => 1,
-        Relation::Less => 2,
-        Relation::Equivalent => 3,
-        Relation::Unrelated => 4,
-    }
-}
 
 #[no_mangle]
 pub extern "C" fn ackbo_decode(book: &[u8], words: &mut [u16], reply: &mut Values) -> u8
@@ -140,25 +73,8 @@ pub extern "C" fn ackbo_compare(book: &[u8], left: &[u16], right: &[u16], reply:
         ⌝ }
 {
     match comparing::compare(book, left, right) {
-        CompareReply::Accepted(comparison) => {
-            let relation = comparison.relation;
-            put_reply(reply, 0, relation_value(relation), comparison.margin, 0)
-        }
+        CompareReply::Accepted(comparison) => put_comparison(reply, comparison),
         CompareReply::Refused(error) => put_error(reply, error.code, error.input, error.offset),
-    }
-}
-
-// Stores the greater side and the count of its words.
-fn put_side(reply: &mut Values, side: GreaterSide) -> u8
-    requires { ⌜ Small (wordsOf side) ⌝ }
-    ensures { λ r. ⌜ r ≡ 0 ⌝ }
-    ensures { λ _. ⌜ now (reply .exit) ≡ sets (now (reply .entry)) 0 (sideValues side) ⌝ }
-{
-    match side {
-        GreaterSide::Left { words } => put_counts(reply, 1, words, 0),
-        GreaterSide::Right { words } => put_counts(reply, 2, words, 0),
-        GreaterSide::Equivalent => put_counts(reply, 3, 0, 0),
-        GreaterSide::Unrelated => put_counts(reply, 4, 0, 0),
     }
 }
 
@@ -200,18 +116,6 @@ pub extern "C" fn ackbo_fingerprint(book: &[u8], term: &[u16], reply: &mut Value
     put_number(reply, hashing::fingerprint(book, term))
 }
 
-// Stores how many terms there are.
-fn put_terms(reply: &mut Values, count: TermCount) -> u8
-    requires { ⌜ Small (termsOf count) ⌝ }
-    ensures { λ r. ⌜ r ≡ 0 ⌝ }
-    ensures { λ _. ⌜ now (reply .exit) ≡ sets (now (reply .entry)) 0 (countValues count) ⌝ }
-{
-    match count {
-        TermCount::Exactly { terms } => put_counts(reply, 1, terms, 0),
-        TermCount::More => put_counts(reply, 2, 0, 0),
-    }
-}
-
 #[no_mangle]
 pub extern "C" fn ackbo_count(book: &[u8], n: usize, reply: &mut Values) -> u8
     ensures { λ r. ⌜ r ≡ codeOf (counted (now (book .entry)) n) ⌝ }
@@ -247,7 +151,7 @@ pub extern "C" fn ackbo_mark(book: &[u8], marks: &mut [u8], reply: &mut Values) 
     ensures { λ _. ⌜ now (marks .exit) ≡ marked (now (book .entry)) (now (marks .entry)) .output ⌝ }
 {
     match marking::mark::mark(book, marks) {
-        MarkReply::Accepted(file) => put_counts(reply, file.rules, file.decreasing, file.score),
+        MarkReply::Accepted(file) => put_summary(reply, file),
         MarkReply::Refused(error) => put_error(reply, error.code, error.input, error.offset),
     }
 }

@@ -1,11 +1,9 @@
 -- What crosses is what comparing replies, whose numbers are small.
-use mir.Syntax.{w64}
-use mir.ValLaws.{toZ-ofZ}
 use native.Mathlib.Omega.{arith}
-use mathlib.Core.Path.{_∙_}
 use Rattle.operations.specs.Boundary.{comparisonValues}
-use Rattle.ackbo.proofs.BoundLaws.{offset-small, compared-small}
-use Rattle.ackbo.proofs.ReplyLaws.{accepts, refuses}
+use Rattle.boundary.proofs.NumberLaws.{offset-small}
+use Rattle.ackbo.proofs.BoundLaws.{compared-small}
+use Rattle.boundary.proofs.ReplyLaws.{accepts, refuses}
 use borrow.Author.Needs.{needs}
 use Rattle.ackbo.proofs.ackbo_compare.Statement.{statement}
 use Rattle.ackbo.proofs.ackbo_compare.Tie as tie
@@ -23,18 +21,11 @@ put-error-requires c κs =
 
 returns : tie.Need-returns
 returns c =
-    let c5 = c .before .before .before .before .before in
-    let c7 = c5 .before .before in
-    let c11 = c7 .before .before .before .before in
-    let entry =
-    c11 .args .reply .now in
-    let gave = c7 .compare .ensures in
-    let known = c5 .comparison .given in
-    let relation = c .before .before .relation-value in
-    let margin = toZ-ofZ w64 (known .0 .0 .margin) (record { sfits = c .before .struct-told .given .1 .0 .1 }) in
-    accepts comparisonValues _ _ entry _ _ (rw (known .1) at gave) (c .put-reply .ensures .0)
-    (c .put-reply .ensures .1 ∙
-    rw (toZ-ofZ w64 (relation .result) (record { sfits = relation .ok }), relation .ensures, margin))
+    let c3 = c .before .before .before in
+    let c5 = c3 .before .before in
+    let c9 = c5 .before .before .before .before in
+    accepts comparisonValues _ _ (c9 .args .reply .now) _ _ (rw (c3 .comparison .given .1) at (c5 .compare .ensures))
+    (c .put-comparison .ensures .0) (c .put-comparison .ensures .1)
 
 returns-2 : tie.Need-returns-2
 returns-2 c =
@@ -48,5 +39,5 @@ returns-2 c =
 
 pub ackbo-compare-spec : {M : Type 1} → statement M
 ackbo-compare-spec =
-    tie.close (tie.spec (λ c κs. search needs) (λ c. search needs) (λ c κs. search needs) (λ c κs. search needs)
-    (λ c. search needs) put-error-requires returns returns-2)
+    tie.close (tie.spec (λ c κs. search needs) (λ c. search needs) (λ c κs. search needs) (λ c. search needs)
+    put-error-requires returns returns-2)

@@ -1,8 +1,9 @@
 -- What crosses is what counting replies, whose numbers are small.
 use Rattle.operations.specs.Boundary.{countValues}
-use Rattle.ackbo.specs.Numbers.{termsOf}
-use Rattle.ackbo.proofs.BoundLaws.{value-small, offset-small, counted-small}
-use Rattle.ackbo.proofs.ReplyLaws.{accepts, refuses}
+use Rattle.boundary.specs.Numbers.{termsOf}
+use Rattle.boundary.proofs.NumberLaws.{value-small, offset-small}
+use Rattle.ackbo.proofs.BoundLaws.{counted-small}
+use Rattle.boundary.proofs.ReplyLaws.{accepts, refuses}
 use borrow.Author.Needs.{needs}
 use Rattle.ackbo.proofs.ackbo_count.Statement.{statement}
 use Rattle.ackbo.proofs.ackbo_count.Tie as tie

@@ -1,14 +1,15 @@
 -- What crosses is what marking replies, whose numbers are small.
 use Rattle.operations.specs.Boundary.{summaryValues}
-use Rattle.ackbo.proofs.BoundLaws.{value-small, offset-small, marked-small}
+use Rattle.boundary.proofs.NumberLaws.{value-small, offset-small}
+use Rattle.ackbo.proofs.BoundLaws.{marked-small}
 use Rattle.ackbo.proofs.BoundLaws.{rules-small, decreasing-small, score-small}
-use Rattle.ackbo.proofs.ReplyLaws.{accepts, refuses}
+use Rattle.boundary.proofs.ReplyLaws.{accepts, refuses}
 use borrow.Author.Needs.{needs}
 use Rattle.ackbo.proofs.ackbo_mark.Statement.{statement}
 use Rattle.ackbo.proofs.ackbo_mark.Tie as tie
 
-put-counts-requires : tie.Need-put-counts-requires
-put-counts-requires c κs =
+put-summary-requires : tie.Need-put-summary-requires
+put-summary-requires c κs =
     let c6 = c .before .before .before .before .before .before in
     let c10 = c6 .before .before .before .before in
     let a = c10 .args in
@@ -39,7 +40,7 @@ returns c =
     let gave = c7 .mark .ensures in
     let reply = rw (c3 .file .given .1) at (gave .0) in
     let (code, values) =
-    accepts summaryValues _ _ entry _ _ reply (c .put-counts .ensures .0) (c .put-counts .ensures .1) in
+    accepts summaryValues _ _ entry _ _ reply (c .put-summary .ensures .0) (c .put-summary .ensures .1) in
     (code, (values, gave .1))
 
 returns-2 : tie.Need-returns-2
@@ -57,5 +58,5 @@ returns-2 c =
 
 pub ackbo-mark-spec : {M : Type 1} → statement M
 ackbo-mark-spec =
-    tie.close (tie.spec (λ c κs. search needs) (λ c. search needs) put-counts-requires (λ c. search needs)
+    tie.close (tie.spec (λ c κs. search needs) (λ c. search needs) put-summary-requires (λ c. search needs)
     put-error-requires (λ c. search needs) returns (λ c. search needs) returns-2)

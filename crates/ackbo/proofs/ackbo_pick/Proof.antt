@@ -1,9 +1,10 @@
 -- What crosses is what picking replies, whose numbers are small.
 use native.Mathlib.Omega.{arith}
 use Rattle.operations.specs.Boundary.{sideValues}
-use Rattle.ackbo.specs.Numbers.{wordsOf}
-use Rattle.ackbo.proofs.BoundLaws.{value-small, offset-small, picked-small}
-use Rattle.ackbo.proofs.ReplyLaws.{accepts, refuses}
+use Rattle.boundary.specs.Numbers.{wordsOf}
+use Rattle.boundary.proofs.NumberLaws.{value-small, offset-small}
+use Rattle.ackbo.proofs.BoundLaws.{picked-small}
+use Rattle.boundary.proofs.ReplyLaws.{accepts, refuses}
 use borrow.Author.Needs.{needs}
 use Rattle.ackbo.proofs.ackbo_pick.Statement.{statement}
 use Rattle.ackbo.proofs.ackbo_pick.Tie as tie

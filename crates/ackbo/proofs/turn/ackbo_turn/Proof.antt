@@ -59,17 +59,17 @@ use Rattle.operations.specs.Boundary.{codeOf, valuesOf, turnValues}
 use Rattle.scheduling.specs.Search.{Ready, begun, looked, scanned}
 use Rattle.scheduling.specs.Run.{marksAfter, recount, recounted}
 use Rattle.scheduling.proofs.SearchLaws.{scanned-ready}
-use Rattle.ackbo.specs.Turn.{storedOf, valuesAfter}
-use Rattle.ackbo.proofs.TurnLaws.{turn-code, turn-marks, turn-values, turn-served, turn-none}
+use Rattle.boundary.specs.Turn.{storedOf, valuesAfter}
+use Rattle.boundary.proofs.TurnLaws.{turn-code, turn-marks, turn-values, turn-served, turn-none}
 use Rattle.operations.specs.declared.Job.{Job}
 use Rattle.scheduling.specs.declared.Search.{Search}
-use Rattle.ackbo.specs.declared.turn.Stored.{Stored}
+use Rattle.boundary.specs.declared.turn.Stored.{Stored}
 use Rattle.operations.proofs.Job as T
 use Rattle.operations.proofs.Job.Laws as T′
 use Rattle.scheduling.proofs.Search as S
 use Rattle.scheduling.proofs.Search.Laws as S′
-use Rattle.ackbo.proofs.turn.Stored as R
-use Rattle.ackbo.proofs.turn.Stored.Laws as R′
+use Rattle.boundary.proofs.turn.Stored as R
+use Rattle.boundary.proofs.turn.Stored.Laws as R′
 use Rattle.scheduling.proofs.begin as begin
 use Rattle.scheduling.proofs.begin.Symbol as begin-def
 use Rattle.scheduling.proofs.begin.Symbol.{name as #begin}
@@ -78,10 +78,10 @@ use Rattle.scheduling.proofs.look as look′
 use Rattle.scheduling.proofs.look.Symbol as look-def
 use Rattle.scheduling.proofs.look.Symbol.{name as #look}
 use Rattle.scheduling.proofs.look.Met as look-thm
-use Rattle.ackbo.proofs.turn.put_turn as put
-use Rattle.ackbo.proofs.turn.put_turn.Symbol as put-def
-use Rattle.ackbo.proofs.turn.put_turn.Symbol.{name as #put}
-use Rattle.ackbo.proofs.turn.put_turn.Met as put-thm
+use Rattle.boundary.proofs.turn.put_turn as put
+use Rattle.boundary.proofs.turn.put_turn.Symbol as put-def
+use Rattle.boundary.proofs.turn.put_turn.Symbol.{name as #put}
+use Rattle.boundary.proofs.turn.put_turn.Met as put-thm
 use Rattle.ackbo.proofs.turn.ackbo_turn.Key.{name as #turn}
 use Rattle.ackbo.proofs.turn.ackbo_turn as f
 use Rattle.ackbo.proofs.turn.ackbo_turn.Statement as stated
@@ -513,4 +513,4 @@ ackbo-turn-spec 𝓤 H 𝓜 𝓖 𝓡 =
     (turn-meets 𝓤 H (𝓖 .A) (givenOf 𝓤 H 𝓜 𝓖) (𝓜 .mem) (𝓡 .run) (tablesOf 𝓤 H 𝓜 (tables 𝓤 H 𝓜 𝓡 code.env))
     (cited 𝓤 H (Begin 𝓤 H (𝓖 .A) (𝓜 .mem) (𝓡 .run)) 𝓜 𝓡 code.env #begin begin-def.routine code.calls-scheduling·begin (begin-thm.met 𝓤 H 𝓜 𝓖 𝓡))
     (cited 𝓤 H (Look 𝓤 H (𝓖 .A) (𝓜 .mem) (𝓡 .run)) 𝓜 𝓡 code.env #look look-def.routine code.calls-scheduling·look (look-thm.met 𝓤 H 𝓜 𝓖 𝓡))
-    (cited 𝓤 H (Put 𝓤 H (𝓖 .A) (𝓜 .mem) (𝓡 .run)) 𝓜 𝓡 code.env #put put-def.routine code.calls-ackbo·turn·put-turn (put-thm.met 𝓤 H 𝓜 𝓖 𝓡)))
+    (cited 𝓤 H (Put 𝓤 H (𝓖 .A) (𝓜 .mem) (𝓡 .run)) 𝓜 𝓡 code.env #put put-def.routine code.calls-boundary·turn·put-turn (put-thm.met 𝓤 H 𝓜 𝓖 𝓡)))

@@ -3,10 +3,10 @@ use mathlib.Core.Path.{sym, ap, refl}
 use native.Mathlib.Omega.{arith}
 use Rattle.operations.specs.Boundary.{numberValues}
 use Rattle.operations.specs.Enums.{numberReply}
-use Rattle.ackbo.proofs.ReplyLaws.{accepts, refuses}
+use Rattle.boundary.proofs.ReplyLaws.{accepts, refuses}
 use borrow.Author.Needs.{needs}
-use Rattle.ackbo.proofs.put_number.Statement.{statement}
-use Rattle.ackbo.proofs.put_number.Tie as tie
+use Rattle.boundary.proofs.put_number.Statement.{statement}
+use Rattle.boundary.proofs.put_number.Tie as tie
 
 put-counts-requires : tie.Need-put-counts-requires
 put-counts-requires c κs =

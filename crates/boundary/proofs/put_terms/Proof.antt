@@ -4,8 +4,8 @@ use native.Mathlib.Omega.{arith}
 use lib.Seq.{sets}
 use Rattle.operations.specs.Boundary.{countValues}
 use borrow.Author.Needs.{needs}
-use Rattle.ackbo.proofs.put_terms.Statement.{statement}
-use Rattle.ackbo.proofs.put_terms.Tie as tie
+use Rattle.boundary.proofs.put_terms.Statement.{statement}
+use Rattle.boundary.proofs.put_terms.Tie as tie
 
 put-counts-requires : tie.Need-put-counts-requires
 put-counts-requires c κs =

@@ -27,9 +27,9 @@ use Rattle.scheduling.specs.Search.{isAllowed, scanned, Ready}
 use Rattle.scheduling.specs.Run.{replyOf, marksAfter, indexBy, countBy, recounted}
 use Rattle.scheduling.proofs.StandingLaws.{allowed-numbers, left-few}
 use Rattle.scheduling.proofs.ReplyLaws.{reply-served, scanned-replied, scanned-jobs, scanned-marks}
-use Rattle.ackbo.specs.declared.turn.Stored.{Stored}
-use Rattle.ackbo.specs.Numbers.{Small, numberOf}
-use Rattle.ackbo.specs.Turn.{indexOf, storedBy, storedOf, valuesAfter}
+use Rattle.boundary.specs.declared.turn.Stored.{Stored}
+use Rattle.boundary.specs.Numbers.{Small, numberOf}
+use Rattle.boundary.specs.Turn.{indexOf, storedBy, storedOf, valuesAfter}
 
 -- ---- after the search over all jobs
 

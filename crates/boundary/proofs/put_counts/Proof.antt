@@ -3,8 +3,8 @@ use mir.Syntax.{w64}
 use mathlib.Core.Path.{_∙_}
 use mir.ValLaws.{toZ-ofZ}
 use borrow.Author.Needs.{needs}
-use Rattle.ackbo.proofs.put_counts.Statement.{statement}
-use Rattle.ackbo.proofs.put_counts.Tie as tie
+use Rattle.boundary.proofs.put_counts.Statement.{statement}
+use Rattle.boundary.proofs.put_counts.Tie as tie
 
 returns : tie.Need-returns
 returns c =

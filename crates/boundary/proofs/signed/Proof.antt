@@ -2,8 +2,8 @@
 use mir.Syntax.{w64}
 use mir.ValLaws.{toZ-pos}
 use borrow.Author.Needs.{needs}
-use Rattle.ackbo.proofs.signed.Statement.{statement}
-use Rattle.ackbo.proofs.signed.Tie as tie
+use Rattle.boundary.proofs.signed.Statement.{statement}
+use Rattle.boundary.proofs.signed.Tie as tie
 
 returns : tie.Need-returns
 returns c = toZ-pos w64 (c .args .number) (c .pre)

@@ -9,7 +9,7 @@ use Rattle.operations.specs.Replies.{Reply}
 use Rattle.operations.specs.Boundary.{codeOf, valuesOf, turnValues}
 use Rattle.scheduling.specs.declared.Search.{Search}
 use Rattle.scheduling.specs.Run.{replyOf, indexBy, countBy}
-use Rattle.ackbo.specs.declared.turn.Stored.{Stored}
+use Rattle.boundary.specs.declared.turn.Stored.{Stored}
 
 -- The index of the job that is served; 0 where there is none.
 abbrev pub indexOf : Turn → ℕ

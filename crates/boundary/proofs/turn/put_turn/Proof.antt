@@ -3,12 +3,12 @@ use mathlib.Core.Path.{_≡_, refl}
 use Prim.Native.Nat.{suc, _+_}
 use native.Mathlib.Omega.{arith}
 use lib.ListN.{length}
-use Rattle.ackbo.specs.Turn.{indexOf}
-use Rattle.ackbo.proofs.BoundLaws.{value-small, offset-small}
-use Rattle.ackbo.proofs.TurnLaws.{turn-small, served-count, put-served, put-idle, put-refused}
+use Rattle.boundary.specs.Turn.{indexOf}
+use Rattle.boundary.proofs.NumberLaws.{value-small, offset-small}
+use Rattle.boundary.proofs.TurnLaws.{turn-small, served-count, put-served, put-idle, put-refused}
 use borrow.Author.Needs.{needs}
-use Rattle.ackbo.proofs.turn.put_turn.Statement.{statement}
-use Rattle.ackbo.proofs.turn.put_turn.Tie as tie
+use Rattle.boundary.proofs.turn.put_turn.Statement.{statement}
+use Rattle.boundary.proofs.turn.put_turn.Tie as tie
 
 put-error-requires : tie.Need-put-error-requires
 put-error-requires c κs =

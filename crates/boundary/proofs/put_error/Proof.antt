@@ -4,8 +4,8 @@ use mir.Syntax.{w64}
 use mathlib.Core.Path.{_∙_}
 use mir.ValLaws.{toZ-ofZ, toZ-pos}
 use borrow.Author.Needs.{needs}
-use Rattle.ackbo.proofs.put_error.Statement.{statement}
-use Rattle.ackbo.proofs.put_error.Tie as tie
+use Rattle.boundary.proofs.put_error.Statement.{statement}
+use Rattle.boundary.proofs.put_error.Tie as tie
 
 returns : tie.Need-returns
 returns c =

@@ -4,8 +4,8 @@ use native.Mathlib.Omega.{arith}
 use lib.Seq.{sets}
 use Rattle.operations.specs.Boundary.{sideValues}
 use borrow.Author.Needs.{needs}
-use Rattle.ackbo.proofs.put_side.Statement.{statement}
-use Rattle.ackbo.proofs.put_side.Tie as tie
+use Rattle.boundary.proofs.put_side.Statement.{statement}
+use Rattle.boundary.proofs.put_side.Tie as tie
 
 put-counts-requires : tie.Need-put-counts-requires
 put-counts-requires c κs =

@@ -1,7 +1,7 @@
 -- Each relation has its number.
 use borrow.Author.Needs.{needs}
-use Rattle.ackbo.proofs.relation_value.Statement.{statement}
-use Rattle.ackbo.proofs.relation_value.Tie as tie
+use Rattle.boundary.proofs.relation_value.Statement.{statement}
+use Rattle.boundary.proofs.relation_value.Tie as tie
 
 returns : tie.Need-returns
 returns c = rw (c .enum-told .given .1)

@@ -1,7 +1,5 @@
 -- What the code of marking cites.
 pub mod WalkLaws
-mod FindLaws
-pub mod OneLaws
 pub mod FoundLaws
 pub mod SideLaws
 pub mod MarkLaws

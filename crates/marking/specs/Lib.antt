@@ -1,3 +1,2 @@
 -- What orienting the rules of a packed file gives.
 pub mod Rule
-pub mod One

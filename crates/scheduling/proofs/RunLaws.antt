@@ -17,7 +17,7 @@ use Rattle.operations.specs.Replies.{Reply}
 use Rattle.operations.specs.Replies.Reply.{accepted, refused}
 use Rattle.operations.specs.Jobs.{jobMarks, bookOf, bookMarks}
 use Rattle.scheduling.specs.declared.Search.{Search}
-use Rattle.marking.specs.declared.one.Standing.the-variants.{Bad, Done, Left}
+use Rattle.seeking.specs.declared.Standing.the-variants.{Bad, Done, Left}
 use Rattle.scheduling.specs.Search.{standingOf, isAllowed, comesFirst, foundBad, foundNext, looked, jobFound}
 use Rattle.scheduling.specs.Run.{replyOf, marksAfter}
 

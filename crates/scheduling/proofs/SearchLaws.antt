@@ -15,9 +15,9 @@ use Rattle.operations.specs.declared.Job.{Job}
 use Rattle.operations.specs.Jobs.{jobAt, bookOf, isSound, hasLeft}
 use Rattle.operations.proofs.RoundLaws.{distance}
 use Rattle.scheduling.specs.declared.Search.{Search}
-use Rattle.marking.specs.declared.one.Standing.{Standing}
-use Rattle.marking.specs.declared.one.Standing.the-variants.{Bad, Done, Left}
-use Rattle.marking.specs.One.{fileStanding}
+use Rattle.seeking.specs.declared.Standing.{Standing}
+use Rattle.seeking.specs.declared.Standing.the-variants.{Bad, Done, Left}
+use Rattle.seeking.specs.One.{fileStanding}
 use Rattle.scheduling.specs.Search.{standingOf, isAllowed, comesFirst, begun, foundBad, foundNext, foundAt}
 use Rattle.scheduling.specs.Search.{looked}
 use Rattle.scheduling.specs.Search.{scanned, jobFound, Ready}

@@ -22,9 +22,9 @@ use Rattle.format.proofs.Theorems.{readable-well-formed}
 use Rattle.operations.specs.declared.Job.{Job}
 use Rattle.operations.specs.Marking.{marksOf}
 use Rattle.operations.specs.Jobs.{maxJobs, bookOf, bookMarks, isSound, hasLeft}
-use Rattle.marking.specs.declared.one.Standing.{Standing}
-use Rattle.marking.specs.declared.one.Standing.the-variants.{Bad, Done, Left}
-use Rattle.marking.specs.One.{standingIn, fileStanding}
+use Rattle.seeking.specs.declared.Standing.{Standing}
+use Rattle.seeking.specs.declared.Standing.the-variants.{Bad, Done, Left}
+use Rattle.seeking.specs.One.{standingIn, fileStanding}
 use Rattle.scheduling.specs.Search.{standingOf, isAllowed}
 
 length-marks : (file : RuleFile) → ListN.length (marksOf (systemOf file)) ≡ ListN.length (file .rules)

@@ -7,9 +7,9 @@ use lib.Dec.{leb, ltb}
 use lib.ListN
 use Rattle.operations.specs.declared.Job.{Job}
 use Rattle.operations.specs.Jobs.{maxJobs, jobAt, bookOf, hasLeft}
-use Rattle.marking.specs.declared.one.Standing.{Standing}
-use Rattle.marking.specs.declared.one.Standing.the-variants.{Bad, Done, Left}
-use Rattle.marking.specs.One.{fileStanding}
+use Rattle.seeking.specs.declared.Standing.{Standing}
+use Rattle.seeking.specs.declared.Standing.the-variants.{Bad, Done, Left}
+use Rattle.seeking.specs.One.{fileStanding}
 use Rattle.scheduling.specs.declared.Search.{Search}
 
 -- How a job stands: as its book does, where that lies in the buffer.

@@ -6,10 +6,10 @@ ghost use Rattle.scheduling.specs.Search.{standingOf, isAllowed, comesFi
 ghost use Rattle.scheduling.specs.Search.{Ready};
 ghost use Rattle.scheduling.specs.Run.{replyOf, marksAfter};
 use answers::refusal;
-use marking::one::Standing;
 use operations::Job;
 use operations::Turn;
 use operations::TurnReply;
+use seeking::Standing;
 
 const MAX_JOBS: usize = 32;
 
@@ -39,7 +39,7 @@ fn inspect(start: usize, length: usize, marked: usize, buffer: &[u8]) -> Standin
     if buffer.len() - start < length {
         return Standing::Bad;
     }
-    marking::one::find_next(&buffer[start..start + length], marked)
+    seeking::find_next(&buffer[start..start + length], marked)
 }
 
 // Whether there are 1 to 32 jobs, and the last served is one of them.
@@ -148,7 +148,7 @@ pub fn run_next(s: Search, buffer: &[u8], marks: &mut [u8]) -> TurnReply
         let start = s.start;
         let end = start + s.length;
         let byte = format::MAX_RULES * next + s.marked;
-        marks[byte] = marking::one::mark_at(&buffer[start..end], s.at);
+        marks[byte] = seeking::mark_at(&buffer[start..end], s.at);
         return TurnReply::Accepted(Turn::Served { index: next });
     }
     TurnReply::Accepted(Turn::Idle)

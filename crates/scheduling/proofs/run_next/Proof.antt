@@ -3,7 +3,7 @@ use mathlib.Core.Path.{_≡_, sym, _∙_}
 use Prim.Native.Nat.{_+_, _-_}
 use native.Mathlib.Omega.{arith}
 use Rattle.operations.specs.Jobs.{bookOf}
-use Rattle.marking.proofs.OneLaws.{found-within}
+use Rattle.seeking.proofs.OneLaws.{found-within}
 use Rattle.scheduling.specs.Search.{jobFound}
 use Rattle.scheduling.proofs.StandingLaws.{allowed-numbers, left-few}
 use Rattle.scheduling.proofs.RunLaws.{run-barred, run-bad, run-short, run-served, run-idle}

@@ -17,12 +17,12 @@ ghost use Rattle.answers.specs.Answer.{Within};
 ghost use Rattle.bits.specs.Cursor.{told};
 ghost use Rattle.reader.specs.File.{restReader};
 ghost use Rattle.reader.specs.Promise.{IsTable};
-ghost use Rattle.marking.specs.declared.one.Standing.the-variants.{Left};
+ghost use Rattle.seeking.specs.declared.Standing.the-variants.{Left};
 ghost use Rattle.marking.specs.Rule.{sidesMark};
-ghost use Rattle.marking.specs.One.{standingIn, fileStanding, RulesSkipped};
-use crate::rule::RuleReading;
+ghost use Rattle.seeking.specs.One.{standingIn, fileStanding, RulesSkipped};
 use bits::BitCursor;
 use bits::Read;
+use marking::rule::RuleReading;
 
 // How a packed file stands of which so many rules are marked: it is refused or has fewer rules, it has no others, or
 // the next begins at a bit.
@@ -122,7 +122,7 @@ fn mark_there(book: &[u8], table: &[u16], cursor: BitCursor) -> u8
     let arities = symbols::arities(table);
     let mut adds = [0u64; weights::NODE_SUMS];
     weights::nodes::put_node_sums(table, &mut adds);
-    match crate::rule::mark_rule(book, table, &arities, &adds, cursor) {
+    match marking::rule::mark_rule(book, table, &arities, &adds, cursor) {
         RuleReading::Fault { .. } => 0,
         RuleReading::Got(rule) => rule.mark,
     }

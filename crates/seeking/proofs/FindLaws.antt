@@ -29,9 +29,9 @@ use Rattle.reader.specs.File.{restReader}
 use Rattle.reader.proofs.FileLaws.{rest-unread, rest-unended, rest-ended}
 use Rattle.reader.proofs.RuleLaws.{done-all}
 use Rattle.reader.proofs.RuleLaws as counted
-use Rattle.marking.specs.declared.one.Standing.{Standing}
-use Rattle.marking.specs.declared.one.Standing.the-variants.{Bad, Done, Left}
-use Rattle.marking.specs.One.{rulesBits, standingIn, fileStanding}
+use Rattle.seeking.specs.declared.Standing.{Standing}
+use Rattle.seeking.specs.declared.Standing.the-variants.{Bad, Done, Left}
+use Rattle.seeking.specs.One.{rulesBits, standingIn, fileStanding}
 
 -- ---- where rules end
 

@@ -1,9 +1,9 @@
 -- The rule that is read there is marked.
 use Rattle.symbols.specs.Table.{signatureOf}
-use Rattle.marking.proofs.OneLaws.{rule-never, rule-marked}
+use Rattle.seeking.proofs.OneLaws.{rule-never, rule-marked}
 use borrow.Author.Needs.{needs}
-use Rattle.marking.proofs.one.mark_there.Statement.{statement}
-use Rattle.marking.proofs.one.mark_there.Tie as tie
+use Rattle.seeking.proofs.mark_there.Statement.{statement}
+use Rattle.seeking.proofs.mark_there.Tie as tie
 
 mark-rule-requires : tie.Need-mark-rule-requires
 mark-rule-requires c κs =

@@ -12,8 +12,8 @@ use Rattle.format.specs.Format.{Sides}
 use Rattle.symbols.specs.Arities.{Arities}
 use Rattle.reader.proofs.RuleLaws.{Done, done-none, done-fault, done-more}
 use borrow.Author.Needs.{needs}
-use Rattle.marking.proofs.one.skip_rules.Statement.{statement}
-use Rattle.marking.proofs.one.skip_rules.Tie as tie
+use Rattle.seeking.proofs.skip_rules.Statement.{statement}
+use Rattle.seeking.proofs.skip_rules.Tie as tie
 
 abbrev Inv-loop : tie.InvT-loop
 Inv-loop book arities count unused none₀ here₀ i₀ none here i =

@@ -25,13 +25,13 @@ use Rattle.format.proofs.FaultLaws.{within-got, whole-within, bits-bounded}
 use Rattle.operations.specs.Jobs.{bookMarks}
 use Rattle.reader.specs.File.{restReader}
 use Rattle.reader.proofs.RuleLaws.{rules-step}
-use Rattle.marking.specs.declared.one.Standing.the-variants.{Bad, Done, Left}
+use Rattle.seeking.specs.declared.Standing.the-variants.{Bad, Done, Left}
 use Rattle.marking.specs.declared.rule.MarkedRule.{MarkedRule}
 use Rattle.marking.specs.declared.rule.RuleReading.the-variants as rule
 use Rattle.marking.specs.Rule.{sidesMark, MarksRead}
-use Rattle.marking.specs.One.{rulesBits, standingIn, fileStanding}
+use Rattle.seeking.specs.One.{rulesBits, standingIn, fileStanding}
 use Rattle.marking.proofs.WalkLaws.{sidesThemselves, marks-sides}
-use Rattle.marking.proofs.FindLaws.{rules-end, rest-whole}
+use Rattle.seeking.proofs.FindLaws.{rules-end, rest-whole}
 
 -- ---- where a rule is read
 

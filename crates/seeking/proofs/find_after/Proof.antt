@@ -3,11 +3,11 @@ use mathlib.Core.Path.{sym, _∙_}
 use Prim.Native.Nat.{_-_}
 use native.Mathlib.Omega.{arith}
 use Rattle.symbols.specs.Table.{signatureOf}
-use Rattle.marking.proofs.FindLaws.{standing-few, standing-unread, standing-cut, standing-unended}
-use Rattle.marking.proofs.FindLaws.{standing-left, standing-done}
+use Rattle.seeking.proofs.FindLaws.{standing-few, standing-unread, standing-cut, standing-unended}
+use Rattle.seeking.proofs.FindLaws.{standing-left, standing-done}
 use borrow.Author.Needs.{needs}
-use Rattle.marking.proofs.one.find_after.Statement.{statement}
-use Rattle.marking.proofs.one.find_after.Tie as tie
+use Rattle.seeking.proofs.find_after.Statement.{statement}
+use Rattle.seeking.proofs.find_after.Tie as tie
 
 returns : tie.Need-returns
 returns c form taken =

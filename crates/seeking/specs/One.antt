@@ -13,8 +13,8 @@ use Rattle.format.specs.Packing.{ruleItems, itemBits}
 use Rattle.format.specs.Files.{readBytes}
 use Rattle.answers.specs.declared.Answer.{Answer}
 use Rattle.answers.specs.declared.Answer.the-variants.{Got, Fault}
-use Rattle.marking.specs.declared.one.Standing.{Standing}
-use Rattle.marking.specs.declared.one.Standing.the-variants.{Bad, Done, Left}
+use Rattle.seeking.specs.declared.Standing.{Standing}
+use Rattle.seeking.specs.declared.Standing.the-variants.{Bad, Done, Left}
 
 -- How many bits rules have.
 abbrev pub rulesBits : List Sides → ℕ

@@ -1,0 +1,2 @@
+-- What finding a rule of a packed file gives.
+pub mod One

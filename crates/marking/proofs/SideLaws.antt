@@ -1,13 +1,13 @@
 -- The sides of a rule that is read are terms, and what marking it has to show.
 --     side-term        a side that is read from bits is the words of a well-formed term
---     right-marked, left-unread, rule-marked     a rule by its sides
+--     right-marked, left-unread, left-read, rule-marked     a rule by its sides
 use mathlib.Core.List.{List}
-use mathlib.Core.Path.{_≡_, sym}
+use mathlib.Core.Path.{_≡_, sym, _∙_}
 use Prim.Native.Nat.{ℕ}
 use Rattle.terms.specs.Signature.{Signature}
 use Rattle.terms.specs.FirstUse.{unusedAfterAll}
 use Rattle.format.specs.Layout.{maxNodes}
-use Rattle.format.specs.Reading.{Reading, Source, bitSource}
+use Rattle.format.specs.Reading.{Reading, andThen, give, Source, bitSource}
 use Rattle.format.specs.Reading.Reading.{got, fault}
 use Rattle.format.specs.Format.{sideReader, ruleReader}
 use Rattle.format.specs.Statements.{IsTerm}
@@ -46,11 +46,16 @@ module _ (σ : Signature) where
     left-unread code offset e = rw e
 
     -- A rule whose left side was read is what its right side makes it.
-    pub rule-marked : (left : List ℕ) (middle used : ℕ) → sideReader source maxNodes unused σ at ≡ got left middle →
-        used ≡ unusedAfterAll unused left → (r : RuleReading) →
-        MarksRead σ (λ (right : List ℕ). record { left = left; right = right })
-        (sideReader source maxNodes used σ middle) r →
-        MarksRead σ sidesThemselves (ruleReader source unused σ at) r
-    unfolding ruleReader
-    rule-marked left middle used e u (Got m) (right, f, x) = (record { left = left; right = right }, rw (e, ← u, f), x)
-    rule-marked left middle used e u (Fault code offset) f = rw (e, ← u, f)
+    module _ (left : List ℕ) (middle used : ℕ) (e : sideReader source maxNodes unused σ at ≡ got left middle)
+        (u : used ≡ unusedAfterAll unused left) where
+      pub left-read : ruleReader source unused σ at
+          ≡ andThen (sideReader source maxNodes used σ middle) (λ right. give (record { left = left; right = right }))
+      unfolding ruleReader
+      left-read = rw (e, ← u)
+
+      pub rule-marked : (r : RuleReading) →
+          MarksRead σ (λ (right : List ℕ). record { left = left; right = right })
+          (sideReader source maxNodes used σ middle) r →
+          MarksRead σ sidesThemselves (ruleReader source unused σ at) r
+      rule-marked (Got m) (right, f, x) = (record { left = left; right = right }, left-read ∙ rw f, x)
+      rule-marked (Fault code offset) f = left-read ∙ rw f

@@ -33,6 +33,11 @@ standingIn marked (fault code offset) = Bad
 unfoldable pub fileStanding : List ℕ → ℕ → Standing
 fileStanding book marked = standingIn marked (readBytes book)
 
+-- What reading past a rule gives: where it ends, or its fault.
+abbrev pub RuleSkipped : Reading Sides → Answer → Type 0
+RuleSkipped reading (Got value next) = (sides : Sides) × (reading ≡ got sides next)
+RuleSkipped reading (Fault offset code) = reading ≡ fault code offset
+
 -- What reading past so many rules, of as many or more, gives: they and those that follow, or their fault.
 abbrev pub RulesSkipped : Source → ℕ → Signature → ℕ → ℕ → Answer → Type 0
 RulesSkipped source unused σ count at (Got value next) =

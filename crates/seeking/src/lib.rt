@@ -5,7 +5,7 @@ ghost use mathlib.Core.Bool.{true};
 ghost use Prim.Native.Nat.{ℕ, _*_, _≤_};
 ghost use lib.ListN.{length, getD};
 ghost use Rattle.terms.specs.Signature.{Signature};
-ghost use Rattle.format.specs.Layout.{formNumber, maxBytes};
+ghost use Rattle.format.specs.Layout.{formNumber, maxBytes, maxNodes};
 ghost use Rattle.format.specs.Reading.{bitSource};
 ghost use Rattle.format.specs.Reading.Reading.{got};
 ghost use Rattle.format.specs.Forms.{isTaken, unusedOf};
@@ -19,7 +19,7 @@ ghost use Rattle.reader.specs.File.{restReader};
 ghost use Rattle.reader.specs.Promise.{IsTable};
 ghost use Rattle.seeking.specs.declared.Standing.the-variants.{Left};
 ghost use Rattle.marking.specs.Rule.{sidesMark};
-ghost use Rattle.seeking.specs.One.{standingIn, fileStanding, RulesSkipped};
+ghost use Rattle.seeking.specs.One.{standingIn, fileStanding, RuleSkipped, RulesSkipped};
 use bits::BitCursor;
 use bits::Read;
 use marking::rule::RuleReading;
@@ -30,6 +30,24 @@ pub enum Standing {
     Bad,
     Done,
     Left { at: usize },
+}
+
+// Reads past a rule. `sides::read_rule_into` is left to one caller, of whose loop it is then made part.
+fn skip_rule(book: &[u8], arities: &[u32; format::NODE_WORDS], cursor: BitCursor) -> Read
+    requires { ⌜ (length (now book) ≤ maxBytes) × (cursor .at ≤ 8 * length (now book)) ⌝ }
+    ensures { λ r. ⌜
+        ((σ : Signature) → Arities σ (now (arities .entry)) →
+        RuleSkipped (ruleReader (bitSource (now (book .entry))) (unusedOf formNumber) σ (cursor .at)) (told r))
+        ⌝ }
+    ensures { λ r. ⌜ Within maxNodes (8 * length (now (book .entry))) (told r) ⌝ }
+{
+    let mut unused = variables::unused_at_start(format::FORM);
+    let mut side = [0u16; format::MAX_NODES];
+    let read = sides::read_side(book, arities, &mut side, &mut unused, cursor);
+    let Read::Got { value: _, cursor } = read else {
+        return read;
+    };
+    sides::read_side(book, arities, &mut side, &mut unused, cursor)
 }
 
 // Reads past that many rules.
@@ -46,12 +64,10 @@ fn skip_rules(
         ⌝ }
     ensures { λ r. ⌜ Within 0 (8 * length (now (book .entry))) (told r) ⌝ }
 {
-    let unused = variables::unused_at_start(format::FORM);
-    let mut none = [0u16; 0];
     let mut here = cursor;
     let mut i = 0;
     while i < count {
-        match sides::read_rule_into(book, arities, &mut none, unused, 0, here) {
+        match skip_rule(book, arities, here) {
             Read::Fault { code, offset } => return Read::Fault { code, offset },
             Read::Got { value: _, cursor } => here = cursor,
         }

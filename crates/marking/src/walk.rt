@@ -31,7 +31,7 @@ pub enum FileMarked {
 }
 
 // Reads that many rules, marks them and counts those that decrease; the value is that count.
-fn mark_rules(
+pub fn mark_rules(
     book: &[u8],
     table: &[u16],
     arities: &[u32; format::NODE_WORDS],

@@ -1,6 +1,6 @@
 -- Marking a rule that was found.
 --     rule-at                           the rule with a number, and where it is read
---     rule-never, rule-marked           the ends of marking it under a table
+--     one-marked                        marking one rule, under a table
 --     never-found, found-within, mark-found      and in a file
 use mathlib.Core.List.{List, [], _∷_, map}
 use mathlib.Core.Path.{_≡_, refl, sym, ap, _∙_}
@@ -9,7 +9,9 @@ use Prim.Native.Nat.{ℕ, suc, zero, _-_, _*_, _≤_, _<_}
 use native.Mathlib.Nat.{sub-zero}
 use native.Mathlib.Omega.{arith}
 use lib.Dec.{leb}
+use lib.IntN.{ℤ}
 use lib.ListN.{length, getD, drop}
+use lib.Seq.{sets}
 use borrow.Author.Tests.{lt-ltb, le-ltb, le-leb, lt-leb}
 use Rattle.multisets.proofs.Relations.{byTest, byOrder}
 use Rattle.terms.specs.Signature.{Signature}
@@ -24,13 +26,13 @@ use Rattle.format.proofs.FormatLaws.{rules-length}
 use Rattle.format.proofs.FaultLaws.{within-got, whole-within, bits-bounded}
 use Rattle.operations.specs.Jobs.{bookMarks}
 use Rattle.reader.specs.File.{restReader}
-use Rattle.reader.proofs.RuleLaws.{rules-step}
+use Rattle.answers.specs.declared.Answer.{Answer}
+use Rattle.answers.specs.declared.Answer.the-variants as answer
+use Rattle.reader.proofs.RuleLaws.{rules-step, done-none, done-more, done-all}
 use Rattle.seeking.specs.declared.Standing.the-variants.{Bad, Done, Left}
-use Rattle.marking.specs.declared.rule.MarkedRule.{MarkedRule}
-use Rattle.marking.specs.declared.rule.RuleReading.the-variants as rule
-use Rattle.marking.specs.Rule.{sidesMark, MarksRead}
+use Rattle.marking.specs.Rule.{sidesMark, AllMarked}
 use Rattle.seeking.specs.One.{rulesBits, standingIn, fileStanding}
-use Rattle.marking.proofs.WalkLaws.{sidesThemselves, marks-sides}
+use Rattle.marking.proofs.WalkLaws.{marks-sides}
 use Rattle.seeking.proofs.FindLaws.{rules-end, rest-whole}
 
 -- ---- where a rule is read
@@ -102,14 +104,24 @@ module _ (source : Source) (unused : ℕ) (σ : Signature) where
 
 -- ---- marking a rule that was found
 
-module _ (σ : Signature) (x : Reading Sides) (sides : Sides) (next : ℕ) (e : x ≡ got sides next) where
-  pub rule-never : {A : Type 0} (code offset : ℕ) → x ≡ fault code offset → A
-  rule-never code offset f = let z : got sides next ≡ fault code offset = sym e ∙ f in absurd (false≢true (cc))
+module _ (source : Source) (unused : ℕ) (σ : Signature) (at : ℕ) (sides : Sides) (next : ℕ)
+    (e : ruleReader source unused σ at ≡ got sides next) where
+  one-read : rulesReader source unused σ 1 at ≡ got (sides ∷ []) next
+  one-read =
+      done-all source unused σ 1 at 1 next (sides ∷ [])
+      (done-more source unused σ 1 at 0 at [] (done-none source unused σ 1 at) (omega arith) sides next e) (omega arith)
 
-  pub rule-marked : (m : MarkedRule) → MarksRead σ sidesThemselves x (rule.Got m) → m .mark ≡ sidesMark σ sides
-  rule-marked m (r, read, marks) =
-      let z : got r (m .cursor .at) ≡ got sides next = sym read ∙ e in
-      let q : r ≡ sides = cc in marks .mark ∙ ap (sidesMark σ) q
+  -- Where one rule is marked, its mark stands first.
+  pub one-marked : (r : Answer) (mark : ℕ) (marks₀ marks : List ℕ) (margins₀ margins : List ℤ) →
+      AllMarked σ (rulesReader source unused σ 1 at) r (mark ∷ marks₀) marks margins₀ margins →
+      getD marks 0 0 ≡ sidesMark σ sides
+  one-marked (answer.Got decreasing end) mark marks₀ marks margins₀ margins (rules, read, listed) =
+      let z : got rules end ≡ got (sides ∷ []) next = sym read ∙ one-read in
+      let q : rules ≡ sides ∷ [] = cc in
+      let stored : marks ≡ sets (mark ∷ marks₀) 0 (sidesMark σ sides ∷ []) = rw q at (listed .marks) in
+      ap (λ (l : List ℕ). getD l 0 0) stored
+  one-marked (answer.Fault offset code) mark marks₀ marks margins₀ margins read =
+      let z : fault code offset ≡ got (sides ∷ []) next = sym read ∙ one-read in absurd (false≢true (cc))
 
 -- A rule that is found has its number below the count of rules.
 left-is : (file : RuleFile) (marked last at : ℕ) → standingIn marked (got file last) ≡ Left at →

@@ -22,7 +22,6 @@ ghost use Rattle.marking.specs.Rule.{sidesMark};
 ghost use Rattle.seeking.specs.One.{standingIn, fileStanding, RuleSkipped, RulesSkipped};
 use bits::BitCursor;
 use bits::Read;
-use marking::rule::RuleReading;
 
 // How a packed file stands of which so many rules are marked: it is refused or has fewer rules, it has no others, or
 // the next begins at a bit.
@@ -125,7 +124,8 @@ pub fn find_next(book: &[u8], marked: usize) -> Standing
     }
 }
 
-// The mark of the rule that begins at a bit, under a symbol table.
+// The mark of the rule that begins at a bit, under a symbol table. `mark_rule` is left to one caller, of whose loop it
+// is then made part.
 fn mark_there(book: &[u8], table: &[u16], cursor: BitCursor) -> u8
     requires { ⌜ (length (now book) ≤ maxBytes) × (cursor .at ≤ 8 * length (now book)) ⌝ }
     requires { ⌜ IsTable (now table) ⌝ }
@@ -138,10 +138,19 @@ fn mark_there(book: &[u8], table: &[u16], cursor: BitCursor) -> u8
     let arities = symbols::arities(table);
     let mut adds = [0u64; weights::NODE_SUMS];
     weights::nodes::put_node_sums(table, &mut adds);
-    match marking::rule::mark_rule(book, table, &arities, &adds, cursor) {
-        RuleReading::Fault { .. } => 0,
-        RuleReading::Got(rule) => rule.mark,
-    }
+    let mut marks = [0u8; 1];
+    let mut none = [0i64; 0];
+    marking::walk::mark_rules(
+        book,
+        table,
+        &arities,
+        &adds,
+        &mut marks,
+        &mut none,
+        1,
+        cursor,
+    );
+    marks[0]
 }
 
 // The mark of the rule that was found at a bit of a packed file.

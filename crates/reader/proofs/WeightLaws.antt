@@ -1,13 +1,14 @@
 -- Laws of a symbol's weight, and of symbols of arity 1 that weigh 0.
---     weighs-enough, weighs-less, weighs-too-little     the test of a weight, by form 1's least weight and by the form
---     has-more                             whether one of the symbols has arity 1 and weighs 0, with one symbol more
+--     weighs-enough, weighs-less, weighs-too-little     the test of a weight, by what is kept and by the form
+--     weightless-told                      the least weights tell whether a symbol of arity 1 weighs 0
+--     has-more                             the least weights with one symbol more
 --     none-outranked                       where none has, none is outranked
-use mathlib.Core.Path.{_≡_, refl, sym, _∙_}
+use mathlib.Core.Path.{_≡_, refl, sym}
 use mathlib.Core.List.{List, [], _∷_, _++_}
 use mathlib.Core.Bool.{Bool, true, false, false≢true, _&&_, _||_, not, or-false, or-assoc}
 use Prim.Native.Nat.{ℕ, suc, zero, _≤_, _<_}
 use native.Mathlib.Omega.{arith}
-use lib.ListN.{length}
+use lib.ListN.{length, getD, set}
 use lib.Dec.{eqb, leb}
 use borrow.Author.Tests.{le-leb, lt-leb, eq-eqb, ne-eqb}
 use Rattle.multisets.proofs.Relations.{byTest}
@@ -15,38 +16,57 @@ use Rattle.terms.specs.Signature.{Symbol}
 use Rattle.format.specs.Layout.{firstForm}
 use Rattle.format.specs.Forms.{leastWeightIn}
 use Rattle.format.specs.Symbols.{outranks, outrankedFrom}
-use Rattle.reader.specs.Symbol.{isZeroWeightUnary, hasZeroWeightUnary}
+use Rattle.reader.specs.Symbol.{isZeroWeightUnary, hasZeroWeightUnary, leastWeights, LeastKept}
 
 -- ---- the test
 
+-- A list of zeros has nothing else.
+zeros : (n : ℕ) → getD {A = ℕ} (0 ∷ 0 ∷ 0 ∷ 0 ∷ 0 ∷ 0 ∷ []) n 0 ≡ 0
+zeros zero = refl
+zeros (suc zero) = refl
+zeros (suc (suc zero)) = refl
+zeros (suc (suc (suc zero))) = refl
+zeros (suc (suc (suc (suc zero)))) = refl
+zeros (suc (suc (suc (suc (suc zero))))) = refl
+zeros (suc (suc (suc (suc (suc (suc n)))))) = refl
+
 module _ (form w0 : ℕ) where
-  pub weighs-enough : (arity weight : ℕ) → leastWeightIn firstForm w0 arity ≤ weight →
-      (leb (leastWeightIn form w0 arity) weight ≡ true) × ((eqb arity 1 && eqb weight 0) ≡ false)
-  weighs-enough zero weight h = (le-leb w0 weight h, refl)
-  weighs-enough (suc zero) weight h = (
+  pub weighs-enough : (weightless : Bool) (arity weight : ℕ) → (weightless ≡ true → eqb form firstForm ≡ false) →
+      getD (leastWeights w0 weightless) arity 0 ≤ weight →
+      (leb (leastWeightIn form w0 arity) weight ≡ true) × ((weightless || (eqb arity 1 && eqb weight 0)) ≡ weightless)
+  weighs-enough weightless zero weight late h = (le-leb w0 weight h, or-false weightless)
+  weighs-enough true (suc zero) weight late h = (rw (late refl) (le-leb 0 weight (omega arith)), refl)
+  weighs-enough false (suc zero) weight late h = (
     byTest (eqb form firstForm) (λ e. rw e (le-leb 1 weight h)) (λ e. rw e (le-leb 0 weight (omega arith))),
     ne-eqb weight 0 (λ e. omega arith),
   )
-  weighs-enough (suc (suc n)) weight h =
-      (le-leb 0 weight (omega arith), rw (ne-eqb (suc (suc n)) 1 (λ e. omega arith)))
+  weighs-enough weightless (suc (suc n)) weight late h =
+      (le-leb 0 weight (omega arith), rw (ne-eqb (suc (suc n)) 1 (λ e. omega arith)) (or-false weightless))
 
-  pub weighs-less : (arity weight : ℕ) → weight < leastWeightIn firstForm w0 arity →
+  pub weighs-less : (weightless : Bool) (arity weight : ℕ) → weight < getD (leastWeights w0 weightless) arity 0 →
       (not (eqb form firstForm) && eqb arity 1) ≡ true →
-      (leb (leastWeightIn form w0 arity) weight ≡ true) × ((eqb arity 1 && eqb weight 0) ≡ true)
-  weighs-less zero weight h less =
+      (leb (leastWeightIn form w0 arity) weight ≡ true)
+      × LeastKept form w0 (weightless || (eqb arity 1 && eqb weight 0)) (set (leastWeights w0 weightless) arity 0)
+  weighs-less weightless zero weight h less =
       byTest (eqb form firstForm) (λ e. absurd (false≢true (rw e at less))) λ e. absurd (false≢true (rw e at less))
-  weighs-less (suc zero) weight h less = (
-    byTest (eqb form firstForm) (λ e. absurd (false≢true (rw e at less))) (λ e. rw e (le-leb 0 weight (omega arith))),
-    eq-eqb weight 0 (omega arith),
-  )
-  weighs-less (suc (suc n)) weight h less = absurd (omega arith)
+  weighs-less true (suc zero) weight h less = absurd (omega arith)
+  weighs-less false (suc zero) weight h less =
+      byTest (eqb form firstForm) (λ e. absurd (false≢true (rw e at less)))
+      λ e. (rw e (le-leb 0 weight (omega arith)), rw (eq-eqb weight 0 (omega arith)) (refl, λ late. e))
+  weighs-less weightless (suc (suc n)) weight h less = absurd (omega (arith, zeros n))
 
-  pub weighs-too-little : (arity weight : ℕ) → weight < leastWeightIn firstForm w0 arity →
+  pub weighs-too-little : (weightless : Bool) (arity weight : ℕ) → weight < getD (leastWeights w0 weightless) arity 0 →
       (not (eqb form firstForm) && eqb arity 1) ≡ false → leb (leastWeightIn form w0 arity) weight ≡ false
-  weighs-too-little zero weight h more = lt-leb w0 weight h
-  weighs-too-little (suc zero) weight h more =
+  weighs-too-little weightless zero weight h more = lt-leb w0 weight h
+  weighs-too-little true (suc zero) weight h more = absurd (omega arith)
+  weighs-too-little false (suc zero) weight h more =
       byTest (eqb form firstForm) (λ e. rw e (lt-leb 1 weight h)) λ e. absurd (false≢true (sym (rw e at more)))
-  weighs-too-little (suc (suc n)) weight h more = absurd (omega arith)
+  weighs-too-little weightless (suc (suc n)) weight h more = absurd (omega (arith, zeros n))
+
+pub weightless-told : (form w0 : ℕ) (weightless : Bool) (least : List ℕ) → LeastKept form w0 weightless least →
+    eqb (getD least 1 0) 0 ≡ weightless
+weightless-told form w0 true least kept = rw (kept .0)
+weightless-told form w0 false least kept = rw (kept .0)
 
 -- ---- symbols of arity 1 that weigh 0
 
@@ -56,9 +76,10 @@ has-append [] s = or-false (isZeroWeightUnary s)
 has-append (t ∷ ss) s =
     rw (has-append ss s) (sym (or-assoc (isZeroWeightUnary t) (hasZeroWeightUnary ss) (isZeroWeightUnary s)))
 
-pub has-more : (before after : Bool) (ss all : List Symbol) (s : Symbol) → before ≡ hasZeroWeightUnary ss →
-    after ≡ (before || isZeroWeightUnary s) → all ≡ ss ++ (s ∷ []) → after ≡ hasZeroWeightUnary all
-has-more before after ss all s e f g = f ∙ rw (e, g) (sym (has-append ss s))
+pub has-more : (form w0 : ℕ) (least : List ℕ) (ss all : List Symbol) (s : Symbol) → all ≡ ss ++ (s ∷ []) →
+    LeastKept form w0 (hasZeroWeightUnary ss || isZeroWeightUnary s) least →
+    LeastKept form w0 (hasZeroWeightUnary all) least
+has-more form w0 least ss all s e kept = rw (e, has-append ss s) kept
 
 -- Neither of the first two tests holds of it, so that not all three do.
 fails-all : (a b c d : Bool) → ((a && b) || d) ≡ false → ((a && (b && c)) ≡ false) × (d ≡ false)

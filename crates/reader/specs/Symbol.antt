@@ -1,11 +1,12 @@
 -- What the answers of reading the symbols stand for.
 use mathlib.Core.Path.{_≡_}
 use mathlib.Core.List.{List, [], _∷_, _++_}
-use mathlib.Core.Bool.{Bool, false, _&&_, _||_}
+use mathlib.Core.Bool.{Bool, true, false, cond, _&&_, _||_}
 use Prim.Native.Nat.{ℕ, _<_}
 use lib.Dec.{eqb}
 use lib.ListN.{length, getD}
 use Rattle.terms.specs.Signature.{Symbol}
+use Rattle.format.specs.Layout.{firstForm}
 use Rattle.format.specs.Reading.{Reading}
 use Rattle.format.specs.Reading.Reading.{got, fault}
 use Rattle.format.specs.Symbols.{heldBy}
@@ -24,10 +25,20 @@ abbrev pub hasZeroWeightUnary : List Symbol → Bool
 hasZeroWeightUnary [] = false
 hasZeroWeightUnary (s ∷ ss) = isZeroWeightUnary s || hasZeroWeightUnary ss
 
--- The flag before and after the weight of a symbol of that arity: set where it was, and by a weight of 0 of arity 1.
-abbrev pub Weighed : ℕ → Bool → Answer → Bool → Type 0
-Weighed arity before (Got weight next) after = after ≡ (before || (eqb arity 1 && eqb weight 0))
-Weighed arity before (Fault offset code) after = Unit {0}
+-- The least weights of form 1 by the arity; that of arity 1 is 0 if such a symbol weighs 0.
+abbrev pub leastWeights : ℕ → Bool → List ℕ
+leastWeights w0 weightless = w0 ∷ cond weightless 0 1 ∷ 0 ∷ 0 ∷ 0 ∷ 0 ∷ 0 ∷ 0 ∷ []
+
+-- These are kept, by whether a symbol of arity 1 weighs 0, which none does in form 1.
+abbrev pub LeastKept : ℕ → ℕ → Bool → List ℕ → Type 0
+LeastKept form w0 weightless least =
+    (least ≡ leastWeights w0 weightless) × (weightless ≡ true → eqb form firstForm ≡ false)
+
+-- What is kept after the weight of a symbol of that arity.
+abbrev pub Weighed : ℕ → ℕ → ℕ → Bool → Answer → List ℕ → Type 0
+Weighed form w0 arity weightless (Got weight next) least =
+    LeastKept form w0 (weightless || (eqb arity 1 && eqb weight 0)) least
+Weighed form w0 arity weightless (Fault offset code) least = Unit {0}
 
 -- What is read after the earlier symbols, where it ends and what is stored of it, the answer, and the symbols and the
 -- marks afterwards.

@@ -1,7 +1,7 @@
 // The symbol table of a rule file: a symbol's entry, and all of them into a table.
 ghost use mathlib.Core.Path.{_≡_};
 ghost use mathlib.Core.List.{List, [], _∷_, _++_, map};
-ghost use mathlib.Core.Bool.{false, _||_, not};
+ghost use mathlib.Core.Bool.{false, not};
 ghost use Prim.Native.Nat.{ℕ, _+_, _≤_, _<_};
 ghost use lib.Dec.{eqb};
 ghost use lib.ListN.{length};
@@ -16,8 +16,9 @@ ghost use Rattle.answers.specs.Answer.{readingOf, Below};
 ghost use Rattle.bits.specs.Cursor.{told};
 ghost use Rattle.reader.specs.Source.{sourceOf, Reached, tableOf, Room, Stored, tested};
 ghost use Rattle.reader.specs.File.{storedForm};
-ghost use Rattle.reader.specs.Symbol.{TakenBy, isZeroWeightUnary, hasZeroWeightUnary, SymbolPut, SymbolsRead};
+ghost use Rattle.reader.specs.Symbol.{TakenBy, hasZeroWeightUnary, LeastKept, SymbolPut, SymbolsRead};
 use crate::field::field;
+use crate::weight::ARITIES;
 use crate::weight::read_weight;
 use bits::BitCursor;
 use bits::Read;
@@ -80,17 +81,16 @@ fn put_entry(
     }
 }
 
-// Reads the symbol of that number, of a packed file into the table, after those before it, and marks its rank. The flag
-// is set if it has arity 1 and weighs 0.
+// Reads the symbol of that number, of a packed file into the table, after those before it, and marks its rank. The
+// least weights are kept for those after it.
 fn read_symbol(
     book: &[u8],
     sheet: &[u16],
     packed: bool,
     table: &mut [u16],
     taken: &mut [bool; RANKS],
-    weightless: &mut bool,
     form: u16,
-    w0: u16,
+    least: &mut [u16; ARITIES],
     number: usize,
     cursor: BitCursor,
 ) -> Read
@@ -100,14 +100,19 @@ fn read_symbol(
         TakenBy (symbolsAt (tableOf packed (now sheet) (now table)) 0 number) (now taken) × (length (now taken) ≡ 256)
         ⌝ }
     ensures { λ r. ⌜
+        ((w0 : ℕ) →
+        LeastKept form w0 (hasZeroWeightUnary (symbolsAt (tableOf packed (now (sheet .entry)) (now (table .entry))) 0
+        number)) (now (least .entry)) →
         SymbolPut
         (symbolReader (sourceOf packed (now (book .entry)) (now (sheet .entry))) (leastWeightIn form w0)
         (symbolsAt (tableOf packed (now (sheet .entry)) (now (table .entry))) 0 number) (cursor .at))
         (symbolsAt (tableOf packed (now (sheet .entry)) (now (table .entry))) 0 number)
         (Reached packed (now (book .entry)) (now (sheet .entry)) (tableWords (number + 1)))
         (λ (s : Symbol). Stored packed (tableWords number) (map itemWord (symbolItems s)) (now (table .entry))
-        (now (table .exit)) × (now (weightless .exit) ≡ (now (weightless .entry) || isZeroWeightUnary s))) (told r)
-        (symbolsAt (tableOf packed (now (sheet .entry)) (now (table .exit))) 0 (number + 1)) (now (taken .exit))
+        (now (table .exit)) × LeastKept form w0
+        (hasZeroWeightUnary (symbolsAt (tableOf packed (now (sheet .entry)) (now (table .exit))) 0 (number + 1)))
+        (now (least .exit))) (told r)
+        (symbolsAt (tableOf packed (now (sheet .entry)) (now (table .exit))) 0 (number + 1)) (now (taken .exit)))
         ⌝ }
     ensures { λ r. ⌜ length (now (taken .exit)) ≡ 256 ⌝ }
 {
@@ -126,7 +131,7 @@ fn read_symbol(
         let code = format::AC_NOT_BINARY;
         return Read::Fault { code, offset };
     }
-    let read = read_weight(book, sheet, packed, form, w0, arity, weightless, cursor);
+    let read = read_weight(book, sheet, packed, form, least, arity, cursor);
     let Read::Got { value, cursor } = read else {
         return read;
     };
@@ -154,7 +159,7 @@ fn read_symbols_from(
     cursor: BitCursor,
 ) -> Read
     requires { ⌜ (length (now book) ≤ maxBytes) × (count < 256) × Room packed (tableWords count) (now table) ⌝ }
-    requires { ⌜ Reached packed (now book) (now sheet) 4 (cursor .at) × (now weightless ≡ false) ⌝ }
+    requires { ⌜ Reached packed (now book) (now sheet) 4 (cursor .at) ⌝ }
     ensures { λ r. ⌜
         SymbolsRead
         (symbolsReader (sourceOf packed (now (book .entry)) (now (sheet .entry))) (leastWeightIn form w0) count []
@@ -165,6 +170,7 @@ fn read_symbols_from(
         ⌝ }
 {
     let mut taken = [false; RANKS];
+    let mut least = crate::weight::least_weights(w0);
     let mut here = cursor;
     let mut number = 0;
     while number < count {
@@ -174,9 +180,8 @@ fn read_symbols_from(
             packed,
             table,
             &mut taken,
-            weightless,
             form,
-            w0,
+            &mut least,
             number,
             here,
         ) {
@@ -185,6 +190,7 @@ fn read_symbols_from(
         }
         number += 1;
     }
+    *weightless = least[1] == 0;
     Read::Got {
         value: count,
         cursor: here,
@@ -216,9 +222,7 @@ pub fn read_symbols(
     cursor: BitCursor,
 ) -> Read
     requires { ⌜ (length (now book) ≤ maxBytes) × (count < 256) × Room packed (tableWords count) (now table) ⌝ }
-    requires { ⌜
-        Reached packed (now book) (now sheet) 4 (cursor .at) × (rules < 1024) × (now weightless ≡ false)
-        ⌝ }
+    requires { ⌜ Reached packed (now book) (now sheet) 4 (cursor .at) × (rules < 1024) ⌝ }
     ensures { λ r. ⌜
         SymbolsRead
         (symbolsReader (sourceOf packed (now (book .entry)) (now (sheet .entry))) (leastWeightIn form w0) count []

@@ -11,9 +11,11 @@ use Rattle.format.specs.Errors.{weightInadmissible, rankTaken}
 use Rattle.format.specs.Layout.{weightWidth, rankWidth}
 use Rattle.format.specs.Forms.{leastWeightIn}
 use Rattle.reader.specs.Source.{sourceOf, tableOf}
+use Rattle.reader.specs.Symbol.{hasZeroWeightUnary}
 use Rattle.reader.proofs.SourceLaws.{tested-field, entry-stands, reached-entry}
 use Rattle.reader.proofs.SymbolLaws.{not-false, symbol-parts, taken-put, stored-same}
 use Rattle.reader.proofs.SymbolLaws.{arity-unread, mark-unread, mark-refused, weight-unread, rank-unread}
+use Rattle.reader.proofs.WeightLaws.{has-more}
 use borrow.Author.Needs.{needs}
 use Rattle.reader.proofs.symbol.read_symbol.Statement.{statement}
 use Rattle.reader.proofs.symbol.read_symbol.Tie as tie
@@ -23,7 +25,7 @@ ruleset fields = (needs, arity-unread, mark-unread, mark-refused)
 returns : tie.Need-returns
 returns c =
     let c6 = c .before .before .before .before .before .before in
-    rw (c .enum-told .given .1) (search fields, c6 .pre .1 .1 .1)
+    rw (c .enum-told .given .1) (λ w0 kept. search fields, c6 .pre .1 .1 .1)
 
 cast-arity : tie.Need-cast-arity
 cast-arity c =
@@ -33,7 +35,7 @@ cast-arity c =
 returns-2 : tie.Need-returns-2
 returns-2 c =
     let c10 = c .before .before .before .before .before .before .before .before .before .before in
-    rw (c .enum-told2 .given .1) (search fields, c10 .pre .1 .1 .1)
+    rw (c .enum-told2 .given .1) (λ w0 kept. search fields, c10 .pre .1 .1 .1)
 
 cast-ac : tie.Need-cast-ac
 cast-ac c =
@@ -51,7 +53,7 @@ returns-3 : tie.Need-returns-3
 returns-3 c =
     let c13 = c .before .before .before .before .before .before .before .before .before .before .before .before
     .before in
-    (search fields, c13 .pre .1 .1 .1)
+    (λ w0 kept. search fields, c13 .pre .1 .1 .1)
 
 read-weight-requires : tie.Need-read-weight-requires
 read-weight-requires c κs =
@@ -70,17 +72,17 @@ returns-4 c =
     let c13 = c11 .before .before in
     let c17 = c13 .before .before .before .before in
     rw (c .enum-told3 .given .1) (
-      weight-unread _ _ _ _ _ _ _ (c11 .read .given .1) (c13 .field .ensures .0) _ _ _
+      λ w0 kept. weight-unread _ _ _ _ _ _ _ (c11 .read .given .1) (c13 .field .ensures .0) _ _ _
           (c7 .read2 .given .1) (c9 .field2 .ensures .0) _ (c5 .binary-if-ac .ensures)
           (c4 .if1 .left) _ _ _
-          (c .enum-told3 .given .1) (c .before .before .read-weight .ensures .0),
+          (c .enum-told3 .given .1) (c .before .before .read-weight .ensures .0 w0 _ kept .0),
       c17 .pre .1 .1 .1,
     )
 
 cast-weight : tie.Need-cast-weight
 cast-weight c =
     let c3 = c .before .before .before in
-    omega (arith, rw (c .before .read3 .given .1) at (c3 .read-weight .ensures .1 .0))
+    omega (arith, rw (c .before .read3 .given .1) at (c3 .read-weight .ensures .1))
 
 read-rank-requires : tie.Need-read-rank-requires
 read-rank-requires c κs =
@@ -100,10 +102,10 @@ returns-5 c =
     let c18 = c16 .before .before in
     let c22 = c18 .before .before .before .before in
     rw (c .enum-told4 .given .1) (
-      rank-unread _ _ _ _ _ _ _ (c16 .read .given .1) (c18 .field .ensures .0) _ _ _
+      λ w0 kept. rank-unread _ _ _ _ _ _ _ (c16 .read .given .1) (c18 .field .ensures .0) _ _ _
           (c12 .read2 .given .1) (c14 .field2 .ensures .0) _ (c10 .binary-if-ac .ensures)
           (c9 .if1 .left) _ _ _
-          (c5 .read3 .given .1) (c7 .read-weight .ensures .0) (c22 .args .taken .now)
+          (c5 .read3 .given .1) (c7 .read-weight .ensures .0 w0 _ kept .0) (c22 .args .taken .now)
           (c22 .pre .1 .1 .0) _ _ _
           (c .enum-told4 .given .1) (c .before .before .read-rank .ensures .0),
       c22 .pre .1 .1 .1,
@@ -145,11 +147,8 @@ returns-6 c =
     let arity = sym (rw (c21 .read .given .1) at (c23 .field .ensures .0)) in
     let ac = sym (rw (c17 .read2 .given .1) at (c19 .field2 .ensures .0)) in
     let binary = sym (c15 .binary-if-ac .ensures) ∙ not-false _ (c14 .if1 .left) in
-    let weight = sym (rw (c10 .read3 .given .1) at (c12 .read-weight .ensures .0)) in
     let rank = sym (rw (c5 .read4 .given .1) at (c7 .read-rank .ensures .0 earlier (c27 .pre .1 .1 .0))) in
     let small = rw (c5 .read4 .given .1) at (c7 .read-rank .ensures .1) in
-    let parts = symbol-parts (sourceOf (a .packed) (a .book .now) (a .sheet .now)) (leastWeightIn (a .form) (a .w0))
-    earlier (a .cursor .at) in
     let s : Symbol = record {
       arity = c21 .read .given .0 .0;
       ac = eqb (c17 .read2 .given .0 .0) 1;
@@ -158,32 +157,36 @@ returns-6 c =
       coefficients = ones (c21 .read .given .0 .0);
     } in
     let source = sourceOf (a .packed) (a .book .now) (a .sheet .now) in
-    let weighed = tested-field source weightWidth _ weightInadmissible _ _ _ weight .0 in
-    let ranked = tested-field source rankWidth _ rankTaken _ _ _ rank .0 in
-    let stored = c .before .before .put-entry .ensures .0 (a .sheet .now) s refl
-    (entry-stands (a .packed) (a .book .now)
-    (a .sheet .now) (a .number) (a .cursor .at) _ _ _ _ _ _ _ _ (c27 .pre .1 .0) arity ac weighed ranked) in (
-      (
-        s,
-        parts ∙ rw (arity, ac, binary, weight, rank),
-        stored,
-        rw stored (taken-put earlier s (a .taken .now) (c27 .pre .1 .1 .1) small (c27 .pre .1 .1 .0)),
-        reached-entry (a .packed) (a .book .now) (a .sheet .now) (a .number) (a .cursor .at) _ _ _ _ _ _ _ _
-            (c27 .pre .1 .0) arity ac weighed ranked,
-        (
-          stored-same (a .packed) _ _ _ _ _
-              (entry-words _ _ _ _ (rw (c17 .read2 .given .1) at (c19 .field2 .ensures .1)))
-              (c .before .before .put-entry .ensures .1),
-          rw (c10 .read3 .given .1) at (c12 .read-weight .ensures .1 .1),
-        ),
-      ),
+    let ranked = tested-field source rankWidth _ rankTaken _ _ _ rank .0 in (
+      (λ w0 kept.
+          let told = c12 .read-weight .ensures .0 w0 (hasZeroWeightUnary earlier) kept in
+          let (read, least) = rw (c10 .read3 .given .1) at told in
+          let weight = sym read in
+          let weighed = tested-field source weightWidth _ weightInadmissible _ _ _ weight .0 in
+          let stored = c .before .before .put-entry .ensures .0 (a .sheet .now) s refl
+          (entry-stands (a .packed) (a .book .now) (a .sheet .now) (a .number) (a .cursor .at) _ _ _ _ _ _ _ _
+          (c27 .pre .1 .0) arity ac weighed ranked) in (
+            s,
+            symbol-parts source (leastWeightIn (a .form) w0) earlier (a .cursor .at)
+                ∙ rw (arity, ac, binary, weight, rank),
+            stored,
+            rw stored (taken-put earlier s (a .taken .now) (c27 .pre .1 .1 .1) small (c27 .pre .1 .1 .0)),
+            reached-entry (a .packed) (a .book .now) (a .sheet .now) (a .number) (a .cursor .at) _ _ _ _ _ _ _ _
+                (c27 .pre .1 .0) arity ac weighed ranked,
+            (
+              stored-same (a .packed) _ _ _ _ _
+                  (entry-words _ _ _ _ (rw (c17 .read2 .given .1) at (c19 .field2 .ensures .1)))
+                  (c .before .before .put-entry .ensures .1),
+              has-more (a .form) w0 _ earlier _ s stored least,
+            ),
+          )),
       simp length-set (c27 .pre .1 .1 .1),
     )
 
 pub read-symbol-spec : {M : Type 1} → statement M
 read-symbol-spec =
     tie.close (tie.spec (λ c κs. search needs) (λ c. search needs) (λ c. search needs) returns cast-arity
-    (λ c κs. search needs) (λ c. search needs) (λ c. search needs) returns-2 cast-ac binary-if-ac-requires
-    returns-3 read-weight-requires (λ c. search needs) (λ c. search needs) returns-4 cast-weight read-rank-requires
+    (λ c κs. search needs) (λ c. search needs) (λ c. search needs) returns-2 cast-ac binary-if-ac-requires returns-3
+    read-weight-requires (λ c. search needs) (λ c. search needs) returns-4 cast-weight read-rank-requires
     (λ c. search needs) (λ c. search needs) returns-5 cast-put-entry put-entry-requires element-write-taken
     (λ c. search needs) returns-6)

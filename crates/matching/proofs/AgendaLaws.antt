@@ -71,8 +71,7 @@ module _ (σ : Signature) (ws : List ℕ) where
           (pendingAt σ ws new (suc (n + owed)) (free + n) ≡ (pieceAt σ ws i mask ∷ ts) ++ pendingAt σ ws old owed head)
       more-pending owed a =
           let (b, s) = kept-pending mid new (n + owed) rest (free + n) (P .kept) (X .pending owed a) in
-          let l : free + n < free + suc n = omega arith in
-          (
+          let l : free + n < free + suc n = omega arith in (
             rw (P .offsetStored, P .maskStored, P .nextStored) (l, I, b),
             rw (P .offsetStored, P .maskStored, P .nextStored) (ap (_∷_ (pieceAt σ ws i mask)) (s ∙ X .terms owed a)),
           )

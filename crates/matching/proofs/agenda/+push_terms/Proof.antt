@@ -28,7 +28,7 @@ push-terms-returns : (t : ℕ) → push-terms-lts.Need-returns (size-at-reads.As
 push-terms-returns t c = (
   λ σ ws P S. terms-none σ ws _ _ _ (c .before .args .i) _ (c .if1 .taken),
   (omega (arith, c .before .pre), omega (arith, c .before .pre)),
-  )
+)
 
 push-terms-size-at-requires : (t : ℕ) → push-terms-lts.Need-size-at-requires (size-at-reads.Asked, size-at-reads.Learnt, push-terms-below t, push-terms.Post, push-reads.Asked, push-reads.Learnt) (push-terms-at t) push-terms.Post
 push-terms-size-at-requires t c κs =
@@ -80,7 +80,7 @@ push-terms-returns-2 t c = (
   λ σ ws P S. terms-more σ ws P S (omega arith) _ _ _ _ _ _ _ (c .before .before .before .before .size-at .ensures .0)
       (c .before .before .push-terms .ensures .0 σ ws P (step-next P S (omega arith) (c .before .before .before .before .size-at .ensures .0))) (c .push .ensures),
   (omega (arith, c .before .before .before .before .before .before .pre), c .push .ensures .room),
-  )
+)
 
 pub +push-terms-spec : {M : Type 1} → statement M
 +push-terms-spec = close μ-push-terms λ t. push-terms-lts.spec (

@@ -6,7 +6,6 @@ ghost use lib.Dec.{eqb};
 ghost use lib.ListN.{length, getD};
 ghost use Rattle.terms.specs.Signature.{Signature, symbolOf};
 ghost use Rattle.format.specs.Layout.{firstForm};
-ghost use Rattle.format.specs.Forms.{leastWeightIn};
 ghost use Rattle.symbols.specs.Table.{signatureOf, maxTableWords};
 ghost use Rattle.symbols.specs.Arities.{Arities, Between};
 use format::FIRST_FORM;
@@ -84,16 +83,7 @@ pub fn binary_if_ac(arity: u16, ac: u16) -> bool
     ac <= (4u16 >> arity) % 2
 }
 
-// The least weight of a symbol of that arity in form 1, without a branch on the arity.
-pub fn least_weight(w0: u16, arity: u16) -> u16
-    requires { ⌜ arity < 8 ⌝ }
-    ensures { λ r. ⌜ r ≡ leastWeightIn firstForm w0 arity ⌝ }
-{
-    let least = [w0, 1, 0, 0, 0, 0, 0, 0];
-    least[wide(arity)]
-}
-
-// Whether a symbol of that arity may weigh less than that in a file of that form.
+// Whether a symbol of that arity may weigh less in a file of that form than in form 1.
 pub fn may_weigh_less(form: u16, arity: u16) -> bool
     ensures { λ r. ⌜ r ≡ (not (eqb form firstForm) && eqb arity 1) ⌝ }
 {

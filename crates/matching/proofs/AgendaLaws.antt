@@ -1,5 +1,6 @@
 -- The agenda: nodes stored after others, and what is pending.
 --     stored-node                        a node as its three words are stored
+--     same-nodes, nodes-then             nodes as they were
 --     kept-pending                       what is pending stays so where later words change
 --     extended-none, extended-more       no term before what is pending, and one more
 --     sums-extended                      two pieces of a flattening
@@ -20,6 +21,7 @@ use Rattle.equivalence.specs.Keys.{Prepared, sizeIn}
 use Rattle.equivalence.proofs.StepLaws.{row-next, prepared-size, step-next}
 use Rattle.pieces.specs.Pieces.{pieceAt, IsPiece, IsNormal}
 use Rattle.matching.specs.Agenda.{IsPending, offsetIn, maskIn, nextIn, pendingAt, ArePending, KeptBelow, Pushed}
+use Rattle.matching.specs.Agenda.{KeptNodes}
 use Rattle.matching.specs.Agenda.{Extended, InKeys}
 
 -- ---- one node
@@ -43,8 +45,21 @@ stored-node l free i mask next h e =
       room = simp length-set e;
     }
 
+-- ---- nodes as they were
+
+pub same-nodes : (l : List ℕ) (free : ℕ) → length l ≡ 96 → KeptNodes l free l
+same-nodes l free e = record { same = λ k h. refl; room = e }
+
+pub nodes-then : {old mid new : List ℕ} {free after : ℕ} → KeptNodes old free mid → KeptNodes mid after new →
+    free ≤ after → KeptNodes old free new
+nodes-then h k l = record { same = λ i j. k .same i (omega arith) ∙ h .same i j; room = k .room }
+
 module _ (σ : Signature) (ws : List ℕ) where
   -- ---- what is pending
+
+  pub pending-count : (nodes : List ℕ) (n k free : ℕ) → ArePending σ ws nodes n k free → n ≤ free
+  pending-count nodes zero k free a = omega arith
+  pending-count nodes (suc n) k free (l, p, a) = omega (arith, pending-count nodes n (nextIn nodes k) k a)
 
   pub kept-pending : (old new : List ℕ) (n k free : ℕ) → KeptBelow old new (3 * free) → ArePending σ ws old n k free →
       ArePending σ ws new n k free × (pendingAt σ ws new n k ≡ pendingAt σ ws old n k)
@@ -57,9 +72,9 @@ module _ (σ : Signature) (ws : List ℕ) where
       (rw (e, d, g) (l, p, b), rw (e, d, g) (ap (_∷_ (pieceAt σ ws (offsetIn old k) (maskIn old k))) s))
 
   module _ (old : List ℕ) (free head : ℕ) where
-    pub extended-none : Extended σ ws old free 0 head old head []
-    extended-none = record {
-      kept = λ k h. refl;
+    pub extended-none : length old ≡ 96 → Extended σ ws old free 0 head old head []
+    extended-none e = record {
+      kept = same-nodes old free e;
       pending = λ owed a. let e : 0 + owed ≡ owed = omega arith in rw (e, add-zero) a;
       terms = λ owed a. let e : 0 + owed ≡ owed = omega arith in rw e;
     }
@@ -78,7 +93,7 @@ module _ (σ : Signature) (ws : List ℕ) where
 
       pub extended-more : Extended σ ws old free (suc n) head new (free + n) (pieceAt σ ws i mask ∷ ts)
       extended-more = record {
-        kept = λ k h. P .kept k (omega arith) ∙ X .kept k h;
+        kept = record { same = λ k h. P .kept k (omega arith) ∙ X .kept .same k h; room = P .room };
         pending = λ owed a. rw suc-add (more-pending owed a .0);
         terms = λ owed a. rw suc-add (more-pending owed a .1);
       }
@@ -93,12 +108,12 @@ module _ (σ : Signature) (ws : List ℕ) where
     apart = n .apart;
   }
 
-  pub sums-extended : (old mid new : List ℕ) (free head i mask rest : ℕ) → symbolOf σ (getD ws i 0) .ac ≡ true →
-      (offset other : ℕ) → IsNormal σ ws i rest offset other → Pushed old free offset other head mid →
+  pub sums-extended : (old mid new : List ℕ) (free head i mask rest : ℕ) → length old ≡ 96 →
+      symbolOf σ (getD ws i 0) .ac ≡ true → (offset other : ℕ) → IsNormal σ ws i rest offset other → Pushed old free offset other head mid →
       (first own : ℕ) → IsNormal σ ws i mask first own → Pushed mid (free + 1) first own free new →
       Extended σ ws old free 2 head new (free + 1) (pieceAt σ ws i mask ∷ (pieceAt σ ws i rest ∷ []))
-  sums-extended old mid new free head i mask rest c offset other N P first own M Q =
-      let X = extended-more old free head old mid 0 head offset other [] (extended-none old free head)
+  sums-extended old mid new free head i mask rest e c offset other N P first own M Q =
+      let X = extended-more old free head old mid 0 head offset other [] (extended-none old free head e)
       (rw add-zero P) (normal-pending i rest offset other c N) in
       let Y : Extended σ ws old free 1 head mid free (pieceAt σ ws offset other ∷ []) = rw add-zero at X in
       rw (← M .same, ← N .same) (extended-more old free head mid new 1 free first own (pieceAt σ ws offset other ∷ [])
@@ -117,8 +132,9 @@ module _ (σ : Signature) (ws : List ℕ) where
   unfolding pieceAt
   whole-piece i = refl
 
-  pub terms-none : (old : List ℕ) (free head i n : ℕ) → n ≡ 0 → Extended σ ws old free n head old head (partsAt σ ws i n)
-  terms-none old free head i n e = rw e (extended-none old free head)
+  pub terms-none : (old : List ℕ) (free head i n : ℕ) → n ≡ 0 → length old ≡ 96 →
+      Extended σ ws old free n head old head (partsAt σ ws i n)
+  terms-none old free head i n e l = rw e (extended-none old free head l)
 
   module _ {keys : List ℕ} (P : Prepared σ ws keys) {i n : ℕ} (S : Stands σ ws i n) (p : 0 < n) where
     pub terms-more : (old mid new : List ℕ) (free head next w : ℕ) → w ≡ sizeIn keys i →

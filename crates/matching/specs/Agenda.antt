@@ -43,6 +43,11 @@ module _ (σ : Signature) (ws nodes : List ℕ) where
 abbrev pub KeptBelow : List ℕ → List ℕ → ℕ → Type 0
 KeptBelow old new n = (k : ℕ) → k < n → getD new k 0 ≡ getD old k 0
 
+-- The nodes below the index free are as they were.
+pub record KeptNodes (old : List ℕ) (free : ℕ) (new : List ℕ) : Type 0 where
+  pub same : KeptBelow old new (3 * free)
+  pub room : length new ≡ 96
+
 -- A node is stored at the index free, and those below it are as they were.
 pub record Pushed (old : List ℕ) (free i mask next : ℕ) (new : List ℕ) : Type 0 where
   pub offsetStored : offsetIn new free ≡ i
@@ -54,7 +59,7 @@ pub record Pushed (old : List ℕ) (free i mask next : ℕ) (new : List ℕ) : T
 -- From the index r on n terms are pending, and after them what was pending from the index head on.
 pub record Extended (σ : Signature) (ws old : List ℕ) (free n head : ℕ) (new : List ℕ) (r : ℕ) (ts : List Term) :
     Type 0 where
-  pub kept : KeptBelow old new (3 * free)
+  pub kept : KeptNodes old free new
   pub pending : (owed : ℕ) → ArePending σ ws old owed head free → ArePending σ ws new (n + owed) r (free + n)
   pub terms : (owed : ℕ) → ArePending σ ws old owed head free →
       pendingAt σ ws new (n + owed) r ≡ ts ++ pendingAt σ ws old owed head

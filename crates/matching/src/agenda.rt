@@ -37,12 +37,12 @@ pub fn push_terms(
     free: usize,
     head: usize,
 ) -> usize
-    requires { ⌜ InKeys (now keys) i n × (free + n ≤ 32) × (head < 32) × (length (now nodes) ≡ 96) ⌝ }
+    requires { ⌜ InKeys (now keys) i n × (free + n ≤ 32) × (head < 65536) × (length (now nodes) ≡ 96) ⌝ }
     ensures { λ r. ⌜
         ((σ : Signature) (ws : List ℕ) → Prepared σ ws (now (keys .entry)) → Stands σ ws i n →
         Extended σ ws (now (nodes .entry)) free n head (now (nodes .exit)) r (partsAt σ ws i n))
         ⌝ }
-    ensures { λ r. ⌜ (r < 32) × (length (now (nodes .exit)) ≡ 96) ⌝ }
+    ensures { λ r. ⌜ (r < 65536) × (length (now (nodes .exit)) ≡ 96) ⌝ }
 {
     if n == 0 {
         return head;
@@ -70,14 +70,14 @@ pub fn push_sums(
         × IsPiece (signatureOf (now (now table))) (now (now words)) i rest × (mask ≡ 0 → ⊥) × (rest ≡ 0 → ⊥)
         × (symbolOf (signatureOf (now (now table))) (getD (now (now words)) i 0) .ac ≡ true)
         ⌝ }
-    requires { ⌜ (free + 2 ≤ 32) × (head < 32) × (length (now nodes) ≡ 96) ⌝ }
+    requires { ⌜ (free + 2 ≤ 32) × (head < 65536) × (length (now nodes) ≡ 96) ⌝ }
     ensures { λ r. ⌜
         Extended (signatureOf (now (now (table .entry)))) (now (now (words .entry))) (now (nodes .entry)) free 2 head
         (now (nodes .exit)) r
         (pieceAt (signatureOf (now (now (table .entry)))) (now (now (words .entry))) i mask
         ∷ (pieceAt (signatureOf (now (now (table .entry)))) (now (now (words .entry))) i rest ∷ []))
         ⌝ }
-    ensures { λ r. ⌜ r < 32 ⌝ }
+    ensures { λ r. ⌜ r < 65536 ⌝ }
 {
     let last = piece_of(table, words, keys, i, rest);
     push(nodes, free, last.offset, last.mask, head);

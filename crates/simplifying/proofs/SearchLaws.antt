@@ -189,11 +189,11 @@ module _ (f : ℕ) where
   join-size t empty n q = omega arith
   join-size t (full u) n q = omega arith
 
-  bunch-size : (l : List Term) → bunchSize (bunchOf f l) ≡ sum (λ (t : Term). suc (size t)) l
+  pub bunch-size : (l : List Term) → bunchSize (bunchOf f l) ≡ sum (λ (t : Term). suc (size t)) l
   bunch-size [] = refl
   bunch-size (t ∷ l) = join-size t (bunchOf f l) (sum (λ (u : Term). suc (size u)) l) (bunch-size l)
 
-parted-sum : {A : Type 0} (w : A → ℕ) {l m n : List A} → Parted l m n → sum w l ≡ sum w m + sum w n
+pub parted-sum : {A : Type 0} (w : A → ℕ) {l m n : List A} → Parted l m n → sum w l ≡ sum w m + sum w n
 parted-sum w parted = omega arith
 parted-sum w (onLeft p) = omega (arith, parted-sum w p)
 parted-sum w (onRight p) = omega (arith, parted-sum w p)

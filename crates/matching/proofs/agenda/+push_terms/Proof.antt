@@ -26,7 +26,7 @@ push-terms-below t =
 
 push-terms-returns : (t : ℕ) → push-terms-lts.Need-returns (size-at-reads.Asked, size-at-reads.Learnt, push-terms-below t, push-terms.Post, push-reads.Asked, push-reads.Learnt) (push-terms-at t) push-terms.Post
 push-terms-returns t c = (
-  λ σ ws P S. terms-none σ ws _ _ _ (c .before .args .i) _ (c .if1 .taken),
+  λ σ ws P S. terms-none σ ws _ _ _ (c .before .args .i) _ (c .if1 .taken) (c .before .pre .1 .3),
   (omega (arith, c .before .pre), omega (arith, c .before .pre)),
 )
 
@@ -65,7 +65,7 @@ push-terms-push-requires t c κs =
     let a = c .before .before .before .before .before .args in (
       omega (arith, c .before .before .before .before .before .pre),
       omega (arith, keys-inside (a .keys .now) (a .i) (a .n) (omega arith) (c .before .before .before .before .before .pre .1 .0)),
-      omega (arith, c .before .push-terms .ensures .1),
+      omega (arith, c .before .push-terms .ensures .1 .0),
       c .before .push-terms .ensures .1 .1,
     )
 

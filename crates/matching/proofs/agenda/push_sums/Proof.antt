@@ -32,7 +32,7 @@ add-result c = search needs
 
 returns : tie.Need-returns
 returns c = (
-  sums-extended _ _ _ _ _ _ _ _ _ _ (c .before .before .before .before .before .before .pre .1 .0 .4) _ _ (c .before .before .before .before .before .piece-of .ensures) (c .before .before .before .push .ensures) _ _
+  sums-extended _ _ _ _ _ _ _ _ _ _ (c .before .before .before .before .before .before .pre .1 .1 .2) (c .before .before .before .before .before .before .pre .1 .0 .4) _ _ (c .before .before .before .before .before .piece-of .ensures) (c .before .before .before .push .ensures) _ _
       (c .before .before .piece-of2 .ensures) (c .push2 .ensures),
   omega (arith, c .before .before .before .before .before .before .pre),
 )

@@ -15,11 +15,11 @@ use lib.ListN.{length, getD, set, length-set}
 use lib.Seq.{getD-set-same, getD-set-other}
 use mathlib.Core.Bool.{true}
 use Rattle.terms.specs.Signature.{Signature, symbolOf}
-use Rattle.terms.specs.Term.{Term, size}
+use Rattle.terms.specs.Term.{Term}
 use Rattle.subterms.specs.Parts.{partAt, partsAt, Stands}
 use Rattle.equivalence.specs.Keys.{Prepared, sizeIn}
 use Rattle.equivalence.proofs.StepLaws.{row-next, prepared-size, step-next}
-use Rattle.pieces.specs.Pieces.{pieceAt, IsPiece, IsNormal}
+use Rattle.pieces.specs.Pieces.{pieceAt, IsNormal}
 use Rattle.matching.specs.Agenda.{IsPending, offsetIn, maskIn, nextIn, pendingAt, ArePending, KeptBelow, Pushed}
 use Rattle.matching.specs.Agenda.{KeptNodes}
 use Rattle.matching.specs.Agenda.{Extended, InKeys}

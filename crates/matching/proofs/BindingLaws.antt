@@ -7,7 +7,7 @@
 --     takes-again, takes-first                   a variable that is bound, and one that is not
 use mathlib.Core.List.{List, [], _∷_}
 use mathlib.Core.Path.{_≡_, refl, sym, ap, _∙_, fun-ext}
-use mathlib.Core.Bool.{Bool, true, false, cond, false≢true}
+use mathlib.Core.Bool.{Bool, true, false, false≢true}
 use Prim.Native.Nat.{ℕ, suc, zero, _+_, _-_, _≤_, _<_}
 use native.Mathlib.Omega.{arith}
 use native.Mathlib.Numerals.{add-one}
@@ -17,12 +17,11 @@ use lib.Seq.{getD-set-same, getD-set-other}
 use borrow.Author.Tests.{eq-eqb, ne-eqb, eqb-true, eqb-false}
 use Rattle.multisets.proofs.Relations.{byTest}
 use Rattle.terms.specs.Signature.{Signature}
-use Rattle.terms.specs.Term.{Term}
 use Rattle.terms.specs.Words.{firstVariable, words}
 use Rattle.terms.specs.Equivalence.{isEquivalent}
 use Rattle.simplifying.specs.Matching.{Bindings, bindTo}
 use Rattle.simplifying.specs.Matching.Binding.{free, bound}
-use Rattle.simplifying.specs.Agenda.{agenda, advance}
+use Rattle.simplifying.specs.Agenda.{agenda}
 use Rattle.simplifying.proofs.CoverLaws.{advance-free, advance-bound}
 use Rattle.pieces.specs.Buffer.{Same}
 use Rattle.pieces.specs.Pieces.{pieceAt, imageAt}
@@ -106,13 +105,23 @@ module _ (σ : Signature) (ws ps : List ℕ) where
       first = fun-ext λ y.
           byTest (eqb x y)
           (λ e. let d = eqb-true x y e in
-          rw (e, ← d, own, occurs-own ps (getD ps p 0) p refl, getD-set-same offsets x i 0 r,
-          getD-set-same masks x mask 0 q))
+          rw (
+            e,
+            ← d,
+            own,
+            occurs-own ps (getD ps p 0) p refl,
+            getD-set-same offsets x i 0 r,
+            getD-set-same masks x mask 0 q,
+          ))
           λ e. let d = eqb-false x y e in
           let g : getD ps p 0 ≡ firstVariable + y → ⊥ = λ z. d (omega arith) in
           let n : y ≡ x → ⊥ = λ z. d (sym z) in
-          rw (e, occurs-other ps (firstVariable + y) p g, getD-set-other offsets x y i 0 n,
-          getD-set-other masks x y mask 0 n)
+          rw (
+            e,
+            occurs-other ps (firstVariable + y) p g,
+            getD-set-other offsets x y i 0 n,
+            getD-set-other masks x y mask 0 n,
+          )
 
 -- ---- a variable
 
@@ -160,10 +169,14 @@ module _ {σ : Signature} {ws keys ps : List ℕ} (M : Matching σ ws keys ps) {
       maskRoom = length-set masks x mask ∙ B .maskRoom;
       pieces = λ y k. byTest (eqb x y)
           (λ q. let d = eqb-true x y q in
-          rw (← d, getD-set-same offsets x i 0 (omega (arith, B .offsetRoom)), getD-set-same masks x mask 0 (omega (
-            arith,
-            B .maskRoom,
-          ))) I)
+          rw (
+            ← d,
+            getD-set-same offsets x i 0 (omega (arith, B .offsetRoom)),
+            getD-set-same masks x mask 0 (omega (
+              arith,
+              B .maskRoom,
+            )),
+          ) I)
           λ q. let n : y ≡ x → ⊥ = λ z. eqb-false x y q (sym z) in
           rw (getD-set-other offsets x y i 0 n, getD-set-other masks x y mask 0 n) (B .pieces y k);
     }

@@ -7,7 +7,6 @@ use mathlib.Core.Bool.{Bool, true, false, false≢true}
 use Prim.Native.Nat.{ℕ, _+_, _-_, _≤_, _<_}
 use native.Mathlib.Omega.{arith}
 use lib.Bits.{bitAnd}
-use lib.ListN.{length, getD}
 use Rattle.multisets.proofs.Relations.{byOrder}
 use Rattle.terms.specs.Signature.{Signature}
 use Rattle.terms.specs.Term.{Term}

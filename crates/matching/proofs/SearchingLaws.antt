@@ -8,12 +8,12 @@
 --     owed-few, two-arguments, two-fit    how many pieces are pending, and are called for
 --     arguments-fit                       the arguments of a symbol
 --     root-small .. mask-small            a symbol that is the root of a piece: its elements and their masks
-use mathlib.Core.List.{List, [], _∷_, _++_}
-use mathlib.Core.Path.{_≡_, refl, sym, ap, _∙_, subst}
+use mathlib.Core.List.{List, [], _∷_}
+use mathlib.Core.Path.{_≡_, refl, sym}
 use mathlib.Core.Bool.{Bool, true, false}
-use Prim.Native.Nat.{ℕ, suc, zero, _+_, _-_, _*_, _^_, _≤_, _<_}
+use Prim.Native.Nat.{ℕ, suc, zero, _+_, _-_, _^_, _≤_, _<_}
 use native.Mathlib.Omega.{arith}
-use lib.ListN.{length, getD, drop}
+use lib.ListN.{length, getD}
 use native.Mathlib.Nat.{pow-suc}
 use lib.Pow.{pow-pos, pow-mono}
 use Rattle.terms.specs.Signature.{Signature, symbolOf}
@@ -25,7 +25,7 @@ use Rattle.pieces.specs.Pieces.{elementsOf, pieceAt}
 use Rattle.matching.specs.Agenda.{IsPending, offsetIn, maskIn, nextIn, pendingAt, ArePending, KeptNodes}
 use Rattle.matching.specs.Agenda.{Extended}
 use Rattle.matching.specs.Bindings.{Matching, AreBound, Takes}
-use Rattle.matching.specs.Search.{callsFor, Searching, Searched}
+use Rattle.matching.specs.Search.{Searching, Searched}
 use Rattle.matching.proofs.SizeLaws.{elements-few, elements-some}
 use Rattle.matching.proofs.AgendaLaws.{kept-pending, pending-count}
 use Rattle.matching.proofs.FollowLaws.{pending-below, calls-next, step-none, step-one}

@@ -2,8 +2,8 @@
 --     elements-few, elements-some     at most half as many elements as words, and one at least
 --     piece-short                     no more words than the subject
 --     one-stands, shift-all, shift-some     the term at an offset, and the mask of all elements as code shifts it
-use mathlib.Core.List.{List, [], _∷_, _++_}
-use mathlib.Core.Path.{_≡_, refl, sym, ap, _∙_, subst}
+use mathlib.Core.List.{List, [], _∷_}
+use mathlib.Core.Path.{_≡_, sym, ap, _∙_, subst}
 use mathlib.Core.Bool.{true}
 use Prim.Native.Nat.{ℕ, suc, _+_, _-_, _*_, _%_, _^_, _≤_, _<_}
 use native.Mathlib.Omega.{arith}
@@ -15,7 +15,7 @@ use Rattle.multisets.proofs.Relations.{byTest, byOrder}
 use Rattle.multisets.proofs.MultisetLaws.{sum, sum-append}
 use Rattle.terms.specs.Signature.{Signature, symbolOf}
 use Rattle.format.proofs.PackingLaws.{one-shl}
-use Rattle.terms.specs.Term.{Term, Terms, size, sizes, row, flattening, flattenings, WellFormed, WellFormeds, Expression}
+use Rattle.terms.specs.Term.{Term, Terms, size, sizes, row, flattening, flattenings, WellFormed, WellFormeds}
 use Rattle.terms.specs.Term.Term.{var, app}
 use Rattle.terms.specs.Term.Terms.{nil, cons}
 use Rattle.terms.specs.Words.{firstVariable, words}

@@ -13,7 +13,7 @@ use Rattle.simplifying.specs.Agenda.{Agenda, agenda, follows}
 use Rattle.simplifying.specs.Pieces.{Covers}
 use Rattle.pieces.specs.Pieces.{elementsOf, pieceAt}
 use Rattle.matching.specs.Agenda.{ArePending}
-use Rattle.matching.specs.Bindings.{Matching, AreBound, bindingsAt, KeptBindings}
+use Rattle.matching.specs.Bindings.{AreBound, bindingsAt, KeptBindings}
 
 -- How many arguments some words call for.
 abbrev pub callsFor : Signature → List ℕ → ℕ

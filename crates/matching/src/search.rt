@@ -61,12 +61,34 @@ pub fn follow(
     let next = wide(nodes[3 * head + 2]);
     if pattern[p] < FIRST_VARIABLE {
         return follow_symbol(
-            table, words, keys, pattern, p, i, mask, offsets, masks, nodes, free, next, owed - 1,
+            table,
+            words,
+            keys,
+            pattern,
+            p,
+            i,
+            mask,
+            offsets,
+            masks,
+            nodes,
+            free,
+            next,
+            owed - 1,
         );
     }
     if bind(table, words, keys, pattern, p, offsets, masks, i, mask) {
         return follow(
-            table, words, keys, pattern, p + 1, offsets, masks, nodes, free, next, owed - 1,
+            table,
+            words,
+            keys,
+            pattern,
+            p + 1,
+            offsets,
+            masks,
+            nodes,
+            free,
+            next,
+            owed - 1,
         );
     }
     false
@@ -113,17 +135,53 @@ fn follow_symbol(
         if mask == 0 {
             let all = all_elements(table, words, keys, i);
             return divide(
-                table, words, keys, pattern, p, i, all, next_within(all, all), offsets, masks, nodes, free, head, owed,
+                table,
+                words,
+                keys,
+                pattern,
+                p,
+                i,
+                all,
+                next_within(all, all),
+                offsets,
+                masks,
+                nodes,
+                free,
+                head,
+                owed,
             );
         }
         return divide(
-            table, words, keys, pattern, p, i, mask, next_within(mask, mask), offsets, masks, nodes, free, head, owed,
+            table,
+            words,
+            keys,
+            pattern,
+            p,
+            i,
+            mask,
+            next_within(mask, mask),
+            offsets,
+            masks,
+            nodes,
+            free,
+            head,
+            owed,
         );
     }
     let n = arity(*table, word);
     let first = push_terms(keys, i + 1, n, nodes, free, head);
     follow(
-        table, words, keys, pattern, p + 1, offsets, masks, nodes, free + n, first, n + owed,
+        table,
+        words,
+        keys,
+        pattern,
+        p + 1,
+        offsets,
+        masks,
+        nodes,
+        free + n,
+        first,
+        n + owed,
     )
 }
 
@@ -164,11 +222,34 @@ fn divide(
     }
     let first = push_sums(table, words, keys, i, a, all - a, nodes, free, head);
     if follow(
-        table, words, keys, pattern, p + 1, offsets, masks, nodes, free + 2, first, 2 + owed,
+        table,
+        words,
+        keys,
+        pattern,
+        p + 1,
+        offsets,
+        masks,
+        nodes,
+        free + 2,
+        first,
+        2 + owed,
     ) {
         return true;
     }
     divide(
-        table, words, keys, pattern, p, i, all, next_within(a, all), offsets, masks, nodes, free, head, owed,
+        table,
+        words,
+        keys,
+        pattern,
+        p,
+        i,
+        all,
+        next_within(a, all),
+        offsets,
+        masks,
+        nodes,
+        free,
+        head,
+        owed,
     )
 }

@@ -1,3 +1,4 @@
+-- The terms after the first are put before what is pending, and the first before them; the count falls.
 use borrow.Author.Needs.{needs}
 use native.Mathlib.Omega.{arith}
 use Rattle.matching.proofs.AgendaLaws.{terms-none, terms-more, keys-inside, keys-next}

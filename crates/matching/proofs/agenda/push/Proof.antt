@@ -1,10 +1,9 @@
+-- The three words of the node are stored.
 use native.Mathlib.Omega.{arith}
 use Rattle.matching.proofs.AgendaLaws.{stored-node}
 use borrow.Author.Needs.{needs}
 use Rattle.matching.proofs.agenda.push.Statement.{statement}
 use Rattle.matching.proofs.agenda.push.Tie as tie
-use Rattle.matching.proofs.agenda.push.Reads as reads
-use Rattle.matching.proofs.agenda.push.Lts as lts
 
 cast-nodes : tie.Need-cast-nodes
 cast-nodes c = search needs

@@ -1,12 +1,9 @@
+-- The second piece is stored before what is pending, and the first before it.
 use native.Mathlib.Omega.{arith}
 use Rattle.matching.proofs.AgendaLaws.{sums-extended}
 use borrow.Author.Needs.{needs}
 use Rattle.matching.proofs.agenda.push_sums.Statement.{statement}
 use Rattle.matching.proofs.agenda.push_sums.Tie as tie
-use Rattle.matching.proofs.agenda.push_sums.Reads as reads
-use Rattle.matching.proofs.agenda.push_sums.Lts as lts
-use Rattle.matching.proofs.agenda.push.Reads as push-reads
-use Rattle.pieces.proofs.elements.piece_of.Reads as piece-of-reads
 
 piece-of-requires : tie.Need-piece-of-requires
 piece-of-requires c κs = (c .pre .0, (c .pre .1 .0 .1, c .pre .1 .0 .3))

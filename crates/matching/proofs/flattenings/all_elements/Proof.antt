@@ -1,3 +1,4 @@
+-- The elements are counted, and so many bits are set.
 use native.Mathlib.Omega.{arith}
 use mathlib.Core.Path.{refl}
 use Rattle.equivalence.proofs.OffsetLaws.{offsets-length}
@@ -5,9 +6,6 @@ use Rattle.matching.proofs.SizeLaws.{one-stands, shift-all, shift-some}
 use borrow.Author.Needs.{needs}
 use Rattle.matching.proofs.flattenings.all_elements.Statement.{statement}
 use Rattle.matching.proofs.flattenings.all_elements.Tie as tie
-use Rattle.matching.proofs.flattenings.all_elements.Reads as reads
-use Rattle.matching.proofs.flattenings.all_elements.Lts as lts
-use Rattle.equivalence.proofs.flatten.elements.Reads as elements-reads
 
 mul-elements : tie.Need-mul-elements
 mul-elements c = search needs

@@ -1,3 +1,4 @@
+-- The last of the words is looked at, and then those before it.
 use borrow.Author.Needs.{needs}
 use native.Mathlib.Omega.{arith}
 use Rattle.matching.proofs.BindingLaws.{occurs-none, occurs-here, occurs-later}

@@ -1,9 +1,10 @@
+-- Each word has one way on, none, or one for each mask that divides a sum; the words that are left fall, and with them
+-- the masks of a sum.
 use borrow.Author.Needs.{needs}
 use native.Mathlib.Omega.{arith}
 use mathlib.Core.Path.{sym, _∙_}
 use Prim.Native.Nat.{_+_, _-_, _*_}
 use lib.ListN.{length}
-use mathlib.Core.List.{[]}
 use Rattle.matching.proofs.AgendaLaws.{same-nodes, nodes-then, in-keys}
 use Rattle.matching.proofs.FollowLaws.{searched-end, searched-clash, searched-arguments, searched-divided}
 use Rattle.matching.proofs.FollowLaws.{taken-all, taken-own, dividing}
@@ -86,8 +87,7 @@ divide-push-sums-requires : (t : ℕ) → divide-lts.Need-push-sums-requires (pu
 divide-push-sums-requires t c κs =
     let M = c .before .before .pre .1 .0 in
     let S = c .before .before .pre .1 .1 .0 in
-    let G = c .before .before .pre .1 .1 .1 .0 in
-    (
+    let G = c .before .before .pre .1 .1 .1 .0 in (
       M .prepared,
       (
         (
@@ -115,8 +115,7 @@ divide-follow-requires : (t : ℕ) → divide-lts.Need-follow-requires (push-sum
 divide-follow-requires t c κs =
     let M = c .before .before .before .before .before .before .pre .1 .0 in
     let S = c .before .before .before .before .before .before .pre .1 .1 .0 in
-    let G = c .before .before .before .before .before .before .pre .1 .1 .1 .0 in
-    (
+    let G = c .before .before .before .before .before .before .pre .1 .1 .1 .0 in (
       omega (arith, c .before .before .before .before .before .before .pre .0, G .word),
       (
         M,
@@ -128,8 +127,7 @@ divide-follow-requires t c κs =
 divide-returns-2 : (t : ℕ) → divide-lts.Need-returns-2 (push-sums-reads.Asked, push-sums-reads.Learnt, follow-below t, follow.Post, next-within-reads.Asked, next-within-reads.Learnt, divide-below t, divide.Post) (divide-at t) divide.Post
 divide-returns-2 t c =
     let S = c .before .before .before .before .before .before .before .before .pre .1 .1 .0 in
-    let X = c .before .before .before .before .before .push-sums .ensures .0 in
-    (
+    let X = c .before .before .before .before .before .push-sums .ensures .0 in (
       divided-found _ _ _ (c .before .before .before .before .before .before .before .before .pre .1 .1 .1 .0) _ _ _ (c .before .before .before .before .before .before .before .if1 .left) _ (X .terms (c .before .before .before .before .before .before .before .before .args .owed) (S .pending)) _ _ _
           (c .if2 .taken) (c .before .follow .ensures .0),
       nodes-then (X .kept) (c .before .follow .ensures .1) (omega arith),
@@ -142,8 +140,7 @@ divide-divide-requires : (t : ℕ) → divide-lts.Need-divide-requires (push-sum
 divide-divide-requires t c κs =
     let S = c .before .before .before .before .before .before .before .before .before .before .before .before .pre .1 .1 .0 in
     let G = c .before .before .before .before .before .before .before .before .before .before .before .before .pre .1 .1 .1 .0 in
-    let K = nodes-then (c .before .before .before .before .before .before .before .before .before .push-sums .ensures .0 .kept) (c .before .before .before .before .before .follow .ensures .1) (omega arith) in
-    (
+    let K = nodes-then (c .before .before .before .before .before .before .before .before .before .push-sums .ensures .0 .kept) (c .before .before .before .before .before .follow .ensures .1) (omega arith) in (
       omega (arith, c .before .before .before .before .before .before .before .before .before .before .before .before .pre .0, c .before .before .before .next-within .ensures .1),
       (
         c .before .before .before .before .before .before .before .before .before .before .before .before .pre .1 .0,
@@ -158,8 +155,7 @@ divide-returns-3 : (t : ℕ) → divide-lts.Need-returns-3 (push-sums-reads.Aske
 divide-returns-3 t c =
     let S = c .before .before .before .before .before .before .before .before .before .before .before .before .before .pre .1 .1 .0 in
     let X = c .before .before .before .before .before .before .before .before .before .before .push-sums .ensures .0 in
-    let K = nodes-then (X .kept) (c .before .before .before .before .before .before .follow .ensures .1) (omega arith) in
-    (
+    let K = nodes-then (X .kept) (c .before .before .before .before .before .before .follow .ensures .1) (omega arith) in (
       divided-next _ _ _ (c .before .before .before .before .before .before .before .before .before .before .before .before .before .pre .1 .1 .1 .0) _ _ _ (c .before .before .before .before .before .before .before .before .before .before .before .before .if1 .left) _ (X .terms (c .before .before .before .before .before .before .before .before .before .before .before .before .before .args .owed) (S .pending)) _ _ _
           (c .before .before .before .before .before .if2 .left) (c .before .before .before .before .before .before .follow .ensures .0) _ (c .before .before .before .before .next-within .ensures .0) _ (pending-again S K) _ _ _
           (c .divide .ensures .0),
@@ -230,8 +226,7 @@ follow-sub-follow-symbol t c = omega (arith, c .before .before .before .before .
 follow-follow-symbol-requires : (t : ℕ) → follow-lts.Need-follow-symbol-requires (wide-reads.Asked, wide-reads.Learnt, follow-symbol-below t, follow-symbol.Post, bind-reads.Asked, bind-reads.Learnt, follow-below t, follow.Post) (follow-at t) follow.Post
 follow-follow-symbol-requires t c κs =
     let S = c .before .before .before .before .before .before .before .before .before .before .before .before .pre .1 .1 in
-    let h = word-inside S (c .before .before .before .before .before .before .before .before .before .before .before .if1 .left) in
-    (
+    let h = word-inside S (c .before .before .before .before .before .before .before .before .before .before .before .if1 .left) in (
       omega (arith, c .before .before .before .before .before .before .before .before .before .before .before .before .pre .0),
       (
         c .before .before .before .before .before .before .before .before .before .before .before .before .pre .1 .0,
@@ -246,12 +241,11 @@ follow-returns-3 : (t : ℕ) → follow-lts.Need-returns-3 (wide-reads.Asked, wi
 follow-returns-3 t c = (
   searched-first (c .before .before .before .before .before .before .before .before .before .before .before .before .before .pre .1 .1) (c .before .before .before .before .before .before .before .before .before .before .before .if2 .left) (c .before .before .before .before .before .before .before .before .before .wide .ensures .0) (c .before .before .before .before .before .before .wide2 .ensures .0) (c .follow-symbol .ensures .0),
   c .follow-symbol .ensures .1,
-  )
+)
 
 follow-bind-requires : (t : ℕ) → follow-lts.Need-bind-requires (wide-reads.Asked, wide-reads.Learnt, follow-symbol-below t, follow-symbol.Post, bind-reads.Asked, bind-reads.Learnt, follow-below t, follow.Post) (follow-at t) follow.Post
 follow-bind-requires t c κs =
-    let S = c .before .before .before .before .before .before .before .before .before .before .before .pre .1 .1 in
-    (
+    let S = c .before .before .before .before .before .before .before .before .before .before .before .pre .1 .1 in (
       c .before .before .before .before .before .before .before .before .before .before .before .pre .1 .0,
       (
         S .bound,
@@ -268,8 +262,7 @@ follow-sub-follow t c = omega (arith, c .before .before .before .before .before 
 follow-follow-requires : (t : ℕ) → follow-lts.Need-follow-requires (wide-reads.Asked, wide-reads.Learnt, follow-symbol-below t, follow-symbol.Post, bind-reads.Asked, bind-reads.Learnt, follow-below t, follow.Post) (follow-at t) follow.Post
 follow-follow-requires t c κs =
     let S = c .before .before .before .before .before .before .before .before .before .before .before .before .before .before .before .before .pre .1 .1 in
-    let h = word-inside S (c .before .before .before .before .before .before .before .before .before .before .before .before .before .before .before .if1 .left) in
-    (
+    let h = word-inside S (c .before .before .before .before .before .before .before .before .before .before .before .before .before .before .before .if1 .left) in (
       omega (arith, c .before .before .before .before .before .before .before .before .before .before .before .before .before .before .before .before .pre .0),
       (
         c .before .before .before .before .before .before .before .before .before .before .before .before .before .before .before .before .pre .1 .0,
@@ -279,8 +272,7 @@ follow-follow-requires t c κs =
 
 follow-returns-4 : (t : ℕ) → follow-lts.Need-returns-4 (wide-reads.Asked, wide-reads.Learnt, follow-symbol-below t, follow-symbol.Post, bind-reads.Asked, bind-reads.Learnt, follow-below t, follow.Post) (follow-at t) follow.Post
 follow-returns-4 t c =
-    let S = c .before .before .before .before .before .before .before .before .before .before .before .before .before .before .before .before .before .pre .1 .1 in
-    (
+    let S = c .before .before .before .before .before .before .before .before .before .before .before .before .before .before .before .before .before .pre .1 .1 in (
       searched-variable S (c .before .before .before .before .before .before .before .before .before .before .before .before .before .before .before .if2 .left) (c .before .before .before .before .before .before .before .before .before .before .before .before .before .wide .ensures .0) (c .before .before .before .before .before .before .before .before .before .before .wide2 .ensures .0) (word-inside S (c .before .before .before .before .before .before .before .before .before .before .before .before .before .before .before .before .if1 .left))
           (c .before .before .before .before .before .bind .ensures) (c .before .before .before .before .if4 .taken) (c .follow .ensures .0),
       c .follow .ensures .1,
@@ -288,8 +280,7 @@ follow-returns-4 t c =
 
 follow-returns-5 : (t : ℕ) → follow-lts.Need-returns-5 (wide-reads.Asked, wide-reads.Learnt, follow-symbol-below t, follow-symbol.Post, bind-reads.Asked, bind-reads.Learnt, follow-below t, follow.Post) (follow-at t) follow.Post
 follow-returns-5 t c =
-    let S = c .before .before .before .before .before .before .before .before .before .before .before .before .before .pre .1 .1 in
-    (
+    let S = c .before .before .before .before .before .before .before .before .before .before .before .before .before .pre .1 .1 in (
       searched-refused S (c .before .before .before .before .before .before .before .before .before .before .before .if2 .left) (c .before .before .before .before .before .before .before .before .before .wide .ensures .0) (c .before .before .before .before .before .before .wide2 .ensures .0) (word-inside S (c .before .before .before .before .before .before .before .before .before .before .before .before .if1 .left))
           (c .before .bind .ensures) (c .if4 .left),
       same-nodes _ _ (S .room),
@@ -310,8 +301,7 @@ follow-symbol-index-1-if1 t c = c .before .pre .1 .1 .1 .0 .isPiece .inside
 follow-symbol-returns : (t : ℕ) → follow-symbol-lts.Need-returns (is-ac-reads.Asked, is-ac-reads.Learnt, all-elements-reads.Asked, all-elements-reads.Learnt, next-within-reads.Asked, next-within-reads.Learnt, divide-below t, divide.Post, arity-reads.Asked, arity-reads.Learnt, push-terms-reads.Asked, push-terms-reads.Learnt, follow-below t, follow.Post) (follow-symbol-at t) follow-symbol.Post
 follow-symbol-returns t c =
     let q = c .before .before .before .pre .1 .1 .1 in
-    let S = c .before .before .before .pre .1 .1 .0 in
-    (
+    let S = c .before .before .before .pre .1 .1 .0 in (
       searched-clash (c .before .before .before .pre .1 .0) (q .0) (q .1) (q .2) _ _ _ (S .bound) (c .if1 .taken),
       same-nodes _ _ (S .room),
     )
@@ -322,8 +312,7 @@ follow-symbol-is-ac-requires t c κs = search needs
 follow-symbol-all-elements-requires : (t : ℕ) → follow-symbol-lts.Need-all-elements-requires (is-ac-reads.Asked, is-ac-reads.Learnt, all-elements-reads.Asked, all-elements-reads.Learnt, next-within-reads.Asked, next-within-reads.Learnt, divide-below t, divide.Post, arity-reads.Asked, arity-reads.Learnt, push-terms-reads.Asked, push-terms-reads.Learnt, follow-below t, follow.Post) (follow-symbol-at t) follow-symbol.Post
 follow-symbol-all-elements-requires t c κs =
     let M = c .before .before .before .before .before .before .before .pre .1 .0 in
-    let q = c .before .before .before .before .before .before .before .pre .1 .1 .1 in
-    (
+    let q = c .before .before .before .before .before .before .before .pre .1 .1 .1 in (
       M .prepared,
       (
         (q .0 .isPiece .inside, root-small M (q .0) (c .before .before .before .before .before .before .before .args .p) (q .2) (c .before .before .before .before .if1 .left)),
@@ -343,16 +332,14 @@ follow-symbol-divide-requires t c κs =
     let q = c .before .before .before .before .before .before .before .before .before .before .before .before .pre .1 .1 .1 in
     let e = c .before .before .before .before .before .before .before .before .before .if1 .left in
     let k = sym (c .before .before .before .before .before .before .if2 .taken) ∙ c .before .before .before .before .before .before .before .is-ac .ensures in
-    let T = taken-all M (q .0) (root-small M (q .0) (c .before .before .before .before .before .before .before .before .before .before .before .before .args .p) (q .2) e) (c .before .before .before .before .before .if3 .taken) _ (c .before .before .before .before .all-elements .ensures .0) in
-    (
+    let T = taken-all M (q .0) (root-small M (q .0) (c .before .before .before .before .before .before .before .before .before .before .before .before .args .p) (q .2) e) (c .before .before .before .before .before .if3 .taken) _ (c .before .before .before .before .all-elements .ensures .0) in (
       omega (arith, c .before .before .before .before .before .before .before .before .before .before .before .before .pre .0, q .1, c .before .before .before .before .all-elements .ensures .1, c .before .before .before .next-within .ensures .1),
       (
         M,
         (
           c .before .before .before .before .before .before .before .before .before .before .before .before .pre .1 .1 .0,
           (
-            dividing M (q .0) (q .1) (q .2) (c .before .before .before .before .before .before .before .before .before .before .before .before .args .offsets .now) (c .before .before .before .before .before .before .before .before .before .before .before .before .args .masks .now) [] e k T
-                (c .before .before .before .next-within .ensures .0) (c .before .before .before .next-within .ensures .1),
+            dividing M (q .0) (q .1) (q .2) e k T (c .before .before .before .next-within .ensures .0) (c .before .before .before .next-within .ensures .1),
             sym k,
           ),
         ),
@@ -364,8 +351,7 @@ follow-symbol-returns-2 t c =
     let M = c .before .before .before .before .before .before .before .before .before .before .before .before .before .pre .1 .0 in
     let q = c .before .before .before .before .before .before .before .before .before .before .before .before .before .pre .1 .1 .1 in
     let e = c .before .before .before .before .before .before .before .before .before .before .if1 .left in
-    let T = taken-all M (q .0) (root-small M (q .0) (c .before .before .before .before .before .before .before .before .before .before .before .before .before .args .p) (q .2) e) (c .before .before .before .before .before .before .if3 .taken) _ (c .before .before .before .before .before .all-elements .ensures .0) in
-    (
+    let T = taken-all M (q .0) (root-small M (q .0) (c .before .before .before .before .before .before .before .before .before .before .before .before .before .args .p) (q .2) e) (c .before .before .before .before .before .before .if3 .taken) _ (c .before .before .before .before .before .all-elements .ensures .0) in (
       searched-divided M (q .0) (q .1) (q .2) _ _ _ e (sym (c .before .before .before .before .before .before .before .if2 .taken) ∙ c .before .before .before .before .before .before .before .before .is-ac .ensures) T _
           (c .before .before .before .before .next-within .ensures .0) _ _ _ (c .divide .ensures .0),
       c .divide .ensures .1,
@@ -380,8 +366,7 @@ follow-symbol-divide-requires-2 t c κs =
     let q = c .before .before .before .before .before .before .before .before .before .before .before .pre .1 .1 .1 in
     let e = c .before .before .before .before .before .before .before .before .if1 .left in
     let k = sym (c .before .before .before .before .before .if2 .taken) ∙ c .before .before .before .before .before .before .is-ac .ensures in
-    let T = taken-own M (q .0) (root-small M (q .0) (c .before .before .before .before .before .before .before .before .before .before .before .args .p) (q .2) e) (c .before .before .before .before .if3 .left) in
-    (
+    let T = taken-own M (q .0) (root-small M (q .0) (c .before .before .before .before .before .before .before .before .before .before .before .args .p) (q .2) e) (c .before .before .before .before .if3 .left) in (
       omega (
         arith,
         c .before .before .before .before .before .before .before .before .before .before .before .pre .0,
@@ -394,8 +379,7 @@ follow-symbol-divide-requires-2 t c κs =
         (
           c .before .before .before .before .before .before .before .before .before .before .before .pre .1 .1 .0,
           (
-            dividing M (q .0) (q .1) (q .2) (c .before .before .before .before .before .before .before .before .before .before .before .args .offsets .now) (c .before .before .before .before .before .before .before .before .before .before .before .args .masks .now) [] e k T
-                (c .before .before .before .next-within2 .ensures .0) (c .before .before .before .next-within2 .ensures .1),
+            dividing M (q .0) (q .1) (q .2) e k T (c .before .before .before .next-within2 .ensures .0) (c .before .before .before .next-within2 .ensures .1),
             sym k,
           ),
         ),
@@ -407,8 +391,7 @@ follow-symbol-returns-3 t c =
     let M = c .before .before .before .before .before .before .before .before .before .before .before .before .pre .1 .0 in
     let q = c .before .before .before .before .before .before .before .before .before .before .before .before .pre .1 .1 .1 in
     let e = c .before .before .before .before .before .before .before .before .before .if1 .left in
-    let T = taken-own M (q .0) (root-small M (q .0) (c .before .before .before .before .before .before .before .before .before .before .before .before .args .p) (q .2) e) (c .before .before .before .before .before .if3 .left) in
-    (
+    let T = taken-own M (q .0) (root-small M (q .0) (c .before .before .before .before .before .before .before .before .before .before .before .before .args .p) (q .2) e) (c .before .before .before .before .before .if3 .left) in (
       searched-divided M (q .0) (q .1) (q .2) _ _ _ e (sym (c .before .before .before .before .before .before .if2 .taken) ∙ c .before .before .before .before .before .before .before .is-ac .ensures) T _
           (c .before .before .before .before .next-within2 .ensures .0) _ _ _ (c .divide2 .ensures .0),
       c .divide2 .ensures .1,
@@ -424,8 +407,7 @@ follow-symbol-push-terms-requires : (t : ℕ) → follow-symbol-lts.Need-push-te
 follow-symbol-push-terms-requires t c κs =
     let M = c .before .before .before .before .before .before .before .before .before .pre .1 .0 in
     let S = c .before .before .before .before .before .before .before .before .before .pre .1 .1 .0 in
-    let q = c .before .before .before .before .before .before .before .before .before .pre .1 .1 .1 in
-    (
+    let q = c .before .before .before .before .before .before .before .before .before .pre .1 .1 .1 in (
       in-keys (M .prepared) _ _ (inner-stands M (q .0) (c .before .before .before .before .before .before .before .before .before .args .p) (q .2) (c .before .before .before .before .before .before .if1 .left) (c .before .arity .ensures .0)),
       arguments-fit S (q .1) (c .before .arity .ensures .0),
       S .first,
@@ -452,8 +434,7 @@ follow-symbol-follow-requires t c κs =
     let S = c .before .before .before .before .before .before .before .before .before .before .before .before .before .pre .1 .1 .0 in
     let q = c .before .before .before .before .before .before .before .before .before .before .before .before .before .pre .1 .1 .1 in
     let X = c .before .before .before .push-terms .ensures .0 _ _ (M .prepared) (inner-stands M (q .0) (c .before .before .before .before .before .before .before .before .before .before .before .before .before .args .p) (q .2) (c .before .before .before .before .before .before .before .before .before .before .if1 .left)
-    (c .before .before .before .before .before .arity .ensures .0)) in
-    (
+    (c .before .before .before .before .before .arity .ensures .0)) in (
       omega (arith, c .before .before .before .before .before .before .before .before .before .before .before .before .before .pre .0, q .1),
       (M, searching-more S (q .1) (c .before .before .before .before .before .arity .ensures .0) X (c .before .before .before .push-terms .ensures .1 .0)),
     )
@@ -464,8 +445,7 @@ follow-symbol-returns-4 t c =
     let S = c .before .before .before .before .before .before .before .before .before .before .before .before .before .before .pre .1 .1 .0 in
     let q = c .before .before .before .before .before .before .before .before .before .before .before .before .before .before .pre .1 .1 .1 in
     let X = c .before .before .before .before .push-terms .ensures .0 _ _ (M .prepared) (inner-stands M (q .0) (c .before .before .before .before .before .before .before .before .before .before .before .before .before .before .args .p) (q .2) (c .before .before .before .before .before .before .before .before .before .before .before .if1 .left)
-    (c .before .before .before .before .before .before .arity .ensures .0)) in
-    (
+    (c .before .before .before .before .before .before .arity .ensures .0)) in (
       searched-arguments M (q .0) (q .1) (q .2) _ _ _ (c .before .before .before .before .before .before .before .before .before .before .before .if1 .left) (sym (c .before .before .before .before .before .before .before .before .if2 .left) ∙ c .before .before .before .before .before .before .before .before .before .is-ac .ensures) _
           (c .before .before .before .before .before .before .arity .ensures .0) _ (X .terms (c .before .before .before .before .before .before .before .before .before .before .before .before .before .before .args .owed) (S .pending)) _ _ _ (c .follow .ensures .0),
       nodes-then (X .kept) (c .follow .ensures .1) (omega arith),

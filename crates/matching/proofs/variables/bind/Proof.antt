@@ -1,15 +1,10 @@
+-- A variable that occurs before is compared, word by word; another takes the piece.
 use native.Mathlib.Omega.{arith}
 use mathlib.Core.Path.{refl, sym, _∙_}
 use Rattle.matching.proofs.BindingLaws.{variable-small, bound-piece, piece-room, takes-again, takes-first}
 use borrow.Author.Needs.{needs}
 use Rattle.matching.proofs.variables.bind.Statement.{statement}
 use Rattle.matching.proofs.variables.bind.Tie as tie
-use Rattle.matching.proofs.variables.bind.Reads as reads
-use Rattle.matching.proofs.variables.bind.Lts as lts
-use Rattle.equivalence.proofs.offsets.wide_byte.Reads as wide-byte-reads
-use Rattle.matching.proofs.patterns.occurs_before.Reads as occurs-before-reads
-use Rattle.pieces.proofs.comparison.same_piece.Reads as same-piece-reads
-use Rattle.symbols.proofs.wide.Reads as wide-reads
 
 mul-word : tie.Need-mul-word
 mul-word c = search needs
@@ -31,7 +26,7 @@ element-copy-out-wide-byte c = omega (
   arith,
   variable-small (c .before .before .before .before .before .pre .0) (c .before .before .before .before .before .pre .1 .1 .1 .0) (c .before .before .before .before .before .pre .1 .1 .1 .1) (c .before .before .before .wide .ensures .0),
   c .before .before .before .before .before .pre .1 .0 .offsetRoom,
-  )
+)
 
 wide-byte-requires : tie.Need-wide-byte-requires
 wide-byte-requires c κs = search needs
@@ -44,13 +39,12 @@ element-copy-out-same-piece c = omega (
   arith,
   variable-small (c .before .before .before .before .before .before .before .pre .0) (c .before .before .before .before .before .before .before .pre .1 .1 .1 .0) (c .before .before .before .before .before .before .before .pre .1 .1 .1 .1) (c .before .before .before .before .before .wide .ensures .0),
   c .before .before .before .before .before .before .before .pre .1 .0 .maskRoom,
-  )
+)
 
 same-piece-requires : tie.Need-same-piece-requires
 same-piece-requires c κs =
     let J = bound-piece (c .before .before .before .before .before .before .before .before .pre .0) (c .before .before .before .before .before .before .before .before .pre .1 .1 .1 .0) (c .before .before .before .before .before .before .before .before .pre .1 .1 .1 .1) (c .before .before .before .before .before .before .wide .ensures .0) (c .before .before .before .before .before .before .before .before .pre .1 .0)
-    (c .before .wide-byte .ensures .0) in
-    (
+    (c .before .wide-byte .ensures .0) in (
       c .before .before .before .before .before .before .before .before .pre .0 .prepared,
       (
         J .isPiece,
@@ -71,7 +65,7 @@ element-write-offsets c = omega (
   arith,
   variable-small (c .before .before .before .before .before .pre .0) (c .before .before .before .before .before .pre .1 .1 .1 .0) (c .before .before .before .before .before .pre .1 .1 .1 .1) (c .before .before .before .wide .ensures .0),
   c .before .before .before .before .before .pre .1 .0 .offsetRoom,
-  )
+)
 
 mul-masks : tie.Need-mul-masks
 mul-masks c = search needs
@@ -81,7 +75,7 @@ element-write-masks c = omega (
   arith,
   variable-small (c .before .before .before .before .before .pre .0) (c .before .before .before .before .before .pre .1 .1 .1 .0) (c .before .before .before .before .before .pre .1 .1 .1 .1) (c .before .before .before .wide .ensures .0),
   c .before .before .before .before .before .pre .1 .0 .maskRoom,
-  )
+)
 
 returns-2 : tie.Need-returns-2
 returns-2 c =

@@ -121,14 +121,14 @@ module _ (σ : Signature) (ws : List ℕ) where
 
   -- ---- terms that stand at an offset
 
-  whole-pending : (i : ℕ) → i < length ws → IsPending σ ws i 0
+  pub whole-pending : (i : ℕ) → i < length ws → IsPending σ ws i 0
   whole-pending i h = record {
     isPiece = record { inside = h; sum = λ p. absurd (omega arith) };
     ac = λ p. absurd (omega arith);
     apart = λ p. absurd (omega arith);
   }
 
-  whole-piece : (i : ℕ) → pieceAt σ ws i 0 ≡ partAt σ ws i
+  pub whole-piece : (i : ℕ) → pieceAt σ ws i 0 ≡ partAt σ ws i
   unfolding pieceAt
   whole-piece i = refl
 

@@ -5,3 +5,4 @@ pub mod BindingLaws
 pub mod FollowLaws
 pub mod DividingLaws
 pub mod SearchingLaws
+pub mod StartLaws

@@ -8,9 +8,10 @@ use Rattle.terms.specs.Signature.{Signature, symbolOf}
 use Rattle.terms.specs.Term.{Term}
 use Rattle.terms.specs.Words.{firstVariable}
 use Rattle.simplifying.specs.Masks.{Within}
-use Rattle.simplifying.specs.Matching.{Bindings}
+use Rattle.simplifying.specs.Matching.{Bindings, unbound}
 use Rattle.simplifying.specs.Agenda.{Agenda, agenda, follows}
 use Rattle.simplifying.specs.Pieces.{Covers}
+use Rattle.subterms.specs.Parts.{partAt}
 use Rattle.pieces.specs.Pieces.{elementsOf, pieceAt}
 use Rattle.matching.specs.Agenda.{ArePending}
 use Rattle.matching.specs.Bindings.{AreBound, bindingsAt, KeptBindings}
@@ -71,3 +72,9 @@ module _ (σ : Signature) (ws ps : List ℕ) where
         Unreached (p + 1) (agenda (divided i m x ts) (bindingsAt σ ws ps p offsets masks))
     pub kept : KeptBindings σ ws ps p offsets masks others rest
     pub bound : AreBound σ ws others rest
+
+-- What a search for a match of the whole pattern with the part at i gives.
+pub record Found (σ : Signature) (ws ps : List ℕ) (i : ℕ) (r : Bool) (others rest : List ℕ) : Type 0 where
+  pub yes : r ≡ true → Reached σ ws ps 0 (agenda (partAt σ ws i ∷ []) unbound) others rest
+  pub no : r ≡ false → Unreached σ ws ps 0 (agenda (partAt σ ws i ∷ []) unbound)
+  pub bound : AreBound σ ws others rest

@@ -19,7 +19,7 @@ ghost use Rattle.matching.specs.Agenda.{InKeys, Pushed, Extended};
 pub const NODES: usize = 96;
 
 // Stores a node at the index free.
-fn push(nodes: &mut [u16; NODES], free: usize, offset: usize, mask: u16, next: usize)
+pub fn push(nodes: &mut [u16; NODES], free: usize, offset: usize, mask: u16, next: usize)
     requires { ⌜ (free < 32) × (offset < 65536) × (next < 65536) × (length (now nodes) ≡ 96) ⌝ }
     ensures { λ r. ⌜ Pushed (now (nodes .entry)) free offset mask next (now (nodes .exit)) ⌝ }
 {

@@ -122,7 +122,9 @@ fn follow_symbol(
     ensures { λ r. ⌜
         Searched (signatureOf (now (now (table .entry)))) (now (now (words .entry))) (now (now (pattern .entry))) p
         (now (offsets .entry)) (now (masks .entry))
-        (pieceAt (signatureOf (now (now (table .entry)))) (now (now (words .entry))) i mask ∷ (pendingAt (signatureOf (now (now (table .entry)))) (now (now (words .entry))) (now (nodes .entry)) owed head))
+        (pieceAt (signatureOf (now (now (table .entry)))) (now (now (words .entry))) i mask
+        ∷ (pendingAt (signatureOf (now (now (table .entry)))) (now (now (words .entry))) (now (nodes .entry)) owed
+        head))
         r (now (offsets .exit)) (now (masks .exit))
         ⌝ }
     ensures { λ r. ⌜ KeptNodes (now (nodes .entry)) free (now (nodes .exit)) ⌝ }

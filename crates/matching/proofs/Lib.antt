@@ -6,3 +6,4 @@ pub mod FollowLaws
 pub mod DividingLaws
 pub mod SearchingLaws
 pub mod StartLaws
+pub mod FoundLaws

@@ -109,7 +109,8 @@ module _ (σ : Signature) (ws : List ℕ) where
   }
 
   pub sums-extended : (old mid new : List ℕ) (free head i mask rest : ℕ) → length old ≡ 96 →
-      symbolOf σ (getD ws i 0) .ac ≡ true → (offset other : ℕ) → IsNormal σ ws i rest offset other → Pushed old free offset other head mid →
+      symbolOf σ (getD ws i 0) .ac ≡ true → (offset other : ℕ) → IsNormal σ ws i rest offset other →
+      Pushed old free offset other head mid →
       (first own : ℕ) → IsNormal σ ws i mask first own → Pushed mid (free + 1) first own free new →
       Extended σ ws old free 2 head new (free + 1) (pieceAt σ ws i mask ∷ (pieceAt σ ws i rest ∷ []))
   sums-extended old mid new free head i mask rest e c offset other N P first own M Q =

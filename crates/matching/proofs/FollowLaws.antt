@@ -264,8 +264,8 @@ module _ {σ : Signature} {ws keys ps : List ℕ} (M : Matching σ ws keys ps) {
                   let s = agenda (app (getD ps p 0) us ∷ ts) bs in
                   rw (follows-append σ (getD ps p 0 ∷ []) (drop (p + 1) ps) s)
                   (member-flatMap (follows σ (drop (p + 1) ps))
-                  (reached-mask σ [] s (getD ps p 0) us ts bs (follows-none σ [] s refl) w (sym c) m l elements (T .bound)
-                  x i k j) n)
+                  (reached-mask σ [] s (getD ps p 0) us ts bs (follows-none σ [] s refl) w (sym c) m l elements
+                  (T .bound) x i k j) n)
 
               found : (x : ℕ) × Within x m × (0 < x) × (x < m)
                   × Reached σ ws ps (p + 1) (agenda (divided σ ws ps i m x ts) bs) others rest →

@@ -32,7 +32,8 @@ module _ (σ : Signature) (ws ps : List ℕ) where
   abbrev pub Unreached : ℕ → Agenda → Type 0
   Unreached p a = Covers σ (λ (b : Bindings). ⊥) (drop p ps) a
 
-  -- What is asked of a search from the word at p on: so many pieces are pending, with room for those that are called for.
+  -- What is asked of a search from the word at p on: so many pieces are pending, and there is room for those that are
+  -- called for.
   pub record Searching (p : ℕ) (offsets masks nodes : List ℕ) (free head owed : ℕ) : Type 0 where
     pub inside : p ≤ length ps
     pub bound : AreBound σ ws offsets masks

@@ -13,8 +13,8 @@ ghost use Rattle.pieces.specs.Pieces.{pieceAt};
 ghost use Rattle.matching.specs.Agenda.{IsPending};
 ghost use Rattle.matching.specs.Bindings.{Matching, AreBound, Takes};
 
-// Binds the variable at the offset p of the pattern to a piece; where it occurs before p, tells whether the piece is the
-// one that it is bound to.
+// Binds the variable at the offset p of the pattern to a piece; where it occurs before p, tells whether the piece is
+// the one that it is bound to.
 pub fn bind(
     table: &&[u16],
     words: &&[u16],

@@ -25,66 +25,8 @@ abbrev push-terms-below : ℕ → In 2 push-terms-kinds.ps
 push-terms-below t =
     and 2 push-terms-kinds.ps (falls 2 push-terms-kinds.ps _<_ μ-push-terms t) push-terms.Pre
 
-push-terms-returns : (t : ℕ) → push-terms-lts.Need-returns (size-at-reads.Asked, size-at-reads.Learnt, push-terms-below t, push-terms.Post, push-reads.Asked, push-reads.Learnt) (push-terms-at t) push-terms.Post
-push-terms-returns t c = (
-  λ σ ws P S. terms-none σ ws _ _ _ (c .before .args .i) _ (c .if1 .taken) (c .before .pre .1 .3),
-  (omega (arith, c .before .pre), omega (arith, c .before .pre)),
-)
-
-push-terms-size-at-requires : (t : ℕ) → push-terms-lts.Need-size-at-requires (size-at-reads.Asked, size-at-reads.Learnt, push-terms-below t, push-terms.Post, push-reads.Asked, push-reads.Learnt) (push-terms-at t) push-terms.Post
-push-terms-size-at-requires t c κs =
-    let a = c .before .args in keys-inside (a .keys .now) (a .i) (a .n) (omega arith) (c .before .pre .1 .0)
-
-push-terms-add-push-terms : (t : ℕ) → push-terms-lts.Need-add-push-terms (size-at-reads.Asked, size-at-reads.Learnt, push-terms-below t, push-terms.Post, push-reads.Asked, push-reads.Learnt) (push-terms-at t) push-terms.Post
-push-terms-add-push-terms t c =
-    let a = c .before .before .args in
-    omega (arith, keys-inside (a .keys .now) (a .i) (a .n) (omega arith) (c .before .before .pre .1 .0), c .size-at .ensures)
-
-push-terms-sub-push-terms : (t : ℕ) → push-terms-lts.Need-sub-push-terms (size-at-reads.Asked, size-at-reads.Learnt, push-terms-below t, push-terms.Post, push-reads.Asked, push-reads.Learnt) (push-terms-at t) push-terms.Post
-push-terms-sub-push-terms t c = omega arith
-
-push-terms-push-terms-requires : (t : ℕ) → push-terms-lts.Need-push-terms-requires (size-at-reads.Asked, size-at-reads.Learnt, push-terms-below t, push-terms.Post, push-reads.Asked, push-reads.Learnt) (push-terms-at t) push-terms.Post
-push-terms-push-terms-requires t c κs =
-    let a = c .before .before .before .args in (
-      omega (arith, c .before .before .before .pre .0),
-      (
-        keys-next (a .keys .now) (a .i) (a .n) _ (omega arith) (c .before .before .before .pre .1 .0) (c .before .size-at .ensures .0),
-        omega (arith, c .before .before .before .pre),
-        omega (arith, c .before .before .before .pre),
-        omega (arith, c .before .before .before .pre),
-      ),
-    )
-
-push-terms-sub-push : (t : ℕ) → push-terms-lts.Need-sub-push (size-at-reads.Asked, size-at-reads.Learnt, push-terms-below t, push-terms.Post, push-reads.Asked, push-reads.Learnt) (push-terms-at t) push-terms.Post
-push-terms-sub-push t c = omega arith
-
-push-terms-add-push : (t : ℕ) → push-terms-lts.Need-add-push (size-at-reads.Asked, size-at-reads.Learnt, push-terms-below t, push-terms.Post, push-reads.Asked, push-reads.Learnt) (push-terms-at t) push-terms.Post
-push-terms-add-push t c = omega (arith, c .before .before .before .before .before .pre)
-
-push-terms-push-requires : (t : ℕ) → push-terms-lts.Need-push-requires (size-at-reads.Asked, size-at-reads.Learnt, push-terms-below t, push-terms.Post, push-reads.Asked, push-reads.Learnt) (push-terms-at t) push-terms.Post
-push-terms-push-requires t c κs =
-    let a = c .before .before .before .before .before .args in (
-      omega (arith, c .before .before .before .before .before .pre),
-      omega (arith, keys-inside (a .keys .now) (a .i) (a .n) (omega arith) (c .before .before .before .before .before .pre .1 .0)),
-      omega (arith, c .before .push-terms .ensures .1 .0),
-      c .before .push-terms .ensures .1 .1,
-    )
-
-push-terms-sub-result : (t : ℕ) → push-terms-lts.Need-sub-result (size-at-reads.Asked, size-at-reads.Learnt, push-terms-below t, push-terms.Post, push-reads.Asked, push-reads.Learnt) (push-terms-at t) push-terms.Post
-push-terms-sub-result t c = omega arith
-
-push-terms-add-result : (t : ℕ) → push-terms-lts.Need-add-result (size-at-reads.Asked, size-at-reads.Learnt, push-terms-below t, push-terms.Post, push-reads.Asked, push-reads.Learnt) (push-terms-at t) push-terms.Post
-push-terms-add-result t c = omega (arith, c .before .before .before .before .before .before .pre)
-
-push-terms-returns-2 : (t : ℕ) → push-terms-lts.Need-returns-2 (size-at-reads.Asked, size-at-reads.Learnt, push-terms-below t, push-terms.Post, push-reads.Asked, push-reads.Learnt) (push-terms-at t) push-terms.Post
-push-terms-returns-2 t c = (
-  λ σ ws P S. terms-more σ ws P S (omega arith) _ _ _ _ _ _ _ (c .before .before .before .before .size-at .ensures .0)
-      (c .before .before .push-terms .ensures .0 σ ws P (step-next P S (omega arith) (c .before .before .before .before .size-at .ensures .0))) (c .push .ensures),
-  (omega (arith, c .before .before .before .before .before .before .pre), c .push .ensures .room),
-)
-
-pub +push-terms-spec : {M : Type 1} → statement M
-+push-terms-spec = close μ-push-terms λ t. push-terms-lts.spec (
+abbrev push-terms-claims : ℕ → push-terms-lts.Claims
+push-terms-claims t = (
   size-at-reads.Asked,
   size-at-reads.Learnt,
   push-terms-below t,
@@ -92,6 +34,82 @@ pub +push-terms-spec : {M : Type 1} → statement M
   push-reads.Asked,
   push-reads.Learnt,
 )
+
+push-terms-returns : (t : ℕ) → push-terms-lts.Need-returns (push-terms-claims t) (push-terms-at t) push-terms.Post
+push-terms-returns t c = (
+  λ σ ws P S. terms-none σ ws _ _ _ (c .before .args .i) _ (c .if1 .taken) (c .before .pre .1 .3),
+  (omega (arith, c .before .pre), omega (arith, c .before .pre)),
+)
+
+push-terms-size-at-requires : (t : ℕ) → push-terms-lts.Need-size-at-requires (push-terms-claims t) (push-terms-at t)
+    push-terms.Post
+push-terms-size-at-requires t c κs =
+    let a = c .before .args in keys-inside (a .keys .now) (a .i) (a .n) (omega arith) (c .before .pre .1 .0)
+
+push-terms-add-push-terms : (t : ℕ) → push-terms-lts.Need-add-push-terms (push-terms-claims t) (push-terms-at t)
+    push-terms.Post
+push-terms-add-push-terms t c =
+    let a = c .before .before .args in
+    omega (
+      arith,
+      keys-inside (a .keys .now) (a .i) (a .n) (omega arith) (c .before .before .pre .1 .0),
+      c .size-at .ensures,
+    )
+
+push-terms-sub-push-terms : (t : ℕ) → push-terms-lts.Need-sub-push-terms (push-terms-claims t) (push-terms-at t)
+    push-terms.Post
+push-terms-sub-push-terms t c = omega arith
+
+push-terms-push-terms-requires : (t : ℕ) → push-terms-lts.Need-push-terms-requires (push-terms-claims t) (push-terms-at
+    t) push-terms.Post
+push-terms-push-terms-requires t c κs =
+    let a = c .before .before .before .args in (
+      omega (arith, c .before .before .before .pre .0),
+      (
+        keys-next (a .keys .now) (a .i) (a .n) _ (omega arith) (c .before .before .before .pre .1 .0)
+            (c .before .size-at .ensures .0),
+        omega (arith, c .before .before .before .pre),
+        omega (arith, c .before .before .before .pre),
+        omega (arith, c .before .before .before .pre),
+      ),
+    )
+
+push-terms-sub-push : (t : ℕ) → push-terms-lts.Need-sub-push (push-terms-claims t) (push-terms-at t) push-terms.Post
+push-terms-sub-push t c = omega arith
+
+push-terms-add-push : (t : ℕ) → push-terms-lts.Need-add-push (push-terms-claims t) (push-terms-at t) push-terms.Post
+push-terms-add-push t c = omega (arith, c .before .before .before .before .before .pre)
+
+push-terms-push-requires : (t : ℕ) → push-terms-lts.Need-push-requires (push-terms-claims t) (push-terms-at t)
+    push-terms.Post
+push-terms-push-requires t c κs =
+    let a = c .before .before .before .before .before .args in (
+      omega (arith, c .before .before .before .before .before .pre),
+      omega (
+        arith,
+        keys-inside (a .keys .now) (a .i) (a .n) (omega arith)
+            (c .before .before .before .before .before .pre .1 .0),
+      ),
+      omega (arith, c .before .push-terms .ensures .1 .0),
+      c .before .push-terms .ensures .1 .1,
+    )
+
+push-terms-sub-result : (t : ℕ) → push-terms-lts.Need-sub-result (push-terms-claims t) (push-terms-at t) push-terms.Post
+push-terms-sub-result t c = omega arith
+
+push-terms-add-result : (t : ℕ) → push-terms-lts.Need-add-result (push-terms-claims t) (push-terms-at t) push-terms.Post
+push-terms-add-result t c = omega (arith, c .before .before .before .before .before .before .pre)
+
+push-terms-returns-2 : (t : ℕ) → push-terms-lts.Need-returns-2 (push-terms-claims t) (push-terms-at t) push-terms.Post
+push-terms-returns-2 t c = (
+  λ σ ws P S. terms-more σ ws P S (omega arith) _ _ _ _ _ _ _ (c .before .before .before .before .size-at .ensures .0)
+      (c .before .before .push-terms .ensures .0 σ ws P (step-next P S (omega arith)
+      (c .before .before .before .before .size-at .ensures .0))) (c .push .ensures),
+  (omega (arith, c .before .before .before .before .before .before .pre), c .push .ensures .room),
+)
+
+pub +push-terms-spec : {M : Type 1} → statement M
++push-terms-spec = close μ-push-terms λ t. push-terms-lts.spec (push-terms-claims t)
     (push-terms-at t)
     push-terms.Post
     (push-terms-returns t)

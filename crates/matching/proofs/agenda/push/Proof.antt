@@ -47,7 +47,10 @@ element-write-nodes-3 c = search needs
 returns : tie.Need-returns
 returns c =
     let a = c .args in
-    stored-node (a .nodes .now) (a .free) (a .offset) (a .mask) (a .next) (omega (arith, c .pre)) (omega (arith, c .pre))
+    stored-node (a .nodes .now) (a .free) (a .offset) (a .mask) (a .next) (omega (arith, c .pre)) (omega (
+      arith,
+      c .pre,
+    ))
 
 pub push-spec : {M : Type 1} → statement M
 push-spec =

@@ -14,8 +14,16 @@ index-1-elements : tie.Need-index-1-elements
 index-1-elements c = search needs
 
 elements-requires : tie.Need-elements-requires
-elements-requires c κs =
-    ((c .before .before .pre .1 .0 .1, refl), (c .before .before .pre .0, (one-stands (c .before .before .pre .1 .0 .0), omega (arith, c .before .before .pre .1 .1))))
+elements-requires c κs = (
+  (c .before .before .pre .1 .0 .1, refl),
+  (
+    c .before .before .pre .0,
+    (
+      one-stands (c .before .before .pre .1 .0 .0),
+      omega (arith, c .before .before .pre .1 .1),
+    ),
+  ),
+)
 
 cast-result : tie.Need-cast-result
 cast-result c = search needs

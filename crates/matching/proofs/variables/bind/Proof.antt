@@ -24,7 +24,9 @@ occurs-before-requires c κs = search needs
 element-copy-out-wide-byte : tie.Need-element-copy-out-wide-byte
 element-copy-out-wide-byte c = omega (
   arith,
-  variable-small (c .before .before .before .before .before .pre .0) (c .before .before .before .before .before .pre .1 .1 .1 .0) (c .before .before .before .before .before .pre .1 .1 .1 .1) (c .before .before .before .wide .ensures .0),
+  variable-small (c .before .before .before .before .before .pre .0)
+      (c .before .before .before .before .before .pre .1 .1 .1 .0)
+      (c .before .before .before .before .before .pre .1 .1 .1 .1) (c .before .before .before .wide .ensures .0),
   c .before .before .before .before .before .pre .1 .0 .offsetRoom,
 )
 
@@ -37,25 +39,48 @@ mul-same-piece c = search needs
 element-copy-out-same-piece : tie.Need-element-copy-out-same-piece
 element-copy-out-same-piece c = omega (
   arith,
-  variable-small (c .before .before .before .before .before .before .before .pre .0) (c .before .before .before .before .before .before .before .pre .1 .1 .1 .0) (c .before .before .before .before .before .before .before .pre .1 .1 .1 .1) (c .before .before .before .before .before .wide .ensures .0),
+  variable-small (c .before .before .before .before .before .before .before .pre .0)
+      (c .before .before .before .before .before .before .before .pre .1 .1 .1 .0)
+      (c .before .before .before .before .before .before .before .pre .1 .1 .1 .1)
+      (c .before .before .before .before .before .wide .ensures .0),
   c .before .before .before .before .before .before .before .pre .1 .0 .maskRoom,
 )
 
 same-piece-requires : tie.Need-same-piece-requires
 same-piece-requires c κs =
-    let J = bound-piece (c .before .before .before .before .before .before .before .before .pre .0) (c .before .before .before .before .before .before .before .before .pre .1 .1 .1 .0) (c .before .before .before .before .before .before .before .before .pre .1 .1 .1 .1) (c .before .before .before .before .before .before .wide .ensures .0) (c .before .before .before .before .before .before .before .before .pre .1 .0)
+    let J = bound-piece (c .before .before .before .before .before .before .before .before .pre .0)
+    (c .before .before .before .before .before .before .before .before .pre .1 .1 .1 .0)
+    (c .before .before .before .before .before .before .before .before .pre .1 .1 .1 .1)
+    (c .before .before .before .before .before .before .wide .ensures .0)
+    (c .before .before .before .before .before .before .before .before .pre .1 .0)
     (c .before .wide-byte .ensures .0) in (
       c .before .before .before .before .before .before .before .before .pre .0 .prepared,
       (
         J .isPiece,
-        (c .before .before .before .before .before .before .before .before .pre .1 .1 .0 .isPiece, (piece-room (c .before .before .before .before .before .before .before .before .pre .0) J, piece-room (c .before .before .before .before .before .before .before .before .pre .0) (c .before .before .before .before .before .before .before .before .pre .1 .1 .0))),
+        (
+          c .before .before .before .before .before .before .before .before .pre .1 .1 .0 .isPiece,
+          (
+            piece-room
+                (c .before .before .before .before .before .before .before .before .pre .0) J,
+            piece-room
+                (c .before .before .before .before .before .before .before .before .pre .0)
+                (c .before .before .before .before .before .before .before .before .pre .1 .1 .0),
+          ),
+        ),
       ),
     )
 
 returns : tie.Need-returns
 returns c =
-    takes-again (c .before .before .before .before .before .before .before .before .before .pre .0) (c .before .before .before .before .before .before .before .before .before .pre .1 .1 .1 .0) (c .before .before .before .before .before .before .before .before .before .pre .1 .1 .1 .1) (c .before .before .before .before .before .before .before .wide .ensures .0) (c .before .before .before .before .before .before .before .before .before .pre .1 .0) (c .before .before .before .before .before .before .before .before .before .pre .1 .1 .0)
-    (sym (c .before .before .before .before .if1 .taken) ∙ c .before .before .before .before .before .occurs-before .ensures) (c .before .before .wide-byte .ensures .0) refl _ (c .same-piece .ensures)
+    takes-again (c .before .before .before .before .before .before .before .before .before .pre .0)
+    (c .before .before .before .before .before .before .before .before .before .pre .1 .1 .1 .0)
+    (c .before .before .before .before .before .before .before .before .before .pre .1 .1 .1 .1)
+    (c .before .before .before .before .before .before .before .wide .ensures .0)
+    (c .before .before .before .before .before .before .before .before .before .pre .1 .0)
+    (c .before .before .before .before .before .before .before .before .before .pre .1 .1 .0)
+    (sym (c .before .before .before .before .if1 .taken) ∙
+    c .before .before .before .before .before .occurs-before .ensures) (c .before .before .wide-byte .ensures .0)
+    refl _ (c .same-piece .ensures)
 
 cast-offsets : tie.Need-cast-offsets
 cast-offsets c = search needs
@@ -63,7 +88,9 @@ cast-offsets c = search needs
 element-write-offsets : tie.Need-element-write-offsets
 element-write-offsets c = omega (
   arith,
-  variable-small (c .before .before .before .before .before .pre .0) (c .before .before .before .before .before .pre .1 .1 .1 .0) (c .before .before .before .before .before .pre .1 .1 .1 .1) (c .before .before .before .wide .ensures .0),
+  variable-small (c .before .before .before .before .before .pre .0)
+      (c .before .before .before .before .before .pre .1 .1 .1 .0)
+      (c .before .before .before .before .before .pre .1 .1 .1 .1) (c .before .before .before .wide .ensures .0),
   c .before .before .before .before .before .pre .1 .0 .offsetRoom,
 )
 
@@ -73,13 +100,18 @@ mul-masks c = search needs
 element-write-masks : tie.Need-element-write-masks
 element-write-masks c = omega (
   arith,
-  variable-small (c .before .before .before .before .before .pre .0) (c .before .before .before .before .before .pre .1 .1 .1 .0) (c .before .before .before .before .before .pre .1 .1 .1 .1) (c .before .before .before .wide .ensures .0),
+  variable-small (c .before .before .before .before .before .pre .0)
+      (c .before .before .before .before .before .pre .1 .1 .1 .0)
+      (c .before .before .before .before .before .pre .1 .1 .1 .1) (c .before .before .before .wide .ensures .0),
   c .before .before .before .before .before .pre .1 .0 .maskRoom,
 )
 
 returns-2 : tie.Need-returns-2
 returns-2 c =
-    takes-first (c .before .before .before .before .before .pre .0) (c .before .before .before .before .before .pre .1 .1 .1 .0) (c .before .before .before .before .before .pre .1 .1 .1 .1) (c .before .before .before .wide .ensures .0) (c .before .before .before .before .before .pre .1 .0) (c .before .before .before .before .before .pre .1 .1 .0)
+    takes-first (c .before .before .before .before .before .pre .0)
+    (c .before .before .before .before .before .pre .1 .1 .1 .0)
+    (c .before .before .before .before .before .pre .1 .1 .1 .1) (c .before .before .before .wide .ensures .0)
+    (c .before .before .before .before .before .pre .1 .0) (c .before .before .before .before .before .pre .1 .1 .0)
     (sym (c .if1 .left) ∙ c .before .occurs-before .ensures)
 
 pub bind-spec : {M : Type 1} → statement M

@@ -9,7 +9,7 @@ use native.Mathlib.Omega.{arith}
 use lib.ListN.{length}
 use Rattle.multisets.proofs.Relations.{byTest, byOrder, eqb-self}
 use Rattle.terms.specs.Signature.{Signature}
-use Rattle.terms.specs.Term.{Term, Terms, occurrences, WellFormed}
+use Rattle.terms.specs.Term.{Term, Terms, occurrences}
 use Rattle.terms.specs.Term.Term.{var, app}
 use Rattle.terms.specs.Term.Terms.{nil, cons}
 use Rattle.terms.specs.Words.{firstVariable, words}
@@ -44,7 +44,7 @@ module _ (τ υ : Substitution) where
     substituteIn-same (cons t ts) h =
         ap₂ cons (substitute-same t λ x k. h x (omega arith)) (substituteIn-same ts λ x k. h x (omega arith))
 
-module _ {σ : Signature} {ws : List ℕ} (S : Subject σ ws) (p : Term) (formed : WellFormed σ p) (i : ℕ)
+module _ {σ : Signature} {ws : List ℕ} (S : Subject σ ws) (p : Term) (formed : Shaped σ p) (i : ℕ)
     (h : i < length ws) (offsets masks : List ℕ)
     (R : Reached σ ws (words p) 0 (agenda (partAt σ ws i ∷ []) unbound) offsets masks) where
   -- What the pattern's variables are bound to.

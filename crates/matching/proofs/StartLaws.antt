@@ -1,15 +1,19 @@
 -- The beginning of a search, and its end as a match.
 --     start-searching, start-found     the part at an offset alone is pending
+--     calls-pattern                    how many arguments a pattern calls for
 --     found-match, found-none          what is found is a match, and where nothing is found there is none
-use mathlib.Core.List.{List, [], _∷_, map, List·Memᴰ, Memᴰ·map, Memᴰ·of-map}
-use mathlib.Core.Path.{_≡_, refl, ap, _∙_, fun-ext, subst}
+use mathlib.Core.List.{List, [], _∷_, _++_, append-assoc, append-nil, map, List·Memᴰ, Memᴰ·map, Memᴰ·of-map}
+use mathlib.Core.Path.{_≡_, refl, sym, ap, _∙_, fun-ext, subst}
 use mathlib.Core.Bool.{Bool}
-use Prim.Native.Nat.{ℕ, _≤_, _<_}
+use Prim.Native.Nat.{ℕ, _+_, _≤_, _<_}
 use native.Mathlib.Omega.{arith}
-use lib.ListN.{length}
-use Rattle.terms.specs.Signature.{Signature, AcBinary}
-use Rattle.terms.specs.Term.{Term, WellFormed}
-use Rattle.terms.specs.Words.{firstVariable, words}
+use lib.ListN.{length, List·getD-eq-default}
+use Rattle.terms.specs.Signature.{Symbol, Signature, symbolOf, AcBinary}
+use Rattle.terms.specs.Term.{Term, Terms, size, sizes, row, WellFormed}
+use Rattle.terms.specs.Term.Term.{var, app}
+use Rattle.terms.specs.Term.Terms.{nil, cons}
+use Rattle.terms.specs.Words.{firstVariable, words, wordsOf}
+use Rattle.simplifying.specs.Filling.{Shaped, Shapeds}
 use Rattle.simplifying.specs.Matching.{Bindings, unbound, matches}
 use Rattle.simplifying.specs.Agenda.{Agenda, agenda, follows}
 use Rattle.simplifying.proofs.AgendaLaws.{follows-words}
@@ -56,7 +60,7 @@ module _ (σ : Signature) (ws ps : List ℕ) {i : ℕ} (h : i < length ws) {old 
 -- ---- matches
 
 module _ (σ : Signature) (binary : AcBinary σ) (few : length (σ .symbols) ≤ firstVariable) (ws : List ℕ) (p t : Term)
-    (formed : WellFormed σ p) (other : WellFormed σ t) where
+    (formed : Shaped σ p) (other : WellFormed σ t) where
   along : follows σ (words p) (agenda (t ∷ []) unbound) ≡ map (agenda []) (matches σ p t unbound)
   along = follows-words σ binary few p t [] unbound formed other
 
@@ -69,3 +73,25 @@ module _ (σ : Signature) (binary : AcBinary σ) (few : length (σ .symbols) ≤
   pub found-none : Unreached σ ws (words p) 0 (agenda (t ∷ []) unbound) → (b : Bindings) →
       List·Memᴰ b (matches σ p t unbound) → ⊥
   found-none u b m = u (agenda [] b) (rw along (Memᴰ·map (agenda []) m))
+
+-- ---- the arguments that a pattern calls for
+
+module _ (σ : Signature) (few : length (σ .symbols) ≤ firstVariable) where
+  no-arguments : (x : ℕ) → symbolOf σ (firstVariable + x) .arity ≡ 0
+  no-arguments x = ap (λ (s : Symbol). s .arity) (List·getD-eq-default (σ .symbols) _ (omega arith))
+
+  mutual
+    calls-words : (t : Term) → Shaped σ t → (ws : List ℕ) → callsFor σ (words t ++ ws) + 1 ≡ size t + callsFor σ ws
+    calls-words (var x) s ws = omega (arith, no-arguments x)
+    calls-words (app f ts) s ws = omega (arith, calls-wordsOf ts (s .2) ws, s .1)
+
+    calls-wordsOf : (ts : Terms) → Shapeds σ ts → (ws : List ℕ) →
+        callsFor σ (wordsOf ts ++ ws) + length (row ts) ≡ sizes ts + callsFor σ ws
+    calls-wordsOf nil s ws = omega arith
+    calls-wordsOf (cons t ts) s ws =
+        rw append-assoc (omega (arith, calls-words t (s .0) (wordsOf ts ++ ws), calls-wordsOf ts (s .1) ws))
+
+  -- All nodes but the root are called for.
+  pub calls-pattern : (p : Term) → Shaped σ p → callsFor σ (words p) + 1 ≡ size p
+  calls-pattern p s =
+      ap (λ (ws : List ℕ). callsFor σ ws + 1) (sym (append-nil (words p))) ∙ calls-words p s [] ∙ omega arith

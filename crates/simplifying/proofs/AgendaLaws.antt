@@ -16,7 +16,9 @@ use Rattle.multisets.proofs.FlatMapLaws.{flatMap-one, flatMap-map, map-flatMap,
 use Rattle.terms.proofs.EquivalenceMeasures.{formed-resp-equivalent}
 use Rattle.simplifying.specs.Matching.{Bindings, groupings, bind, matches, matchesIn}
 use Rattle.simplifying.specs.Agenda.{Agenda, agenda, advance, follows}
+use Rattle.simplifying.specs.Filling.{Shaped, Shapeds}
 use Rattle.simplifying.proofs.GroupingLaws.{groupings-sound}
+use Rattle.simplifying.proofs.FillingLaws.{shaped}
 
 module _ (σ : Signature) where
   pub follows-append : (vs ws : List ℕ) (a : Agenda) → follows σ (vs ++ ws) a ≡ flatMap (follows σ ws) (follows σ vs a)
@@ -31,7 +33,7 @@ module _ (σ : Signature) where
     mutual
       unfolding follows matches
 
-      pub follows-words : (p t : Term) (ts : List Term) (b : Bindings) → WellFormed σ p → WellFormed σ t →
+      pub follows-words : (p t : Term) (ts : List Term) (b : Bindings) → Shaped σ p → WellFormed σ t →
           follows σ (words p) (agenda (t ∷ ts) b) ≡ map (agenda ts) (matches σ p t b)
       follows-words (var x) t ts b w v =
           let e : firstVariable + x - firstVariable ≡ x = omega arith in
@@ -47,7 +49,7 @@ module _ (σ : Signature) where
           ∙ sym (map-flatMap (agenda ts) (λ (us : Terms). matchesIn σ ps us b) (groupings σ f t)))
 
       follows-wordsOf : (ps us : Terms) (ts : List Term) (b : Bindings) → length (row us) ≡ length (row ps) →
-          WellFormeds σ ps → WellFormeds σ us →
+          Shapeds σ ps → WellFormeds σ us →
           follows σ (wordsOf ps) (agenda (row us ++ ts) b) ≡ map (agenda ts) (matchesIn σ ps us b)
       follows-wordsOf nil nil ts b n w v = refl
       follows-wordsOf nil (cons t us) ts b n w v = absurd (omega arith)
@@ -64,7 +66,7 @@ module _ (σ : Signature) where
     pub follows-pattern : (p t : Term) (b : Bindings) → WellFormed σ p → WellFormed σ t →
         map (λ (a : Agenda). a .bindings) (follows σ (words p) (agenda (t ∷ []) b)) ≡ matches σ p t b
     follows-pattern p t b w v =
-        ap (map (λ (a : Agenda). a .bindings)) (follows-words p t [] b w v)
+        ap (map (λ (a : Agenda). a .bindings)) (follows-words p t [] b (shaped σ p w) v)
         ∙ map-map (λ (a : Agenda). a .bindings) (agenda []) (matches σ p t b) ∙ map-same (matches σ p t b)
       where
         map-same : (l : List Bindings) → map (λ (c : Bindings). c) l ≡ l

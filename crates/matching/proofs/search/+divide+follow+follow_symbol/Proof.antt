@@ -172,7 +172,7 @@ divide-divide-requires t c κs =
     in
     let G =
     c .before .before .before .before .before .before .before .before .before .before .before .before .pre .1 .1 .1 .0
-        in
+    in
     let K = nodes-then
     (c .before .before .before .before .before .before .before .before .before .push-sums .ensures .0 .kept)
     (c .before .before .before .before .before .follow .ensures .1) (omega arith) in (
@@ -199,16 +199,16 @@ divide-returns-3 : (t : ℕ) → divide-lts.Need-returns-3 (divide-claims t) (di
 divide-returns-3 t c =
     let S =
     c .before .before .before .before .before .before .before .before .before .before .before .before .before .pre .1 .1
-        .0 in
+    .0 in
     let X = c .before .before .before .before .before .before .before .before .before .before .push-sums .ensures .0 in
     let K = nodes-then (X .kept) (c .before .before .before .before .before .before .follow .ensures .1) (omega arith)
     in (
       divided-next _ _ _
           (c .before .before .before .before .before .before .before .before .before .before .before .before .before
-              .pre .1 .1 .1 .0) _ _ _ (c .before .before .before .before .before .before .before .before .before .before
-              .before .before .if1 .left) _ (X .terms
-              (c .before .before .before .before .before .before .before .before .before .before .before .before .before
-              .args .owed) (S .pending)) _ _ _
+          .pre .1 .1 .1 .0) _ _ _ (c .before .before .before .before .before .before .before .before .before .before
+          .before .before .if1 .left) _ (X .terms
+          (c .before .before .before .before .before .before .before .before .before .before .before .before .before
+          .args .owed) (S .pending)) _ _ _
           (c .before .before .before .before .before .if2 .left)
           (c .before .before .before .before .before .before .follow .ensures .0) _
           (c .before .before .before .before .next-within .ensures .0) _ (pending-again S K) _ _ _
@@ -383,9 +383,9 @@ follow-returns-3 : (t : ℕ) → follow-lts.Need-returns-3 (follow-claims t) (fo
 follow-returns-3 t c = (
   searched-first
       (c .before .before .before .before .before .before .before .before .before .before .before .before .before .pre .1
-          .1) (c .before .before .before .before .before .before .before .before .before .before .before .if2 .left)
-          (c .before .before .before .before .before .before .before .before .before .wide .ensures .0)
-          (c .before .before .before .before .before .before .wide2 .ensures .0) (c .follow-symbol .ensures .0),
+      .1) (c .before .before .before .before .before .before .before .before .before .before .before .if2 .left)
+      (c .before .before .before .before .before .before .before .before .before .wide .ensures .0)
+      (c .before .before .before .before .before .before .wide2 .ensures .0) (c .follow-symbol .ensures .0),
   c .follow-symbol .ensures .1,
 )
 
@@ -429,10 +429,10 @@ follow-follow-requires : (t : ℕ) → follow-lts.Need-follow-requires (follow-c
 follow-follow-requires t c κs =
     let S =
     c .before .before .before .before .before .before .before .before .before .before .before .before .before .before
-        .before .before .pre .1 .1 in
+    .before .before .pre .1 .1 in
     let h = word-inside S
     (c .before .before .before .before .before .before .before .before .before .before .before .before .before .before
-        .before .if1 .left) in (
+    .before .if1 .left) in (
       omega (
         arith,
         c .before .before .before .before .before .before .before .before .before .before .before .before .before
@@ -443,9 +443,9 @@ follow-follow-requires t c κs =
             .before .before .before .pre .1 .0,
         searching-variable S
             (c .before .before .before .before .before .before .before .before .before .before .before .before .before
-                .before .if2 .left) (c .before .before .before .before .before .before .before .before .before .wide2
-                .ensures .0) (c .before .before .before .before .before .before .before .before .before .wide2 .ensures
-                .1) h (c .before .before .before .before .bind .ensures .bound),
+            .before .if2 .left) (c .before .before .before .before .before .before .before .before .before .wide2
+            .ensures .0) (c .before .before .before .before .before .before .before .before .before .wide2 .ensures
+            .1) h (c .before .before .before .before .bind .ensures .bound),
       ),
     )
 
@@ -453,14 +453,14 @@ follow-returns-4 : (t : ℕ) → follow-lts.Need-returns-4 (follow-claims t) (fo
 follow-returns-4 t c =
     let S =
     c .before .before .before .before .before .before .before .before .before .before .before .before .before .before
-        .before .before .before .pre .1 .1 in (
+    .before .before .before .pre .1 .1 in (
       searched-variable S
           (c .before .before .before .before .before .before .before .before .before .before .before .before .before
-              .before .before .if2 .left) (c .before .before .before .before .before .before .before .before .before
-              .before .before .before .before .wide .ensures .0)
-              (c .before .before .before .before .before .before .before .before .before .before .wide2 .ensures .0)
-              (word-inside S (c .before .before .before .before .before .before .before .before .before .before .before
-              .before .before .before .before .before .if1 .left))
+          .before .before .if2 .left) (c .before .before .before .before .before .before .before .before .before
+          .before .before .before .before .wide .ensures .0)
+          (c .before .before .before .before .before .before .before .before .before .before .wide2 .ensures .0)
+          (word-inside S (c .before .before .before .before .before .before .before .before .before .before .before
+          .before .before .before .before .before .if1 .left))
           (c .before .before .before .before .before .bind .ensures) (c .before .before .before .before .if4 .taken)
           (c .follow .ensures .0),
       c .follow .ensures .1,
@@ -470,13 +470,13 @@ follow-returns-5 : (t : ℕ) → follow-lts.Need-returns-5 (follow-claims t) (fo
 follow-returns-5 t c =
     let S =
     c .before .before .before .before .before .before .before .before .before .before .before .before .before .pre .1 .1
-        in (
+    in (
       searched-refused S
           (c .before .before .before .before .before .before .before .before .before .before .before .if2 .left)
           (c .before .before .before .before .before .before .before .before .before .wide .ensures .0)
           (c .before .before .before .before .before .before .wide2 .ensures .0) (word-inside S
           (c .before .before .before .before .before .before .before .before .before .before .before .before .if1
-              .left))
+          .left))
           (c .before .bind .ensures) (c .if4 .left),
       same-nodes _ _ (S .room),
     )
@@ -597,15 +597,15 @@ follow-symbol-returns-2 : (t : ℕ) → follow-symbol-lts.Need-returns-2 (follow
 follow-symbol-returns-2 t c =
     let M =
     c .before .before .before .before .before .before .before .before .before .before .before .before .before .pre .1 .0
-        in
+    in
     let q =
     c .before .before .before .before .before .before .before .before .before .before .before .before .before .pre .1 .1
-        .1 in
+    .1 in
     let e = c .before .before .before .before .before .before .before .before .before .before .if1 .left in
     let T = taken-all M (q .0) (root-small M (q .0)
     (c .before .before .before .before .before .before .before .before .before .before .before .before .before .args .p)
-        (q .2) e) (c .before .before .before .before .before .before .if3 .taken) _
-        (c .before .before .before .before .before .all-elements .ensures .0) in (
+    (q .2) e) (c .before .before .before .before .before .before .if3 .taken) _
+    (c .before .before .before .before .before .all-elements .ensures .0) in (
       searched-divided M (q .0) (q .1) (q .2) _ _ _ e (sym
           (c .before .before .before .before .before .before .before .if2 .taken) ∙
           c .before .before .before .before .before .before .before .before .is-ac .ensures) T _
@@ -712,8 +712,8 @@ follow-symbol-add-follow-2 t c =
       arith,
       arguments-fit
           (c .before .before .before .before .before .before .before .before .before .before .before .before .before
-              .pre .1 .1 .0) (c .before .before .before .before .before .before .before .before .before .before .before
-              .before .before .pre .1 .1 .1 .1) (c .before .before .before .before .before .arity .ensures .0),
+          .pre .1 .1 .0) (c .before .before .before .before .before .before .before .before .before .before .before
+          .before .before .pre .1 .1 .1 .1) (c .before .before .before .before .before .arity .ensures .0),
     )
 
 follow-symbol-add-follow-3 : (t : ℕ) → follow-symbol-lts.Need-add-follow-3 (follow-symbol-claims t) (follow-symbol-at t)
@@ -723,11 +723,11 @@ follow-symbol-add-follow-3 t c =
       arith,
       arguments-fit
           (c .before .before .before .before .before .before .before .before .before .before .before .before .before
-              .pre .1 .1 .0) (c .before .before .before .before .before .before .before .before .before .before .before
-              .before .before .pre .1 .1 .1 .1) (c .before .before .before .before .before .arity .ensures .0),
+          .pre .1 .1 .0) (c .before .before .before .before .before .before .before .before .before .before .before
+          .before .before .pre .1 .1 .1 .1) (c .before .before .before .before .before .arity .ensures .0),
       owed-few
           (c .before .before .before .before .before .before .before .before .before .before .before .before .before
-              .pre .1 .1 .0),
+          .pre .1 .1 .0),
     )
 
 follow-symbol-follow-requires : (t : ℕ) → follow-symbol-lts.Need-follow-requires (follow-symbol-claims t)
@@ -735,16 +735,16 @@ follow-symbol-follow-requires : (t : ℕ) → follow-symbol-lts.Need-follow-requ
 follow-symbol-follow-requires t c κs =
     let M =
     c .before .before .before .before .before .before .before .before .before .before .before .before .before .pre .1 .0
-        in
+    in
     let S =
     c .before .before .before .before .before .before .before .before .before .before .before .before .before .pre .1 .1
-        .0 in
+    .0 in
     let q =
     c .before .before .before .before .before .before .before .before .before .before .before .before .before .pre .1 .1
-        .1 in
+    .1 in
     let X = c .before .before .before .push-terms .ensures .0 _ _ (M .prepared) (inner-stands M (q .0)
     (c .before .before .before .before .before .before .before .before .before .before .before .before .before .args .p)
-        (q .2) (c .before .before .before .before .before .before .before .before .before .before .if1 .left)
+    (q .2) (c .before .before .before .before .before .before .before .before .before .before .if1 .left)
     (c .before .before .before .before .before .arity .ensures .0)) in (
       omega (
         arith,
@@ -764,17 +764,17 @@ follow-symbol-returns-4 : (t : ℕ) → follow-symbol-lts.Need-returns-4 (follow
 follow-symbol-returns-4 t c =
     let M =
     c .before .before .before .before .before .before .before .before .before .before .before .before .before .before
-        .pre .1 .0 in
+    .pre .1 .0 in
     let S =
     c .before .before .before .before .before .before .before .before .before .before .before .before .before .before
-        .pre .1 .1 .0 in
+    .pre .1 .1 .0 in
     let q =
     c .before .before .before .before .before .before .before .before .before .before .before .before .before .before
-        .pre .1 .1 .1 in
+    .pre .1 .1 .1 in
     let X = c .before .before .before .before .push-terms .ensures .0 _ _ (M .prepared) (inner-stands M (q .0)
     (c .before .before .before .before .before .before .before .before .before .before .before .before .before .before
-        .args .p) (q .2) (c .before .before .before .before .before .before .before .before .before .before .before .if1
-        .left)
+    .args .p) (q .2) (c .before .before .before .before .before .before .before .before .before .before .before .if1
+    .left)
     (c .before .before .before .before .before .before .arity .ensures .0)) in (
       searched-arguments M (q .0) (q .1) (q .2) _ _ _
           (c .before .before .before .before .before .before .before .before .before .before .before .if1 .left) (sym
@@ -782,7 +782,7 @@ follow-symbol-returns-4 t c =
           c .before .before .before .before .before .before .before .before .before .is-ac .ensures) _
           (c .before .before .before .before .before .before .arity .ensures .0) _ (X .terms
           (c .before .before .before .before .before .before .before .before .before .before .before .before .before
-              .before .args .owed) (S .pending)) _ _ _ (c .follow .ensures .0),
+          .before .args .owed) (S .pending)) _ _ _ (c .follow .ensures .0),
       nodes-then (X .kept) (c .follow .ensures .1) (omega arith),
     )
 

@@ -22,6 +22,7 @@ use Rattle.format.specs.Packing.{Item, itemBits, bytesOf, packed, unpacked}
 use Rattle.format.specs.Conversion.{convertedFile}
 use Rattle.format.proofs.PackingLaws.{length-bytesOf}
 use Rattle.format.proofs.FileLaws.{bytes-taken, bytes-length}
+use Rattle.format.proofs.FormLaws.{taken-old}
 use Rattle.format.proofs.ConversionLaws.{converted-length}
 use Rattle.format.proofs.FaultLaws.{fault-small}
 use Rattle.operations.specs.declared.Error.{Error}
@@ -54,7 +55,9 @@ module _ (bytes output : List ℕ) where
 
     -- The converted file is as long as the book.
     pub as-long : length (packed (convertedFile file)) ≡ length bytes
-    as-long = converted-length file ∙ bytes-length firstForm bytes file end e
+    as-long =
+        converted-length file (taken-old (file .form) (bytes-taken firstForm bytes file end e))
+        ∙ bytes-length firstForm bytes file end e
 
     pub convert-written : length bytes ≤ length output →
         (accepted (length bytes) ≡ converted bytes output .reply)
@@ -102,7 +105,7 @@ module _ (bytes sheet stored : List ℕ) (file : RuleFile) (total front : ℕ)
 
     pub sheet-begin : ((symbols : ℕ) × (front ≡ 4 + 4 * symbols)) × (front ≤ total)
     unfolding tableWords
-    sheet-begin = ((_, parts .begin), omega (arith, parts .begin, size, unpacked-length (convertedFile file)))
+    sheet-begin = ((_, parts .begin), omega (arith, parts .begin, size, unpacked-length (convertedFile file) refl))
 
     pub sheet-front : take total stored ≡ unpacked (convertedFile file)
     sheet-front =
@@ -117,7 +120,7 @@ module _ (bytes sheet stored : List ℕ) (file : RuleFile) (total front : ℕ)
     unfolding packed tableWords
     sheet-packed =
         rw (sheet-front, parts .begin)
-        (ap (λ (is : List Item). bytesOf (flatMap itemBits is)) (file-items (convertedFile file)))
+        (ap (λ (is : List Item). bytesOf (flatMap itemBits is)) (file-items (convertedFile file) refl))
 
     pub sheet-bits : length bytes ≡ (length bits + 7) / 8
     sheet-bits = sym (as-long bytes [] file end read) ∙ sym (ap length sheet-packed) ∙ length-bytesOf bits

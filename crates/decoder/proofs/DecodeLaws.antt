@@ -5,6 +5,7 @@
 --     decode-fault, decode-short, decode-written        the reply and the words afterwards
 use mathlib.Core.Path.{_≡_, refl, sym, ap, _∙_}
 use mathlib.Core.List.{List, _++_}
+use mathlib.Core.Bool.{false}
 use Prim.Native.Nat.{ℕ, _+_, _*_, _≤_, _<_}
 use native.Mathlib.Omega.{arith}
 use native.Mathlib.Nat.{zero-add}
@@ -20,6 +21,7 @@ use Rattle.format.specs.Reading.{Reading}
 use Rattle.format.specs.Reading.Reading.{got, fault}
 use Rattle.format.specs.Format.{Sides, RuleFile}
 use Rattle.format.specs.Files.{readBytes}
+use Rattle.format.specs.Forms.{hasCoefficients}
 use Rattle.format.specs.Packing.{unpacked}
 use Rattle.operations.specs.Replies.Reply.{accepted, refused}
 use Rattle.operations.specs.Coding.{decoded}
@@ -28,6 +30,7 @@ use Rattle.symbols.proofs.EntryLaws.{table-entries}
 use Rattle.answers.specs.declared.Answer.the-variants.{Got}
 use Rattle.sides.specs.Side.{rulesWords}
 use Rattle.sides.proofs.UnpackedLaws.{unpacked-parts, unpacked-length}
+use Rattle.reader.proofs.FileLaws.{stored-coefficients}
 use Rattle.reader.specs.File.{PackedParts, rulesIn, storedForm, storedFile}
 use Rattle.decoder.specs.Sheet.{Unpacked}
 
@@ -46,6 +49,9 @@ as-many form rules = byTest (eqb form firstForm) (λ e. rw e (length-map rules _
 
 module _ (bytes table before after : List ℕ) (file : RuleFile) (nodes front : ℕ)
     (parts : PackedParts bytes table before after file nodes front) where
+  none : hasCoefficients (storedForm (file .form)) ≡ false
+  none = stored-coefficients (file .form) (parts .plain)
+
   word-count : front + nodes ≡ length (unpacked (storedFile file))
   word-count =
       omega (
@@ -53,7 +59,7 @@ module _ (bytes table before after : List ℕ) (file : RuleFile) (nodes front : 
         parts .size,
         table-entries (length (file .signature .symbols)),
         parts .nodeCount,
-        unpacked-length (storedFile file),
+        unpacked-length (storedFile file) none,
       )
 
   words-few : 5 * (front + nodes) ≤ 5 * maxTableWords + 8 * length bytes
@@ -87,7 +93,13 @@ module _ (bytes table before after : List ℕ) (file : RuleFile) (nodes front : 
         (take-append-seam l (drop (0 + length l) before))
 
     sheet-words : take front table ++ take nodes after ≡ unpacked (storedFile file)
-    sheet-words = rw (parts .words, nodes-front, unpacked-parts (storedFile file), as-many (file .form) (file .rules))
+    sheet-words = rw (
+      parts .words,
+      nodes-front,
+      unpacked-parts (storedFile file) none,
+      as-many (file .form)
+          (file .rules),
+    )
 
     -- They were stored.
     pub sheet-stored : (words whole : List ℕ) (end : ℕ) (reading : Reading RuleFile) → reading ≡ got file end →

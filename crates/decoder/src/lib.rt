@@ -1,10 +1,12 @@
 // Decoding: a packed file as words, a word for each field.
 ghost use mathlib.Core.Path.{_≡_};
 ghost use mathlib.Core.List.{_++_};
+ghost use mathlib.Core.Bool.{false};
 ghost use Prim.Native.Nat.{_+_, _*_, _≤_};
 ghost use lib.ListN.{length, take};
 ghost use lib.Seq.{sets};
 ghost use Rattle.format.specs.Layout.{maxBytes};
+ghost use Rattle.format.specs.Forms.{hasCoefficients};
 ghost use Rattle.format.specs.Files.{readBytesIn};
 ghost use Rattle.operations.specs.Coding.{decoded};
 ghost use Rattle.operations.specs.Enums.{numberReply};
@@ -43,6 +45,7 @@ fn put_sheet(words: &mut [u16], table: &[u16], front: usize, nodes: &[u16], coun
 // and in place of an offset how many stand before its rules.
 fn unpack_through(book: &[u8], form: u16, nodes: &mut [u16], words: &mut [u16]) -> Answer
     requires { ⌜ (length (now book) ≤ maxBytes → 8 * length (now book) ≤ 5 * length (now nodes)) ⌝ }
+    requires { ⌜ hasCoefficients form ≡ false ⌝ }
     ensures { λ r. ⌜
         Unpacked (now (book .entry)) (readBytesIn form (now (book .entry))) r (now (words .entry))
         (now (words .exit))
@@ -63,6 +66,7 @@ fn unpack_through(book: &[u8], form: u16, nodes: &mut [u16], words: &mut [u16]) 
 
 // The same, with room for the nodes by the length of the file.
 pub fn unpack(book: &[u8], form: u16, words: &mut [u16]) -> Answer
+    requires { ⌜ hasCoefficients form ≡ false ⌝ }
     ensures { λ r. ⌜
         Unpacked (now (book .entry)) (readBytesIn form (now (book .entry))) r (now (words .entry))
         (now (words .exit))

@@ -34,7 +34,7 @@ unfolding tableWords
 file-listed words file end symbols start read parts =
     let begin : start ≡ 4 + 4 * length (file .signature .symbols) = omega (arith, parts .begin, parts .symbolCount) in
     record {
-      all = sym (file-items file) ∙ rw (words-unpacked words file end read, begin);
+      all = sym (file-items file (parts .plain)) ∙ rw (words-unpacked words file end read, begin);
       begin = parts .begin;
       within = parts .within;
       short = parts .short;

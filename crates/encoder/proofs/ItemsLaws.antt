@@ -4,6 +4,7 @@
 --     file-items       the items of a file are those of its words
 use mathlib.Core.List.{List, [], _∷_, _++_, map, flatMap, append-assoc}
 use mathlib.Core.Path.{_≡_, refl, sym, ap, _∙_}
+use mathlib.Core.Bool.{false}
 use Prim.Native.Nat.{ℕ, suc, zero, _+_, _*_, _%_, _≤_, _<_}
 use native.Mathlib.Nat.{add-zero, zero-add}
 use native.Mathlib.Numerals.{add-one}
@@ -13,6 +14,9 @@ use lib.Seq.{getD-drop, drop-drop, drop-append-seam}
 use borrow.Author.Tests.{lt-ltb, le-ltb}
 use Rattle.terms.specs.Signature.{Symbol}
 use Rattle.format.specs.Format.{RuleFile}
+use Rattle.format.specs.Layout.{formNumber}
+use Rattle.format.specs.Forms.{hasCoefficients}
+use Rattle.format.proofs.CoefficientLaws.{plain-items}
 use Rattle.format.specs.Packing.{Item, itemWord, symbolItems, items, unpacked}
 use Rattle.format.specs.Packing.Item.{field, node}
 use Rattle.symbols.specs.Table.{symbolsWords}
@@ -58,12 +62,13 @@ module _ (words : List ℕ) (nodes : ℕ) where
       rw (lt-ltb (at + j) nodes m, le-ltb (at + j) 4 g, e)
 
   symbol-items : (at : ℕ) (s : Symbol) (rest : List ℕ) → at % 4 ≡ 0 → 4 ≤ at → at + 4 ≤ nodes →
-      drop at words ≡ map itemWord (symbolItems s) ++ rest → itemsFrom words nodes at 4 ≡ symbolItems s
+      drop at words ≡ map itemWord (symbolItems formNumber s) ++ rest → itemsFrom words nodes at 4 ≡ symbolItems
+      formNumber s
   symbol-items at s rest h k l e =
-      let word : (j : ℕ) → getD words (at + j) 0 ≡ getD (map itemWord (symbolItems s) ++ rest) j 0 =
+      let word : (j : ℕ) → getD words (at + j) 0 ≡ getD (map itemWord (symbolItems formNumber s) ++ rest) j 0 =
       λ j. sym (getD-drop at words j 0) ∙ ap (λ l. getD l j 0) e in
       let item : (i j : ℕ) → i ≡ at + j → j < 4 → itemAt words nodes i
-      ≡ field (getD (3 ∷ 1 ∷ 16 ∷ 8 ∷ []) j 0) (getD (map itemWord (symbolItems s) ++ rest) j 0) =
+      ≡ field (getD (3 ∷ 1 ∷ 16 ∷ 8 ∷ []) j 0) (getD (map itemWord (symbolItems formNumber s) ++ rest) j 0) =
       λ i j e m. ap (itemAt words nodes) e ∙ symbol-item at j h k m (omega arith)
       ∙ ap (field (getD (3 ∷ 1 ∷ 16 ∷ 8 ∷ []) j 0)) (word j) in
       let first = item at 0 (omega arith) (omega arith) in
@@ -73,7 +78,8 @@ module _ (words : List ℕ) (nodes : ℕ) where
       cc (first, second, third, fourth)
 
   symbols-items : (ss : List Symbol) (at : ℕ) (rest : List ℕ) → at % 4 ≡ 0 → 4 ≤ at → at + 4 * length ss ≤ nodes →
-      drop at words ≡ symbolsWords ss ++ rest → itemsFrom words nodes at (4 * length ss) ≡ flatMap symbolItems ss
+      drop at words ≡ symbolsWords ss ++ rest → itemsFrom words nodes at (4 * length ss) ≡ flatMap
+      (symbolItems formNumber) ss
   unfolding flatMap
   symbols-items [] at rest h k l e = refl
   symbols-items (s ∷ ss) at rest h k l e =
@@ -82,7 +88,7 @@ module _ (words : List ℕ) (nodes : ℕ) where
       ap (itemsFrom words nodes at) n ∙ items-add at 4 (4 * length ss)
       ∙ ap (λ (is : List Item). is ++ itemsFrom words nodes (at + 4) (4 * length ss))
       (symbol-items at s (symbolsWords ss ++ rest) h k (omega arith) e)
-      ∙ ap (λ (is : List Item). symbolItems s ++ is)
+      ∙ ap (λ (is : List Item). symbolItems formNumber s ++ is)
       (symbols-items ss (at + 4) rest (omega arith) (omega arith) (omega arith) later)
 
 -- ---- the whole file
@@ -104,9 +110,9 @@ module _ (file : RuleFile) where
   abbrev begin : ℕ
   begin = 4 + 4 * length ss
 
-  whole-items : itemsFrom whole begin 0 (length whole) ≡ items file
+  whole-items : hasCoefficients (file .form) ≡ false → itemsFrom whole begin 0 (length whole) ≡ items file
   unfolding items
-  whole-items =
+  whole-items none =
       let from = itemsFrom whole begin in
       let n = length (rulesWords (file .rules)) in
       let long : length (symbolsWords ss) ≡ 4 * length ss = length-symbolsWords ss in
@@ -120,7 +126,7 @@ module _ (file : RuleFile) where
         lt-ltb 2 begin (some 2 (omega arith)),
         lt-ltb 3 begin (some 3 (omega arith)),
       ) in
-      let second : from 4 (4 * length ss) ≡ flatMap symbolItems ss =
+      let second : from 4 (4 * length ss) ≡ flatMap (symbolItems formNumber) ss =
       symbols-items whole begin ss 4 (rulesWords (file .rules)) refl (omega arith) (omega arith) refl in
       let last : drop begin whole ≡ rulesWords (file .rules) =
       sym (drop-drop (4 * length ss) 4 whole) ∙ rw (← long) (drop-append-seam (symbolsWords ss) (rulesWords (file
@@ -128,11 +134,13 @@ module _ (file : RuleFile) where
       let third : from (4 + 4 * length ss) n ≡ map node (rulesWords (file .rules)) =
       node-items whole begin (rulesWords (file .rules)) begin (omega arith) last in
       let later = from (4 + 4 * length ss) n in
-      ap (from 0) l ∙ items-add whole begin 0 4 (4 * length ss + n)
+      rw (plain-items (file .form) none ss) (ap (from 0) l ∙ items-add whole begin 0 4 (4 * length ss + n)
       ∙ ap (λ (is : List Item). from 0 4 ++ is) (items-add whole begin 4 (4 * length ss) n)
       ∙ ap (λ (is : List Item). is ++ (from 4 (4 * length ss) ++ later)) first
       ∙ ap (λ (is : List Item). header ++ (is ++ later)) second
-      ∙ ap (λ (is : List Item). header ++ (flatMap symbolItems ss ++ is)) (third ∙ sym (rules-items (file .rules)))
+      ∙ ap (λ (is : List Item). header ++ (flatMap (symbolItems formNumber) ss ++ is))
+      (third ∙ sym (rules-items (file .rules))))
 
-  pub file-items : itemsFrom (unpacked file) (4 + 4 * length ss) 0 (length (unpacked file)) ≡ items file
-  file-items = rw (unpacked-parts file) whole-items
+  pub file-items : hasCoefficients (file .form) ≡ false → itemsFrom (unpacked file) (4 + 4 * length ss) 0
+      (length (unpacked file)) ≡ items file
+  file-items none = rw (unpacked-parts file none) (whole-items none)

@@ -23,8 +23,8 @@ use Rattle.terms.specs.FirstUse.{firstUses, placeIn, renameWord, renumbered, in
 use Rattle.terms.proofs.FirstUseLaws.{byWord, renameWord-symbol, renameWord-variable}
 use Rattle.terms.proofs.FirstUseCount.{firstUses-few}
 use Rattle.terms.proofs.FirstUseLaws.{place-lt, seen-word, renumbered-inOrder, inOrder-renumbered}
-use Rattle.format.specs.Layout.{formNumber, firstForm, tagWidth, variableWidth}
-use Rattle.format.specs.Forms.{allUsed, unusedOf, leastWeightIn}
+use Rattle.format.specs.Layout.{formNumber, firstForm, tagWidth, variableWidth, maxNodes}
+use Rattle.format.specs.Forms.{hasCoefficients, allUsed, unusedOf, leastWeightIn}
 use Rattle.format.specs.Format.{Sides, RuleFile}
 use Rattle.format.specs.Packing.{Item, symbolItems, ruleItems, items, itemBits, packed}
 use Rattle.format.specs.Packing.Item.{node}
@@ -32,11 +32,15 @@ use Rattle.format.specs.Conversion.{convertedSides, convertedFile}
 use Rattle.format.proofs.FormLaws.{taken-own, taken-old}
 use Rattle.format.proofs.ForestLaws.{known, argumentCount}
 use Rattle.format.proofs.SpellingLaws.{AllFit, all-fit-append, all-fit-split}
-use Rattle.format.proofs.FormatLaws.{SymbolsOk, Forest, RulesOk}
+use Rattle.format.proofs.FormatLaws.{SymbolsOk, Forest, SideOk, RulesOk}
 use Rattle.format.proofs.FormatLaws.Forest.{noTerm, termNode}
 use Rattle.format.proofs.PackingLaws.{length-bytesOf}
 use Rattle.format.proofs.FileLaws.{Readable, fileBits}
 use Rattle.format.proofs.SymbolLaws.{weighs-at, symbols-weigh}
+use Rattle.format.proofs.SideLaws.{forest-le}
+use Rattle.format.proofs.LightLaws.{unscaled-light, unscaled-formed}
+use Rattle.format.specs.Statements.{Unscaled}
+use Rattle.format.proofs.PromiseLaws.{readable-formed}
 use Rattle.format.proofs.TermReading.{fit-in-order}
 
 pub converted-words : (r : Sides) → convertedSides r .left ++ convertedSides r .right ≡ renumbered (r .left ++ r .right)
@@ -108,21 +112,21 @@ least-heavy w0 (suc zero) weight heavy h = heavy refl
 least-heavy w0 (suc (suc n)) weight heavy h = h
 
 -- What weighs enough in form 1 does in form 2.
-symbols-now : (σ : Signature) → SymbolsOk (leastWeightIn firstForm (σ .w0)) [] (σ .symbols) →
-    SymbolsOk (leastWeightIn formNumber (σ .w0)) [] (σ .symbols)
+symbols-now : (σ : Signature) → SymbolsOk firstForm (σ .w0) [] (σ .symbols) →
+    SymbolsOk formNumber (σ .w0) [] (σ .symbols)
 symbols-now σ oks =
-    symbols-weigh (leastWeightIn firstForm (σ .w0)) (leastWeightIn formNumber (σ .w0)) (σ .symbols) oks λ f l.
+    symbols-weigh firstForm formNumber (σ .w0) (σ .symbols) refl oks λ f l.
     omega (arith, weighs-at oks f l, least-less (σ .w0) (symbolOf σ f .arity))
 
 -- And the other way round, if no unary symbol weighs 0.
-pub symbols-before : (σ : Signature) → NoZeroWeightUnary σ → SymbolsOk (leastWeightIn formNumber (σ .w0)) [] (σ .symbols) →
-    SymbolsOk (leastWeightIn firstForm (σ .w0)) [] (σ .symbols)
+pub symbols-before : (σ : Signature) → NoZeroWeightUnary σ → SymbolsOk formNumber (σ .w0) [] (σ .symbols) →
+    SymbolsOk firstForm (σ .w0) [] (σ .symbols)
 symbols-before σ heavy oks =
-    symbols-weigh (leastWeightIn formNumber (σ .w0)) (leastWeightIn firstForm (σ .w0)) (σ .symbols) oks λ f l.
+    symbols-weigh formNumber firstForm (σ .w0) (σ .symbols) refl oks λ f l.
     least-heavy (σ .w0) (symbolOf σ f .arity) (symbolOf σ f .weight) (heavy f l) (weighs-at oks f l)
 
 -- In form 1 none does.
-pub before-heavy : (σ : Signature) → SymbolsOk (leastWeightIn firstForm (σ .w0)) [] (σ .symbols) → NoZeroWeightUnary σ
+pub before-heavy : (σ : Signature) → SymbolsOk firstForm (σ .w0) [] (σ .symbols) → NoZeroWeightUnary σ
 before-heavy σ oks f l unary = rw unary at (weighs-at oks f l)
 
 -- ---- the file
@@ -135,17 +139,24 @@ sides-fit r fits =
     rw (rule-items (convertedSides r), converted-words r)
     (renumbered-fit (r .left ++ r .right) (rw (rule-items r) at fits))
 
-converted-rules : (unused : ℕ) (σ : Signature) (rs : List Sides) → RulesOk unused σ rs → AllFit (flatMap ruleItems rs) →
-    RulesOk 0 σ (map convertedSides rs) × AllFit (flatMap ruleItems (map convertedSides rs))
+side-rename : (σ : Signature) → Unscaled σ → (ρ : ℕ → ℕ) (ws : List ℕ) → SideOk σ maxNodes ws →
+    SideOk σ maxNodes (map (renameWord ρ) ws)
+side-rename σ unscaled ρ ws ok =
+    let f = forest-rename σ ρ (ok .nodes) in
+    record { nodes = f; light = unscaled-light σ unscaled (map (renameWord ρ) ws) (forest-le σ f) }
+
+converted-rules : (unused : ℕ) (σ : Signature) → Unscaled σ → (rs : List Sides) → RulesOk unused σ rs →
+    AllFit (flatMap ruleItems rs) → RulesOk 0 σ (map convertedSides rs) × AllFit
+    (flatMap ruleItems (map convertedSides rs))
 unfolding flatMap
-converted-rules unused σ [] ok fits = (tt, tt)
-converted-rules unused σ (r ∷ rs) (f, g, o, ok) fits =
+converted-rules unused σ unscaled [] ok fits = (tt, tt)
+converted-rules unused σ unscaled (r ∷ rs) (f, g, o, ok) fits =
     let ρ = placeIn (firstUses (r .left ++ r .right)) in
     let (here, later) = all-fit-split (ruleItems r) (flatMap ruleItems rs) fits in
-    let (oks, rest) = converted-rules unused σ rs ok later in
+    let (oks, rest) = converted-rules unused σ unscaled rs ok later in
     let inTurn : inOrderFrom 0 (convertedSides r .left ++ convertedSides r .right) ≡ true =
     rw (converted-words r) (renumbered-inOrder (r .left ++ r .right)) in (
-      (forest-rename σ ρ f, forest-rename σ ρ g, inTurn, oks),
+      (side-rename σ unscaled ρ (r .left) f, side-rename σ unscaled ρ (r .right) g, inTurn, oks),
       all-fit-append (ruleItems (convertedSides r)) (flatMap ruleItems (map convertedSides rs)) (sides-fit r here) rest,
     )
 
@@ -154,15 +165,18 @@ unfolding items
 converted-readable f r =
     let σ = f .signature in
     let (count, (w0, (rules, rest))) = r .fits .1 in
-    let (symbols, nodes) = all-fit-split (flatMap symbolItems (σ .symbols)) (flatMap ruleItems (f .rules)) rest in
-    let (ok, fits) = converted-rules (unusedOf (f .form)) σ (f .rules) (r .ok .rulesOk) nodes in
-    let all = all-fit-append (flatMap symbolItems (σ .symbols)) _ symbols fits in
+    let old = taken-old (f .form) (r .ok .formTaken) in
+    let (symbols, nodes) =
+    all-fit-split (flatMap (symbolItems (f .form)) (σ .symbols)) (flatMap ruleItems (f .rules)) rest in
+    let unscaled = unscaled-formed f (readable-formed firstForm f r) (ap hasCoefficients old) in
+    let (ok, fits) = converted-rules (unusedOf (f .form)) σ unscaled (f .rules) (r .ok .rulesOk) nodes in
+    let all = all-fit-append (flatMap (symbolItems formNumber) (σ .symbols)) _ (rw old at symbols) fits in
     record {
       ok = record {
         formTaken = taken-own formNumber;
         someSymbol = r .ok .someSymbol;
         variableWeighs = r .ok .variableWeighs;
-        symbolsOk = symbols-now σ (rw (taken-old (f .form) (r .ok .formTaken)) at (r .ok .symbolsOk));
+        symbolsOk = symbols-now σ (rw old at (r .ok .symbolsOk));
         noneOutranked = r .ok .noneOutranked;
         rulesOk = ok;
       };
@@ -210,23 +224,23 @@ rules-length (r ∷ rs) =
       rules-length rs,
     )
 
-pub converted-bits : (f : RuleFile) →
+pub converted-bits : (f : RuleFile) → f .form ≡ firstForm →
     length (fileBits (convertedFile f)) ≡ length (fileBits f)
 unfolding items flatMap
-converted-bits f =
-    let symbols = flatMap symbolItems (f .signature .symbols) in
-    omega (
+converted-bits f old =
+    let symbols = flatMap (symbolItems firstForm) (f .signature .symbols) in
+    rw old (omega (
       arith,
       items-length symbols (flatMap ruleItems (map convertedSides (f .rules))),
       items-length symbols (flatMap ruleItems (f .rules)),
       rules-length (f .rules),
-    )
+    ))
 
-pub converted-length : (f : RuleFile) → length (packed (convertedFile f)) ≡ length (packed f)
+pub converted-length : (f : RuleFile) → f .form ≡ firstForm → length (packed (convertedFile f)) ≡ length (packed f)
 unfolding packed
-converted-length f =
+converted-length f old =
     length-bytesOf (fileBits (convertedFile f))
-    ∙ ap (λ (n : ℕ). (n + 7) / 8) (converted-bits f)
+    ∙ ap (λ (n : ℕ). (n + 7) / 8) (converted-bits f old)
     ∙ sym (length-bytesOf (fileBits f))
 
 -- ---- a file of form 2
@@ -248,8 +262,10 @@ pub readable-before : (f : RuleFile) → f .form ≡ formNumber → NoZeroWeight
     Readable firstForm (fileBefore f)
 unfolding items
 readable-before f now heavy r =
-    let symbols = flatMap symbolItems (f .signature .symbols) in
-    let nodes = all-fit-split symbols (flatMap ruleItems (f .rules)) (r .fits .1 .1 .1 .1) .1 in
+    let symbols = flatMap (symbolItems (f .form)) (f .signature .symbols) in
+    let (count, (w0, (rules, rest))) = r .fits .1 in
+    let (front, nodes) = all-fit-split symbols (flatMap ruleItems (f .rules)) rest in
+    let all = all-fit-append (flatMap (symbolItems firstForm) (f .signature .symbols)) _ (rw now at front) nodes in
     record {
       ok = record {
         formTaken = taken-own firstForm;
@@ -259,7 +275,7 @@ readable-before f now heavy r =
         noneOutranked = r .ok .noneOutranked;
         rulesOk = rules-in-any-order (f .signature) (f .rules) (rw now at (r .ok .rulesOk)) nodes;
       };
-      fits = (lit< tt, r .fits .1);
+      fits = (lit< tt, (count, (w0, (rules, all))));
     }
 
 sides-same : (r : Sides) → inOrder (r .left ++ r .right) ≡ true → convertedSides r ≡ r

@@ -14,20 +14,22 @@ use lib.Dec.{eqb, ltb, leb}
 use borrow.Author.Tests.{eqb-false, leb-true, ltb-true, lt-leb}
 use Rattle.multisets.proofs.Relations.{byTest, byOrder}
 use Rattle.terms.specs.Term.{variableCount}
-use Rattle.terms.specs.Words.{firstVariable}
+use Rattle.terms.specs.Words.{firstVariable, termOf}
 use Rattle.terms.specs.FirstUse.{unusedAfter, unusedAfterAll}
 use Rattle.terms.specs.Signature.{Symbol, Signature}
 use Rattle.format.specs.Errors.{fileTooLong}
 use Rattle.format.specs.Layout.{formWidth, symbolCountWidth, weightWidth, ruleCountWidth, arityWidth}
-use Rattle.format.specs.Layout.{acWidth, rankWidth, tagWidth, symbolWidth, variableWidth, maxNodes, maxBytes}
+use Rattle.format.specs.Layout.{acWidth, rankWidth, coefficientWidth, tagWidth, symbolWidth, variableWidth}
+use Rattle.format.specs.Layout.{maxNodes, maxBytes}
 use Rattle.format.specs.Layout.{formNumber}
 use Rattle.format.specs.Reading.{Reading, Reader, andThen, require, Node, Source, isPadding}
 use Rattle.format.specs.Reading.{bitField, bitSource, wordBelow, wordSource}
 use Rattle.format.specs.Reading.Reading.{got, fault}
-use Rattle.format.specs.Forms.{isTaken, allUsed, unusedOf, leastWeightIn}
-use Rattle.format.specs.Symbols.{heldBy, firstOutranked, weightOffset}
+use Rattle.format.specs.Forms.{isTaken, hasCoefficients, allUsed, unusedOf, leastWeightIn}
+use Rattle.format.specs.Symbols.{heldBy, isCoefficient, firstOutranked, coefficientsReader, coefficientsIn}
 use Rattle.format.specs.Symbols.{symbolReader, symbolsReader, symbolTableReader}
-use Rattle.format.specs.Format.{forestReader, sideReader, ruleReader, rulesReader, bodyReader, fileReader}
+use Rattle.format.specs.Format.{isLight, nodesReader, forestReader, sideReader, ruleReader, rulesReader}
+use Rattle.format.specs.Format.{bodyReader, fileReader}
 use Rattle.format.specs.Files.{wholeReader, readBytesIn, readWords, readFirstTerm, readTerm}
 use Rattle.format.specs.Packing.{Item}
 use Rattle.format.proofs.ReadingLaws.{HoldsOf}
@@ -121,7 +123,10 @@ module _ (limit : ℕ) where
 
     side-within : (most unused : ℕ) (σ : Signature) (at : ℕ) → at ≤ limit →
         Within (sideReader source most unused σ at)
-    side-within most unused σ at h = forest-within unused σ most 1 at h
+    unfolding sideReader Within
+    side-within most unused σ at h =
+        within-then (nodesReader source most unused σ at) _ (forest-within unused σ most 1 at h) λ ws end l.
+        within-require (isLight σ (termOf σ ws)) _ at end _ h l
 
     rule-within : (unused : ℕ) (σ : Signature) (at : ℕ) → at ≤ limit → Within (ruleReader source unused σ at)
     unfolding ruleReader Within
@@ -140,47 +145,62 @@ module _ (limit : ℕ) where
         within-then (ruleReader source unused σ at) _ (rule-within unused σ at h) λ r mid l.
         within-then (rulesReader source unused σ n mid) _ (rules-within unused σ n mid l) λ rest end e. e
 
-    symbol-within : (least : ℕ → ℕ) (earlier : List Symbol) (at : ℕ) → at ≤ limit →
-        Within (symbolReader source least earlier at)
+    all-within : (ac : Bool) (n at : ℕ) → at ≤ limit → Within (coefficientsReader source ac n at)
+    unfolding coefficientsReader Within
+    all-within ac zero at h = h
+    all-within ac (suc n) at h =
+        within-then (source .field coefficientWidth at) _ (b .field coefficientWidth at h) λ k mid l.
+        within-require (isCoefficient ac k) _ at mid _ h
+        (within-then (coefficientsReader source ac n mid) _ (all-within ac n mid l) λ ks end e. e)
+
+    coefficients-within : (form : ℕ) (ac : Bool) (arity at : ℕ) → at ≤ limit →
+        Within (coefficientsIn source form ac arity at)
+    unfolding Within
+    coefficients-within form ac arity at h =
+        byTest (hasCoefficients form) (λ e. rw e (all-within ac arity at h)) λ e. rw e h
+
+    symbol-within : (form w0 : ℕ) (earlier : List Symbol) (at : ℕ) → at ≤ limit →
+        Within (symbolReader source form w0 earlier at)
     unfolding symbolReader Within
-    symbol-within least earlier at h =
+    symbol-within form w0 earlier at h =
         within-then (source .field arityWidth at) _ (b .field arityWidth at h) λ arity at₁ h₁.
         within-then (source .field acWidth at₁) _ (b .field acWidth at₁ h₁) λ ac at₂ h₂.
         within-require (eqb ac 0 || eqb arity 2) _ at at₂ _ h
         (within-then (source .field weightWidth at₂) _ (b .field weightWidth at₂ h₂) λ weight at₃ h₃.
-        within-require (leb (least arity) weight) _ at₂ at₃ _ h₂
-        (within-then (source .field rankWidth at₃) _ (b .field rankWidth at₃ h₃) λ rank end h₄.
-        within-require (not (heldBy earlier rank)) _ at₃ end _ h₃ h₄))
+        within-require (leb (leastWeightIn form w0 arity) weight) _ at₂ at₃ _ h₂
+        (within-then (source .field rankWidth at₃) _ (b .field rankWidth at₃ h₃) λ rank at₄ h₄.
+        within-require (not (heldBy earlier rank)) _ at₃ at₄ _ h₃
+        (within-then (coefficientsIn source form (eqb ac 1) arity at₄) _
+        (coefficients-within form (eqb ac 1) arity at₄ h₄) λ ks end e. e)))
 
-    pub symbols-within : (least : ℕ → ℕ) (n : ℕ) (earlier : List Symbol) (at : ℕ) → at ≤ limit →
-        Within (symbolsReader source least n earlier at)
+    pub symbols-within : (form w0 n : ℕ) (earlier : List Symbol) (at : ℕ) → at ≤ limit →
+        Within (symbolsReader source form w0 n earlier at)
     unfolding symbolsReader Within
-    symbols-within least zero earlier at h = h
-    symbols-within least (suc n) earlier at h =
-        within-then (symbolReader source least earlier at) _ (symbol-within least earlier at h) λ s mid l.
-        symbols-within least n (earlier ++ (s ∷ [])) mid l
+    symbols-within form w0 zero earlier at h = h
+    symbols-within form w0 (suc n) earlier at h =
+        within-then (symbolReader source form w0 earlier at) _ (symbol-within form w0 earlier at h) λ s mid l.
+        symbols-within form w0 n (earlier ++ (s ∷ [])) mid l
 
-    pub table-within : (least : ℕ → ℕ) (n at : ℕ) → at ≤ limit → Within (symbolTableReader source least n at)
+    pub table-within : (form w0 n at : ℕ) → at ≤ limit → Within (symbolTableReader source form w0 n at)
     unfolding symbolTableReader Within
-    table-within least n at h =
-        within-both _ (symbolsReader source least n [] at) _ (symbols-within least n [] at h)
-        (symbols-placed source (b .moves) least n [] at) λ ss end l (new, same, count, later, weights, placed).
+    table-within form w0 n at h =
+        within-both _ (symbolsReader source form w0 n [] at) _ (symbols-within form w0 n [] at h)
+        (symbols-placed source (b .moves) form w0 n [] at) λ ss end l (new, same, count, later, weights, placed).
         byTest (eqb (firstOutranked ss) (length ss)) (λ t. rw t l)
         λ t. rw t (omega (
           arith,
-          weights (firstOutranked ss) (omega (
+          rw (← same) at (weights (firstOutranked ss) (omega (
             arith,
             outranked-le ss ss,
             eqb-false (firstOutranked ss) (length ss) t,
             ap length same,
-          )),
+          ))),
         ))
 
     body-within : (form w0 k n at : ℕ) → at ≤ limit → Within (bodyReader source form w0 k n at)
     unfolding bodyReader Within
     body-within form w0 k n at h =
-        let least = leastWeightIn form w0 in
-        within-then (symbolTableReader source least k at) _ (table-within least k at h) λ ss mid l.
+        within-then (symbolTableReader source form w0 k at) _ (table-within form w0 k at h) λ ss mid l.
         let σ : Signature = record { w0 = w0; symbols = ss } in
         within-then (rulesReader source (unusedOf form) σ n mid) _ (rules-within (unusedOf form) σ n mid l)
         λ rs end e. e

@@ -1,5 +1,5 @@
 -- What holds of every file that a reader of a form takes.
---     taken-first, taken-unused, taken-least    its form means for variables and weights what the reader's own means
+--     taken-first, taken-coefficients, taken-unused, taken-least    its form means what the reader's own means
 --     taken-own                                 a reader takes files of its own form
 --     taken-old                                 the converter takes those of form 1 alone
 --     taken-fits                                every other reader takes forms that fit their field
@@ -11,7 +11,7 @@ use lib.Dec.{eqb}
 use borrow.Author.Tests.{eqb-true}
 use Rattle.multisets.proofs.Relations.{eqb-self}
 use Rattle.format.specs.Layout.{formWidth, firstForm, formNumber}
-use Rattle.format.specs.Forms.{isTaken, allUsed, unusedOf, leastWeightIn}
+use Rattle.format.specs.Forms.{isTaken, hasCoefficients, allUsed, unusedOf, leastWeightIn}
 
 pub taken-old : (read : ℕ) → isTaken firstForm read ≡ true → read ≡ firstForm
 taken-old read t = eqb-true read firstForm t
@@ -25,6 +25,9 @@ taken-fits read t = let e = eqb-true read formNumber t in omega arith
 module _ (form read : ℕ) (t : isTaken form read ≡ true) where
   pub taken-first : eqb read firstForm ≡ eqb form firstForm
   taken-first = ap (λ (n : ℕ). eqb n firstForm) (eqb-true read form t)
+
+  pub taken-coefficients : hasCoefficients read ≡ hasCoefficients form
+  taken-coefficients = ap hasCoefficients (eqb-true read form t)
 
   pub taken-unused : unusedOf read ≡ unusedOf form
   taken-unused = ap (λ (b : Bool). cond b allUsed 0) taken-first

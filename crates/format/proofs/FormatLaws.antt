@@ -2,6 +2,7 @@
 -- a source that spells the items of a valid file reads as that file.
 --     SymbolOk, SymbolsOk        what reading tests of the symbols
 --     Forest                     what reading tests of the nodes of some terms
+--     SideOk                     what reading tests of a side
 --     FileOk                     what reading tests of a file
 --     rules-length               as many rules as are called for
 --     file-read, file-reads      the two directions
@@ -13,7 +14,7 @@ use native.Mathlib.Omega.{arith}
 use lib.ListN.{length}
 use lib.Dec.{eqb, ltb, leb}
 use Rattle.terms.specs.Signature.{Symbol, Signature}
-use Rattle.terms.specs.Words.{firstVariable}
+use Rattle.terms.specs.Words.{firstVariable, termOf}
 use Rattle.terms.specs.FirstUse.{unusedAfter, unusedAfterAll, inOrderFrom}
 use Rattle.terms.proofs.FirstUseLaws.{inOrder-append}
 use Rattle.format.specs.Layout.{formWidth, symbolCountWidth, weightWidth, ruleCountWidth, arityWidth}
@@ -21,30 +22,31 @@ use Rattle.format.specs.Layout.{acWidth, rankWidth, maxNodes}
 use Rattle.format.specs.Reading.{Source}
 use Rattle.format.specs.Reading.Reading.{got}
 use Rattle.format.specs.Forms.{isTaken, unusedOf, leastWeightIn}
-use Rattle.format.specs.Symbols.{heldBy, ones, firstOutranked}
+use Rattle.format.specs.Symbols.{heldBy, firstOutranked, coefficientsIn}
 use Rattle.format.specs.Symbols.{symbolReader, symbolsReader, weightOffset, symbolTableReader}
-use Rattle.format.specs.Format.{Sides, RuleFile}
-use Rattle.format.specs.Format.{forestReader, sideReader, ruleReader, rulesReader, bodyReader, fileReader}
+use Rattle.format.specs.Format.{Sides, RuleFile, isLight, nodesReader, sideReader}
+use Rattle.format.specs.Format.{forestReader, ruleReader, rulesReader, bodyReader, fileReader}
 use Rattle.format.specs.Packing.{symbolItems, ruleItems, items}
 use Rattle.format.specs.Packing.Item.{field, node}
 use Rattle.format.proofs.ReadingLaws.{HoldsOf, holds-got, holds-map, holds-then, holds-require}
 use Rattle.format.proofs.ForestLaws.{known, argumentCount, nothing-owed}
+use Rattle.format.proofs.CoefficientLaws.{Coefficients, coefficients-read, coefficients-reads}
 use Rattle.format.proofs.SpellingLaws.{Spells, spells-append, spells-split}
 use Rattle.format.proofs.SpellingLaws.Spells.{none, more}
 
 -- ---- what reading tests
 
-pub record SymbolOk (least : ℕ → ℕ) (earlier : List Symbol) (s : Symbol) : Type 0 where
+pub record SymbolOk (form w0 : ℕ) (earlier : List Symbol) (s : Symbol) : Type 0 where
   pub acBinary : (eqb (cond (s .ac) 1 0) 0 || eqb (s .arity) 2) ≡ true
-  pub weighs : leb (least (s .arity)) (s .weight) ≡ true
+  pub weighs : leb (leastWeightIn form w0 (s .arity)) (s .weight) ≡ true
   pub fresh : not (heldBy earlier (s .precedence)) ≡ true
-  pub plain : s .coefficients ≡ ones (s .arity)
+  pub coefficients : Coefficients form (s .ac) (s .arity) (s .coefficients)
 
 -- Each symbol after those before it.
-pub data SymbolsOk (least : ℕ → ℕ) : List Symbol → List Symbol → Type 0 where
-  noSymbol : {earlier : List Symbol} → SymbolsOk least earlier []
-  symbol : {earlier : List Symbol} {s : Symbol} {ss : List Symbol} → SymbolOk least earlier s →
-      SymbolsOk least (earlier ++ (s ∷ [])) ss → SymbolsOk least earlier (s ∷ ss)
+pub data SymbolsOk (form w0 : ℕ) : List Symbol → List Symbol → Type 0 where
+  noSymbol : {earlier : List Symbol} → SymbolsOk form w0 earlier []
+  symbol : {earlier : List Symbol} {s : Symbol} {ss : List Symbol} → SymbolOk form w0 earlier s →
+      SymbolsOk form w0 (earlier ++ (s ∷ [])) ss → SymbolsOk form w0 earlier (s ∷ ss)
 
 -- As many terms as are owed, with an allowance of nodes.
 pub data Forest (σ : Signature) : ℕ → ℕ → List ℕ → Type 0 where
@@ -52,10 +54,15 @@ pub data Forest (σ : Signature) : ℕ → ℕ → List ℕ → Type 0 where
   termNode : {a n w : ℕ} {ws : List ℕ} → known σ w ≡ true → Forest σ a (argumentCount σ w + n) ws →
       Forest σ (suc a) (suc n) (w ∷ ws)
 
+-- A side: a term of so many nodes at most that is not too heavy.
+pub record SideOk (σ : Signature) (limit : ℕ) (ws : List ℕ) : Type 0 where
+  pub nodes : Forest σ limit 1 ws
+  pub light : isLight σ (termOf σ ws) ≡ true
+
 abbrev pub RulesOk : ℕ → Signature → List Sides → Type 0
 RulesOk unused σ [] = Unit {0}
 RulesOk unused σ (r ∷ rs) =
-    Forest σ maxNodes 1 (r .left) × Forest σ maxNodes 1 (r .right) × (inOrderFrom unused (r .left ++ r .right) ≡ true)
+    SideOk σ maxNodes (r .left) × SideOk σ maxNodes (r .right) × (inOrderFrom unused (r .left ++ r .right) ≡ true)
     × RulesOk unused σ rs
 
 -- By a reader of that form.
@@ -63,7 +70,7 @@ pub record FileOk (form : ℕ) (f : RuleFile) : Type 0 where
   pub formTaken : isTaken form (f .form) ≡ true
   pub someSymbol : ltb 0 (length (f .signature .symbols)) ≡ true
   pub variableWeighs : ltb 0 (f .signature .w0) ≡ true
-  pub symbolsOk : SymbolsOk (leastWeightIn (f .form) (f .signature .w0)) [] (f .signature .symbols)
+  pub symbolsOk : SymbolsOk (f .form) (f .signature .w0) [] (f .signature .symbols)
   pub noneOutranked : eqb (firstOutranked (f .signature .symbols)) (length (f .signature .symbols)) ≡ true
   pub rulesOk : RulesOk (unusedOf (f .form)) (f .signature) (f .rules)
 
@@ -110,21 +117,35 @@ module _ (source : Source) where
 
   -- ---- a side
 
-  pub side-read : (limit unused : ℕ) (σ : Signature) (at : ℕ) →
-      HoldsOf (ForestRead unused σ limit 1 at) (sideReader source limit unused σ at)
-  side-read limit unused σ at = forest-read unused σ limit 1 at
+  pub nodes-read : (limit unused : ℕ) (σ : Signature) (at : ℕ) →
+      HoldsOf (ForestRead unused σ limit 1 at) (nodesReader source limit unused σ at)
+  nodes-read limit unused σ at = forest-read unused σ limit 1 at
 
-  pub side-reads : (limit unused : ℕ) (σ : Signature) {ws : List ℕ} → Forest σ limit 1 ws →
+  abbrev pub SideRead : ℕ → ℕ → Signature → ℕ → List ℕ → ℕ → Type 0
+  SideRead limit unused σ at ws end =
+      SideOk σ limit ws × (inOrderFrom unused ws ≡ true) × Spells source (map node ws) at end
+
+  pub side-read : (limit unused : ℕ) (σ : Signature) (at : ℕ) →
+      HoldsOf (SideRead limit unused σ at) (sideReader source limit unused σ at)
+  unfolding sideReader HoldsOf
+  side-read limit unused σ at =
+      holds-then _ (nodesReader source limit unused σ at) _ λ ws end e.
+      holds-require _ (isLight σ (termOf σ ws)) _ at end _ λ light.
+      let (f, o, p) = holds-got _ _ ws end (nodes-read limit unused σ at) e in
+      (record { nodes = f; light = light }, o, p)
+
+  pub side-reads : (limit unused : ℕ) (σ : Signature) {ws : List ℕ} → SideOk σ limit ws →
       inOrderFrom unused ws ≡ true → {at end : ℕ} → Spells source (map node ws) at end →
       sideReader source limit unused σ at ≡ got ws end
-  side-reads limit unused σ f o p = forest-reads unused σ f o p
+  unfolding sideReader
+  side-reads limit unused σ ok o p = rw (forest-reads unused σ (ok .nodes) o p, ok .light)
 
   -- ---- rules
 
   module _ (unused : ℕ) (σ : Signature) where
     abbrev pub RuleRead : ℕ → Sides → ℕ → Type 0
     RuleRead at r end =
-        Forest σ maxNodes 1 (r .left) × Forest σ maxNodes 1 (r .right)
+        SideOk σ maxNodes (r .left) × SideOk σ maxNodes (r .right)
         × (inOrderFrom unused (r .left ++ r .right) ≡ true) × Spells source (ruleItems r) at end
 
     pub rule-read : (at : ℕ) → HoldsOf (RuleRead at) (ruleReader source unused σ at)
@@ -172,73 +193,77 @@ module _ (source : Source) where
 
   -- ---- symbols
 
-  symbol-reads : {least : ℕ → ℕ} {earlier : List Symbol} {s : Symbol} {at end : ℕ} → SymbolOk least earlier s →
-      Spells source (symbolItems s) at end → symbolReader source least earlier at ≡ got s end
+  symbol-reads : {form w0 : ℕ} {earlier : List Symbol} {s : Symbol} {at end : ℕ} → SymbolOk form w0 earlier s →
+      Spells source (symbolItems form s) at end → symbolReader source form w0 earlier at ≡ got s end
   unfolding symbolReader
-  symbol-reads {s = s} ok (more e₁ (more e₂ (more e₃ (more e₄ none)))) =
-      rw (e₁, e₂, ok .acBinary, e₃, ok .weighs, e₄, ok .fresh, ac-same (s .ac), ← ok .plain)
+  symbol-reads {form} {s = s} ok (more e₁ (more e₂ (more e₃ (more e₄ p)))) =
+      let scaled = coefficients-reads source form (s .ac) (s .arity) (s .coefficients) (ok .coefficients) p in
+      rw (e₁, e₂, ok .acBinary, e₃, ok .weighs, e₄, ok .fresh, ac-same (s .ac), scaled)
 
-  symbols-reads : {least : ℕ → ℕ} {earlier ss : List Symbol} → SymbolsOk least earlier ss → (at end : ℕ) →
-      Spells source (flatMap symbolItems ss) at end →
-      symbolsReader source least (length ss) earlier at ≡ got (earlier ++ ss) end
+  symbols-reads : {form w0 : ℕ} {earlier ss : List Symbol} → SymbolsOk form w0 earlier ss → (at end : ℕ) →
+      Spells source (flatMap (symbolItems form) ss) at end →
+      symbolsReader source form w0 (length ss) earlier at ≡ got (earlier ++ ss) end
   unfolding symbolsReader flatMap
   symbols-reads (noSymbol {earlier}) at end none = rw append-nil
-  symbols-reads (symbol {earlier} {s} {ss} ok oks) at end p =
-      let (mid, q, r) = spells-split source (symbolItems s) p in
+  symbols-reads {form = form} (symbol {earlier} {s} {ss} ok oks) at end p =
+      let (mid, q, r) = spells-split source (symbolItems form s) p in
       rw (symbol-reads ok q, symbols-reads oks mid end r, append-assoc earlier (s ∷ []) ss)
 
-  abbrev SymbolRead : (ℕ → ℕ) → List Symbol → ℕ → Symbol → ℕ → Type 0
-  SymbolRead least earlier at s end = SymbolOk least earlier s × Spells source (symbolItems s) at end
+  abbrev SymbolRead : ℕ → ℕ → List Symbol → ℕ → Symbol → ℕ → Type 0
+  SymbolRead form w0 earlier at s end = SymbolOk form w0 earlier s × Spells source (symbolItems form s) at end
 
   -- So many symbols after the earlier ones.
-  abbrev pub SymbolsRead : (ℕ → ℕ) → ℕ → List Symbol → ℕ → List Symbol → ℕ → Type 0
-  SymbolsRead least n earlier at all end =
-      (ss : List Symbol) × (all ≡ earlier ++ ss) × (length ss ≡ n) × SymbolsOk least earlier ss ×
-      Spells source (flatMap symbolItems ss) at end
+  abbrev pub SymbolsRead : ℕ → ℕ → ℕ → List Symbol → ℕ → List Symbol → ℕ → Type 0
+  SymbolsRead form w0 n earlier at all end =
+      (ss : List Symbol) × (all ≡ earlier ++ ss) × (length ss ≡ n) × SymbolsOk form w0 earlier ss ×
+      Spells source (flatMap (symbolItems form) ss) at end
 
   module _ (fits : (width at v next : ℕ) → source .field width at ≡ got v next → v < 2 ^ width) where
-    symbol-read : (least : ℕ → ℕ) (earlier : List Symbol) (at : ℕ) →
-        HoldsOf (SymbolRead least earlier at) (symbolReader source least earlier at)
+    symbol-read : (form w0 : ℕ) (earlier : List Symbol) (at : ℕ) →
+        HoldsOf (SymbolRead form w0 earlier at) (symbolReader source form w0 earlier at)
     unfolding symbolReader HoldsOf
-    symbol-read least earlier at =
+    symbol-read form w0 earlier at =
         holds-then _ (source .field arityWidth at) _ λ arity at₁ e₁.
         holds-then _ (source .field acWidth at₁) _ λ ac at₂ e₂.
         holds-require _ (eqb ac 0 || eqb arity 2) _ at at₂ _ λ binary.
         holds-then _ (source .field weightWidth at₂) _ λ weight at₃ e₃.
-        holds-require _ (leb (least arity) weight) _ at₂ at₃ _ λ weighs.
-        holds-then _ (source .field rankWidth at₃) _ λ rank end e₄.
-        holds-require _ (not (heldBy earlier rank)) _ at₃ end _ λ fresh.
+        holds-require _ (leb (leastWeightIn form w0 arity) weight) _ at₂ at₃ _ λ weighs.
+        holds-then _ (source .field rankWidth at₃) _ λ rank at₄ e₄.
+        holds-require _ (not (heldBy earlier rank)) _ at₃ at₄ _ λ fresh.
+        holds-then _ (coefficientsIn source form (eqb ac 1) arity at₄) _ λ ks end e₅.
         let same = ac-back ac (fits acWidth at₁ ac at₂ e₂) in
+        let (scaled, p) = holds-got _ _ ks end (coefficients-read source form (eqb ac 1) arity at₄) e₅ in
         let s : Symbol = record {
           arity = arity;
           ac = eqb ac 1;
           weight = weight;
           precedence = rank;
-          coefficients = ones arity;
+          coefficients = ks;
         } in
-        let ok : SymbolOk least earlier s =
-        record { acBinary = rw same binary; weighs = weighs; fresh = fresh; plain = refl } in
-        (ok, rw same (more e₁ (more e₂ (more e₃ (more e₄ none)))))
+        let ok : SymbolOk form w0 earlier s =
+        record { acBinary = rw same binary; weighs = weighs; fresh = fresh; coefficients = scaled } in
+        (ok, rw same (more e₁ (more e₂ (more e₃ (more e₄ p)))))
 
-    pub symbols-read : (least : ℕ → ℕ) (n : ℕ) (earlier : List Symbol) (at : ℕ) →
-        HoldsOf (SymbolsRead least n earlier at) (symbolsReader source least n earlier at)
+    pub symbols-read : (form w0 n : ℕ) (earlier : List Symbol) (at : ℕ) →
+        HoldsOf (SymbolsRead form w0 n earlier at) (symbolsReader source form w0 n earlier at)
     unfolding symbolsReader HoldsOf flatMap
-    symbols-read least zero earlier at = ([], sym (append-nil earlier), refl, noSymbol, none)
-    symbols-read least (suc n) earlier at =
-        holds-then _ (symbolReader source least earlier at) _ λ s mid e.
-        let (ok, p) = holds-got _ _ s mid (symbol-read least earlier at) e in
+    symbols-read form w0 zero earlier at = ([], sym (append-nil earlier), refl, noSymbol, none)
+    symbols-read form w0 (suc n) earlier at =
+        holds-then _ (symbolReader source form w0 earlier at) _ λ s mid e.
+        let (ok, p) = holds-got _ _ s mid (symbol-read form w0 earlier at) e in
         let upTo = earlier ++ (s ∷ []) in
-        holds-map _ _ (symbolsReader source least n upTo mid) (symbols-read least n upTo mid)
+        holds-map _ _ (symbolsReader source form w0 n upTo mid) (symbols-read form w0 n upTo mid)
         λ all end (ss, a, k, oks, q).
         (s ∷ ss, a ∙ append-assoc earlier (s ∷ []) ss, ap suc k, symbol ok oks, spells-append source p q)
 
     -- The symbols are read, and none is outranked.
-    pub table-read : (least : ℕ → ℕ) (n at : ℕ) → HoldsOf (λ ss end. (symbolsReader source least n [] at ≡ got ss end) ×
-        (eqb (firstOutranked ss) (length ss) ≡ true)) (symbolTableReader source least n at)
+    pub table-read : (form w0 n at : ℕ) → HoldsOf (λ ss end. (symbolsReader source form w0 n [] at ≡ got ss end) ×
+        (eqb (firstOutranked ss) (length ss) ≡ true)) (symbolTableReader source form w0 n at)
     unfolding symbolTableReader HoldsOf
-    table-read least n at =
-        holds-then _ (symbolsReader source least n [] at) _ λ ss end e.
-        holds-require _ (eqb (firstOutranked ss) (length ss)) _ (weightOffset source at (firstOutranked ss)) end _ λ t.
+    table-read form w0 n at =
+        holds-then _ (symbolsReader source form w0 n [] at) _ λ ss end e.
+        holds-require _ (eqb (firstOutranked ss) (length ss)) _ (weightOffset source form at ss (firstOutranked ss))
+        end _ λ t.
         (e, t)
 
     pub file-read : (form at : ℕ) →
@@ -253,15 +278,14 @@ module _ (source : Source) where
         holds-then _ (source .field weightWidth at₂) _ λ w0 at₃ e₃.
         holds-require _ (ltb 0 w0) _ at₂ at₃ _ λ weighs.
         holds-then _ (source .field ruleCountWidth at₃) _ λ n at₄ e₄.
-        let least = leastWeightIn read w0 in
-        holds-then _ (symbolTableReader source least k at₄) _ λ ss at₅ table.
+        holds-then _ (symbolTableReader source read w0 k at₄) _ λ ss at₅ table.
         holds-then _ (rulesReader source unused (record { w0 = w0; symbols = ss }) n at₅) _ λ rs end e₆.
-        let (e₅, noneOutranked) = holds-got _ _ ss at₅ (table-read least k at₄) table in
-        let (new, a, length-new, oks, p) = holds-got _ _ ss at₅ (symbols-read least k [] at₄) e₅ in
+        let (e₅, noneOutranked) = holds-got _ _ ss at₅ (table-read read w0 k at₄) table in
+        let (new, a, length-new, oks, p) = holds-got _ _ ss at₅ (symbols-read read w0 k [] at₄) e₅ in
         let σ : Signature = record { w0 = w0; symbols = ss } in
         let (length-rs, rulesOk, q) = holds-got _ _ rs end (rules-read unused σ n at₅) e₆ in
         let length-ss : length ss ≡ k = ap length a ∙ length-new in
-        let symbolsOk : SymbolsOk least [] ss = rw (← a) at oks in
+        let symbolsOk : SymbolsOk read w0 [] ss = rw (← a) at oks in
         let r₂ : source .field symbolCountWidth at₁ ≡ got (length ss) at₂ = rw (← length-ss) at e₂ in
         let r₄ : source .field ruleCountWidth at₃ ≡ got (length rs) at₄ = rw (← length-rs) at e₄ in
         let ok : FileOk form (record { form = read; signature = σ; rules = rs }) = record {
@@ -278,7 +302,7 @@ module _ (source : Source) where
       fileReader form source at ≡ got f end
   unfolding fileReader bodyReader symbolTableReader items
   file-reads form f at end ok (more e₁ (more e₂ (more e₃ (more e₄ p)))) =
-      let (mid, q, r) = spells-split source (flatMap symbolItems (f .signature .symbols)) p in
+      let (mid, q, r) = spells-split source (flatMap (symbolItems (f .form)) (f .signature .symbols)) p in
       let symbols = symbols-reads (ok .symbolsOk) _ mid q in
       let rules = rules-reads (unusedOf (f .form)) (f .signature) (f .rules) mid end (ok .rulesOk) r in
       rw (e₁, ok .formTaken, e₂, ok .someSymbol, e₃, ok .variableWeighs, e₄, symbols, ok .noneOutranked, rules)

@@ -2,6 +2,7 @@
 --     andThen-give      nothing after a reading
 --     andThen-assoc     three readings one after another
 --     andThen-same      what follows may be exchanged for what reads alike
+--     andThen-held        what follows a reading gives what was read
 --     HoldsOf             a property of what a reading gives: holds-got, holds-map, holds-then, holds-require
 use mathlib.Core.Path.{_≡_, refl}
 use mathlib.Core.Bool.{Bool, true, false}
@@ -54,3 +55,10 @@ module _ {B : Type 0} (P : B → ℕ → Type 0) where
   unfolding HoldsOf
   holds-require true code offset at k h = h refl
   holds-require false code offset at k h = tt
+
+-- What follows a reading gives what was read.
+pub andThen-held : {A : Type 0} (r : Reading A) (k : A → Reader A) → HoldsOf (λ a at. k a at ≡ got a at) r →
+    andThen r k ≡ r
+unfolding HoldsOf
+andThen-held (got a at) k h = h
+andThen-held (fault code offset) k h = refl

@@ -25,7 +25,7 @@ use Rattle.format.specs.Packing.{ruleItems}
 use Rattle.format.specs.Packing.Item.{node}
 use Rattle.format.proofs.ReadingLaws.{holds-got}
 use Rattle.format.proofs.SpellingLaws.{AllFit}
-use Rattle.format.proofs.FormatLaws.{Forest, forest-read, rule-read}
+use Rattle.format.proofs.FormatLaws.{side-read, Forest, forest-read, rule-read}
 use Rattle.format.proofs.CodingLaws.{spells-fit}
 use Rattle.format.proofs.FormatLaws.Forest.{noTerm, termNode}
 
@@ -110,7 +110,8 @@ forest-short source unused σ a n at ws end e =
 
 pub side-short : (source : Source) (limit unused : ℕ) (σ : Signature) (at : ℕ) (ws : List ℕ) (end : ℕ) →
     sideReader source limit unused σ at ≡ got ws end → length ws ≤ limit
-side-short source limit unused σ at ws end e = forest-short source unused σ limit 1 at ws end e
+side-short source limit unused σ at ws end e =
+    forest-le σ (holds-got _ _ ws end (side-read source limit unused σ at) e .0 .nodes)
 
 pub rule-fits : (bytes : List ℕ) (unused : ℕ) (σ : Signature) (at : ℕ) (r : Sides) (end : ℕ) →
     ruleReader (bitSource bytes) unused σ at ≡ got r end → AllFit (ruleItems r)

@@ -1,13 +1,14 @@
 -- The signature of a readable file is admissible, and its values are within their widths.
 --     symbols-at               each symbol passes the tests after those before it
+--     coefficients-of-symbols  what reading promises of a symbol's coefficients
 --     admissible-of-symbols    a signature whose symbols pass is admissible
 --     fits-at                  a symbol's values are within their widths
 --     symbols-of-admissible    the symbols of an admissible signature pass
 --     ranked-of-admissible     and none is outranked
---     weighs-at, symbols-weigh a symbol weighs enough; symbols that pass with other least weights
+--     weighs-at, symbols-weigh a symbol weighs enough; symbols that pass in another form
 --     fits-of                  symbols whose values are within their widths
 use mathlib.Core.Path.{_≡_, refl, sym, ap, _∙_}
-use mathlib.Core.List.{List, [], _∷_, _++_, flatMap, append-nil, append-assoc}
+use mathlib.Core.List.{List, [], _∷_, _++_, flatMap, append-nil, append-assoc, List·Memᴰ·not-nil}
 use mathlib.Core.Bool.{Bool, true, false, false≢true, cond, _||_, not}
 use Prim.Native.Nat.{ℕ, suc, zero, _≤_, _<_}
 use native.Mathlib.Omega.{arith}
@@ -16,32 +17,36 @@ use lib.Seq.{getD-take, length-take-le}
 use lib.Dec.{eqb, lit<}
 use borrow.Author.Tests.{eqb-true, leb-true, eq-eqb, le-leb, not-true}
 use Rattle.multisets.proofs.Relations.{byOrder, byTest, eqb-self}
-use Rattle.terms.specs.Signature.{Symbol, Signature, symbolOf, leastWeight, Ones, ZeroWeightUnary, Admissible}
-use Rattle.terms.proofs.MeasureLaws.{replicate-ones, positive-of-ones}
+use Rattle.terms.specs.Signature.{Symbol, Signature, symbolOf, coefficientsOf, leastWeight, Ones, ZeroWeightUnary}
+use Rattle.terms.specs.Signature.{Admissible}
+use Rattle.terms.proofs.MeasureLaws.{replicate-ones}
 use Rattle.format.specs.Layout.{formNumber}
-use Rattle.format.specs.Forms.{isTaken, leastWeightIn}
-use Rattle.format.specs.Symbols.{heldBy, ones, firstOutranked}
-use Rattle.format.specs.Packing.{symbolItems}
+use Rattle.format.specs.Forms.{isTaken, hasCoefficients, leastWeightIn}
+use Rattle.format.specs.Symbols.{heldBy, firstOutranked}
+use Rattle.format.specs.Packing.{Item, symbolItems}
 use Rattle.format.proofs.SpellingLaws.{AllFit, all-fit-append, all-fit-split}
 use Rattle.format.specs.Statements.{Plain}
 use Rattle.format.proofs.FormLaws.{taken-least}
+use Rattle.format.proofs.CoefficientLaws.{Coefficients, admitted-ones, admitted-positive, admitted-of}
+use Rattle.format.proofs.CoefficientLaws.{coefficients-fit}
 use Rattle.format.proofs.FormatLaws.{SymbolOk, SymbolsOk}
 use Rattle.format.proofs.FormatLaws.SymbolsOk.{noSymbol, symbol}
 use Rattle.format.proofs.RankLaws.{absent, outranks-false, outranks-none, ranked-of, of-ranked}
 
-symbols-at : {least : ℕ → ℕ} {earlier ss : List Symbol} → SymbolsOk least earlier ss → (f : ℕ) → f < length ss →
-    SymbolOk least (earlier ++ take f ss) (getD ss f absent)
+symbols-at : {form w0 : ℕ} {earlier ss : List Symbol} → SymbolsOk form w0 earlier ss → (f : ℕ) → f < length ss →
+    SymbolOk form w0 (earlier ++ take f ss) (getD ss f absent)
 symbols-at noSymbol f h = absurd (omega arith)
 symbols-at (symbol {earlier} ok oks) zero h = rw (append-nil earlier) ok
 symbols-at (symbol {earlier} {s} {ss} ok oks) (suc f) h =
     rw (append-assoc earlier (s ∷ []) (take f ss)) at (symbols-at oks f (omega arith))
 
-symbols-of : (least : ℕ → ℕ) (earlier ss : List Symbol) →
-    ((f : ℕ) → f < length ss → SymbolOk least (earlier ++ take f ss) (getD ss f absent)) → SymbolsOk least earlier ss
-symbols-of least earlier [] h = noSymbol
-symbols-of least earlier (s ∷ ss) h =
+symbols-of : (form w0 : ℕ) (earlier ss : List Symbol) →
+    ((f : ℕ) → f < length ss → SymbolOk form w0 (earlier ++ take f ss) (getD ss f absent)) → SymbolsOk form w0 earlier
+    ss
+symbols-of form w0 earlier [] h = noSymbol
+symbols-of form w0 earlier (s ∷ ss) h =
     symbol (rw (append-nil earlier) at (h 0 (omega arith)))
-    (symbols-of least (earlier ++ (s ∷ [])) ss λ f l.
+    (symbols-of form w0 (earlier ++ (s ∷ [])) ss λ f l.
     rw (append-assoc earlier (s ∷ []) (take f ss)) (h (suc f) (omega arith)))
 
 held-at : (ss : List Symbol) (g : ℕ) → g < length ss → heldBy ss (getD ss g absent .precedence) ≡ true
@@ -58,17 +63,29 @@ held-by (s ∷ ss) rank e =
     byTest (eqb rank (s .precedence)) (λ t. (0, omega arith, eqb-true rank (s .precedence) t))
     λ t. let (g, l, h) = held-by ss rank (rw t at e) in (suc g, omega arith, h)
 
-pub weighs-at : {least : ℕ → ℕ} {ss : List Symbol} → SymbolsOk least [] ss → (f : ℕ) → f < length ss →
-    least (getD ss f absent .arity) ≤ getD ss f absent .weight
+pub weighs-at : {form w0 : ℕ} {ss : List Symbol} → SymbolsOk form w0 [] ss → (f : ℕ) → f < length ss →
+    leastWeightIn form w0 (getD ss f absent .arity) ≤ getD ss f absent .weight
 weighs-at oks f l = leb-true _ _ (symbols-at oks f l .weighs)
 
--- The same symbols where they weigh enough by other least weights.
-pub symbols-weigh : (least least' : ℕ → ℕ) (ss : List Symbol) → SymbolsOk least [] ss →
-    ((f : ℕ) → f < length ss → least' (getD ss f absent .arity) ≤ getD ss f absent .weight) → SymbolsOk least' [] ss
-symbols-weigh least least' ss oks h =
-    symbols-of least' [] ss λ f l.
+-- The same symbols in a form where they weigh enough and that has coefficients too, or has none either.
+pub symbols-weigh : (form form' w0 : ℕ) (ss : List Symbol) → hasCoefficients form' ≡ hasCoefficients form →
+    SymbolsOk form w0 [] ss →
+    ((f : ℕ) → f < length ss → leastWeightIn form' w0 (getD ss f absent .arity) ≤ getD ss f absent .weight) →
+    SymbolsOk form' w0 [] ss
+symbols-weigh form form' w0 ss same oks h =
+    symbols-of form' w0 [] ss λ f l.
     let ok = symbols-at oks f l in
-    record { acBinary = ok .acBinary; weighs = le-leb _ _ (h f l); fresh = ok .fresh; plain = ok .plain }
+    let c = ok .coefficients in
+    record {
+      acBinary = ok .acBinary;
+      weighs = le-leb _ _ (h f l);
+      fresh = ok .fresh;
+      coefficients = record {
+        full = c .full;
+        admitted = c .admitted;
+        plain = λ e. c .plain (sym same ∙ e);
+      };
+    }
 
 -- ---- an admissible signature
 
@@ -79,7 +96,7 @@ least-in : (form w0 arity : ℕ) → leastWeight w0 arity ≤ leastWeightIn form
 least-in form w0 zero = omega arith
 least-in form w0 (suc n) = omega arith
 
-module _ (form : ℕ) (σ : Signature) (oks : SymbolsOk (leastWeightIn form (σ .w0)) [] (σ .symbols))
+module _ (form : ℕ) (σ : Signature) (oks : SymbolsOk form (σ .w0) [] (σ .symbols))
     (ranked : eqb (firstOutranked (σ .symbols)) (length (σ .symbols)) ≡ true) where
   later-differs : (f g : ℕ) → g < f → f < length (σ .symbols) →
       symbolOf σ f .precedence ≡ symbolOf σ g .precedence → ⊥
@@ -97,10 +114,11 @@ module _ (form : ℕ) (σ : Signature) (oks : SymbolsOk (leastWeightIn form (σ 
       (λ h. eqb-true (symbolOf σ f .arity) 2 (rw e at (symbols-at oks f h .acBinary)))
       λ h. absurd (false≢true (rw (List·getD-eq-default (σ .symbols) absent h) at e))
 
-  pub plain-of-symbols : Plain σ
-  plain-of-symbols f =
-      byOrder f (length (σ .symbols)) (λ h. symbols-at oks f h .plain)
-      λ h. rw (List·getD-eq-default (σ .symbols) absent h)
+  pub coefficients-of-symbols : (f : ℕ) →
+      Coefficients form (symbolOf σ f .ac) (symbolOf σ f .arity) (coefficientsOf σ f)
+  coefficients-of-symbols f =
+      byOrder f (length (σ .symbols)) (λ h. symbols-at oks f h .coefficients)
+      λ h. rw (List·getD-eq-default (σ .symbols) absent h) (record { full = refl; admitted = tt; plain = λ e. refl })
 
   pub admissible-of-symbols : 0 < σ .w0 → Admissible σ
   admissible-of-symbols positive =
@@ -118,8 +136,8 @@ module _ (form : ℕ) (σ : Signature) (oks : SymbolsOk (leastWeightIn form (σ 
         zeroWeightHighest = λ f g hf hg z.
             outranks-false (σ .symbols) (symbolOf σ f .precedence)
             (ranked-of (σ .symbols) (σ .symbols) (eqb-true _ _ ranked) f hf (z .unary) (z .weightless)) g hg;
-        acOnes = λ f e. ones-of-plain σ plain-of-symbols f;
-        coefficientsPositive = λ f. positive-of-ones _ (ones-of-plain σ plain-of-symbols f);
+        acOnes = λ f e. admitted-ones _ (rw e at (coefficients-of-symbols f .admitted));
+        coefficientsPositive = λ f. admitted-positive _ _ (coefficients-of-symbols f .admitted);
       }
 
 least-now : (w0 arity weight : ℕ) → leastWeight w0 arity ≤ weight → leastWeightIn formNumber w0 arity ≤ weight
@@ -131,7 +149,7 @@ binary-test : (ac : Bool) (arity : ℕ) → (ac ≡ true → arity ≡ 2) → (e
 binary-test false arity h = refl
 binary-test true arity h = rw (h refl)
 
-module _ (σ : Signature) (A : Admissible σ) (plain : Plain σ) where
+module _ (σ : Signature) (A : Admissible σ) where
   fresh-at : (f : ℕ) → f < length (σ .symbols) →
       not (heldBy (take f (σ .symbols)) (symbolOf σ f .precedence)) ≡ true
   fresh-at f l =
@@ -146,17 +164,22 @@ module _ (σ : Signature) (A : Admissible σ) (plain : Plain σ) where
 
   -- In a form that is read now.
   pub symbols-of-admissible : (form : ℕ) → isTaken formNumber form ≡ true →
-      SymbolsOk (leastWeightIn form (σ .w0)) [] (σ .symbols)
-  symbols-of-admissible form t =
+      ((f : ℕ) → length (coefficientsOf σ f) ≡ symbolOf σ f .arity) → (hasCoefficients form ≡ false → Plain σ) →
+      SymbolsOk form (σ .w0) [] (σ .symbols)
+  symbols-of-admissible form t full plain =
       let enough : (f : ℕ) → f < length (σ .symbols) →
       leastWeightIn form (σ .w0) (symbolOf σ f .arity) ≤ symbolOf σ f .weight =
       λ f l. rw (taken-least formNumber form t (σ .w0) (symbolOf σ f .arity))
       (least-now (σ .w0) (symbolOf σ f .arity) (symbolOf σ f .weight) (A .weighsEnough f l)) in
-      symbols-of (leastWeightIn form (σ .w0)) [] (σ .symbols) λ f l. record {
+      symbols-of form (σ .w0) [] (σ .symbols) λ f l. record {
         acBinary = binary-test _ _ (A .acBinary f);
         weighs = le-leb _ _ (enough f l);
         fresh = fresh-at f l;
-        plain = plain f;
+        coefficients = record {
+          full = full f;
+          admitted = admitted-of _ _ (A .acOnes f) (A .coefficientsPositive f);
+          plain = λ e. plain e f;
+        };
       }
 
   pub ranked-of-admissible : eqb (firstOutranked (σ .symbols)) (length (σ .symbols)) ≡ true
@@ -167,13 +190,19 @@ module _ (σ : Signature) (A : Admissible σ) (plain : Plain σ) where
 
 -- ---- the widths
 
-pub fits-at : (ss : List Symbol) → AllFit (flatMap symbolItems ss) → (f : ℕ) → AllFit (symbolItems (getD ss f absent))
-unfolding flatMap
-fits-at [] h f = (lit< tt, (lit< tt, (lit< tt, (lit< tt, tt))))
-fits-at (s ∷ ss) h zero = all-fit-split (symbolItems s) (flatMap symbolItems ss) h .0
-fits-at (s ∷ ss) h (suc f) = fits-at ss (all-fit-split (symbolItems s) (flatMap symbolItems ss) h .1) f
+module _ (form : ℕ) where
+  abbrev itemsOf : List Symbol → List Item
+  itemsOf = flatMap (symbolItems form)
 
-pub fits-of : (ss : List Symbol) → ((f : ℕ) → AllFit (symbolItems (getD ss f absent))) → AllFit (flatMap symbolItems ss)
-unfolding flatMap
-fits-of [] h = tt
-fits-of (s ∷ ss) h = all-fit-append (symbolItems s) (flatMap symbolItems ss) (h 0) (fits-of ss λ f. h (suc f))
+  pub fits-at : (ss : List Symbol) → AllFit (itemsOf ss) → (f : ℕ) → AllFit (symbolItems form (getD ss f absent))
+  unfolding flatMap
+  fits-at [] h f =
+      let none = coefficients-fit form [] λ k m. absurd (List·Memᴰ·not-nil m) in
+      (lit< tt, (lit< tt, (lit< tt, (lit< tt, none))))
+  fits-at (s ∷ ss) h zero = all-fit-split (symbolItems form s) (itemsOf ss) h .0
+  fits-at (s ∷ ss) h (suc f) = fits-at ss (all-fit-split (symbolItems form s) (itemsOf ss) h .1) f
+
+  pub fits-of : (ss : List Symbol) → ((f : ℕ) → AllFit (symbolItems form (getD ss f absent))) → AllFit (itemsOf ss)
+  unfolding flatMap
+  fits-of [] h = tt
+  fits-of (s ∷ ss) h = all-fit-append (symbolItems form s) (itemsOf ss) (h 0) (fits-of ss λ f. h (suc f))

@@ -4,10 +4,11 @@
 --     forest-cut         a forest of more nodes than are allowed stops after those
 --     first-reads        they read as they are, whatever stands after them
 --     term-reads         and alone
---     term-refused       unless they are more than are allowed
+--     term-heavy         unless they are too heavy
+--     term-refused       or they are more than are allowed
 use mathlib.Core.Path.{_≡_, refl, ap, _∙_}
 use mathlib.Core.List.{List, [], _∷_, _++_, map, map-append, append-nil, append-assoc}
-use mathlib.Core.Bool.{true, and-eq-true-iff as both}
+use mathlib.Core.Bool.{Bool, true, false, and-eq-true-iff as both}
 use Prim.Native.Nat.{ℕ, suc, zero, _+_, _-_, _≤_, _<_}
 use native.Mathlib.Nat.{zero-add}
 use native.Mathlib.Omega.{arith}
@@ -20,21 +21,21 @@ use Rattle.terms.specs.Signature.{Signature}
 use Rattle.terms.specs.Term.{Term, Terms, size, sizes, row, variableCount, WellFormed, WellFormeds}
 use Rattle.terms.specs.Term.Term.{var, app}
 use Rattle.terms.specs.Term.Terms.{nil, cons}
-use Rattle.terms.specs.Words.{firstVariable, words, wordsOf}
+use Rattle.terms.specs.Words.{firstVariable, words, wordsOf, termOf}
 use Rattle.terms.specs.FirstUse.{unusedAfter, inOrderFrom}
-use Rattle.terms.proofs.WordsLaws.{length-words}
-use Rattle.format.specs.Errors.{tooManyNodes}
+use Rattle.terms.proofs.WordsLaws.{length-words, termOf-words}
+use Rattle.format.specs.Errors.{tooManyNodes, sideTooHeavy}
 use Rattle.format.specs.Layout.{maxNodes}
 use Rattle.format.specs.Reading.{Source, wordSource}
 use Rattle.format.specs.Reading.Reading.{got, fault}
 use Rattle.format.specs.Forms.{allUsed}
-use Rattle.format.specs.Format.{forestReader, sideReader}
+use Rattle.format.specs.Format.{forestReader, isLight, sideReader}
 use Rattle.format.specs.Files.{readFirstTerm, readTerm}
 use Rattle.format.specs.Packing.Item.{node}
 use Rattle.format.proofs.ForestLaws.{known, argumentCount}
 use Rattle.format.proofs.SpellingLaws.{AllFit, all-fit-append, Spells, agrees-of, coded→spells}
 use Rattle.format.proofs.SpellingLaws.Spells.{none, more}
-use Rattle.format.proofs.FormatLaws.{Forest, side-reads}
+use Rattle.format.proofs.FormatLaws.{Forest, SideOk, forest-reads, side-reads}
 use Rattle.format.proofs.FormatLaws.Forest.{noTerm, termNode}
 use Rattle.format.proofs.CodingLaws.{wordAt, word-coding}
 use Rattle.format.proofs.FileLaws.{nodes-each}
@@ -131,24 +132,38 @@ module _ (σ : Signature) (few : length (σ .symbols) ≤ firstVariable) (t : Te
   pub nodes-form : (a : ℕ) → Forest σ (size t + a) 1 (words t)
   nodes-form a = rw (append-nil (words t)) at (forest-words σ few t h a 0 [] noTerm)
 
-  pub first-reads : size t ≤ maxNodes → (rest : List ℕ) → readFirstTerm σ (words t ++ rest) ≡ got (words t) (size t)
+  spelled-light : {b : Bool} → isLight σ t ≡ b → isLight σ (termOf σ (words t)) ≡ b
+  spelled-light e = rw (termOf-words σ few t h) e
+
+  pub first-reads : size t ≤ maxNodes → isLight σ t ≡ true → (rest : List ℕ) → readFirstTerm σ (words t ++ rest) ≡ got
+      (words t) (size t)
   unfolding readFirstTerm
-  first-reads l rest =
+  first-reads l light rest =
       let all : size t + (maxNodes - size t) ≡ maxNodes = omega arith in
       let p = front-spells (words t) rest (words-fit σ few t h) in
       let f = rw all at (nodes-form (maxNodes - size t)) in
       let o = fit-in-order (words t) (words-fit σ few t h) in
-      rw (side-reads (wordSource (words t ++ rest)) maxNodes allUsed σ f o p, length-words t)
+      let ok : SideOk σ maxNodes (words t) = record { nodes = f; light = spelled-light light } in
+      rw (side-reads (wordSource (words t ++ rest)) maxNodes allUsed σ ok o p, length-words t)
 
-  pub term-reads : size t ≤ maxNodes → readTerm σ (words t) ≡ got (words t) (size t)
+  pub term-reads : size t ≤ maxNodes → isLight σ t ≡ true → readTerm σ (words t) ≡ got (words t) (size t)
   unfolding readFirstTerm readTerm
-  term-reads l =
+  term-reads l light =
       let p : sideReader (wordSource (words t)) maxNodes allUsed σ 0 ≡ got (words t) (size t) =
-      rw (append-nil (words t)) at (first-reads l []) in
+      rw (append-nil (words t)) at (first-reads l light []) in
       rw (p, length-words t, eqb-self (size t))
 
+  pub term-heavy : size t ≤ maxNodes → isLight σ t ≡ false → readTerm σ (words t) ≡ fault sideTooHeavy 0
+  unfolding readTerm sideReader
+  term-heavy l heavy =
+      let all : size t + (maxNodes - size t) ≡ maxNodes = omega arith in
+      let p = rw (append-nil (words t)) at (front-spells (words t) [] (words-fit σ few t h)) in
+      let f = rw all at (nodes-form (maxNodes - size t)) in
+      let o = fit-in-order (words t) (words-fit σ few t h) in
+      rw (forest-reads (wordSource (words t)) allUsed σ f o p, spelled-light heavy)
+
   pub term-refused : maxNodes < size t → readTerm σ (words t) ≡ fault tooManyNodes maxNodes
-  unfolding readTerm
+  unfolding readTerm sideReader
   term-refused l =
       let ws = words t in
       let n = length-take-le maxNodes ws (omega (arith, length-words t)) in

@@ -7,6 +7,7 @@ use lib.ListN.{length}
 use lib.Dec.{lit<}
 use Rattle.terms.specs.Signature.{Symbol, symbolOf}
 use Rattle.format.specs.Layout.{formNumber, firstForm, weightWidth}
+use Rattle.format.specs.Forms.{hasCoefficients}
 use Rattle.format.specs.Reading.{Source, bitSource, wordSource}
 use Rattle.format.specs.Reading.Reading.{got}
 use Rattle.format.specs.Symbols.{symbolsReader, weightOffset}
@@ -23,7 +24,7 @@ use Rattle.format.proofs.FileLaws.{unpacked-reads}
 use Rattle.format.proofs.ConversionLaws.{symbols-before, before-heavy}
 use Rattle.format.proofs.PromiseLaws.{readable-formed, readable-system}
 use Rattle.format.proofs.PromiseLaws.{first-term, whole-term}
-use Rattle.format.proofs.TermReading.{first-reads, term-reads, term-refused}
+use Rattle.format.proofs.TermReading.{first-reads, term-reads, term-heavy, term-refused}
 use Rattle.format.proofs.WellFormedLaws.{well-formed-readable}
 use Rattle.format.proofs.FaultLaws.{bits-bounded, words-bounded, bytes-fault, words-fault, term-fault}
 use Rattle.format.proofs.FaultLaws.{first-fault}
@@ -39,7 +40,7 @@ readable-well-formed file h =
 
 pub well-formed-files-read : WellFormedFilesRead
 well-formed-files-read file t w =
-    let weigh = symbols-of-admissible (file .signature) (w .admissible) (w .plain) (file .form) t in
+    let weigh = symbols-of-admissible (file .signature) (w .admissible) (file .form) t (w .full) (w .plain) in
     let r = well-formed-readable formNumber file t (taken-fits (file .form) t) w weigh in
     (λ short. (length (fileBits file), packed-reads formNumber file r short), unpacked-reads file r)
 
@@ -50,7 +51,9 @@ old-files-read file = (
       let old = taken-old (file .form) (r .ok .formTaken) in
       (old, readable-formed firstForm file r, before-heavy (file .signature) (rw old at (r .ok .symbolsOk))),
   λ (old, w, heavy) short.
-      let now = symbols-of-admissible (file .signature) (w .admissible) (w .plain) formNumber (taken-own formNumber) in
+      let plain = w .plain (ap hasCoefficients old) in
+      let now =
+      symbols-of-admissible (file .signature) (w .admissible) formNumber (taken-own formNumber) (w .full) λ e. plain in
       let weigh = symbols-before (file .signature) heavy now in
       let r = well-formed-readable firstForm file (rw old (taken-own firstForm)) (rw old (lit< tt)) w (rw old weigh) in
       (length (fileBits file), packed-reads firstForm file r short),
@@ -61,22 +64,22 @@ read-term-well-formed σ input nodes end = (first-term σ input nodes end, whole
 
 pub well-formed-reads : WellFormedReads
 well-formed-reads σ few t h =
-    (λ l. (term-reads σ few t h l, first-reads σ few t h l), term-refused σ few t h)
+    (λ l e. (term-reads σ few t h l e, first-reads σ few t h l e), term-heavy σ few t h, term-refused σ few t h)
 
 placed : (source : Source) → ((width at v next : ℕ) → source .field width at ≡ got v next →
-    next ≡ at + source .moves width) → (least : ℕ → ℕ) (n start : ℕ) (symbols : List Symbol) (end : ℕ) →
-    symbolsReader source least n [] start ≡ got symbols end → (f w0 : ℕ) → f < length symbols →
-    (next : ℕ) × (source .field weightWidth (weightOffset source start f)
+    next ≡ at + source .moves width) → (form w0 n start : ℕ) (symbols : List Symbol) (end : ℕ) →
+    symbolsReader source form w0 n [] start ≡ got symbols end → (f : ℕ) → f < length symbols →
+    (next : ℕ) × (source .field weightWidth (weightOffset source form start symbols f)
     ≡ got (symbolOf (record { w0 = w0; symbols = symbols }) f .weight) next)
-placed source moves least n start symbols end e f w0 h =
+placed source moves form w0 n start symbols end e f h =
     let (ss, same, count, later, weights, stand) =
-    holds-got _ _ symbols end (symbols-placed source moves least n [] start) e in
+    holds-got _ _ symbols end (symbols-placed source moves form w0 n [] start) e in
     rw same (stand f (omega (arith, ap length same)))
 
 pub weights-placed : WeightsPlaced
-weights-placed least n start symbols end f h w0 = (
-  λ bytes e. placed (bitSource bytes) (bits-bounded bytes .moves) least n start symbols end e f w0 h,
-  λ words e. placed (wordSource words) (words-bounded words .moves) least n start symbols end e f w0 h,
+weights-placed form w0 n start symbols end f h = (
+  λ bytes e. placed (bitSource bytes) (bits-bounded bytes .moves) form w0 n start symbols end e f h,
+  λ words e. placed (wordSource words) (words-bounded words .moves) form w0 n start symbols end e f h,
 )
 
 pub faults-within : FaultsWithin

@@ -9,7 +9,7 @@ use Prim.Native.Nat.{ℕ, suc, zero}
 use lib.Dec.{eqb}
 use Rattle.terms.specs.Term.{variableCount}
 use Rattle.format.specs.Errors.{wrongForm, oldForm}
-use Rattle.format.specs.Layout.{firstForm}
+use Rattle.format.specs.Layout.{firstForm, coefficientForm}
 
 -- Whether a reader of that form takes a file of the form that it reads.
 abbrev pub isTaken : ℕ → ℕ → Bool
@@ -18,6 +18,11 @@ isTaken form read = eqb read form
 -- The error of a form that is not taken.
 abbrev pub formError : ℕ → ℕ
 formError read = cond (eqb read firstForm) oldForm wrongForm
+
+-- Whether the symbols of a file of that form have coefficients. 02, order 9: "In form 3 each symbol has, after its
+-- rank, a 4-bit coefficient for each argument".
+abbrev pub hasCoefficients : ℕ → Bool
+hasCoefficients form = eqb form coefficientForm
 
 -- Where variables come in any order all numbers count as used.
 abbrev pub allUsed : ℕ

@@ -5,22 +5,22 @@
 -- Reading is total and has one outcome: `readBytes`, `readWords` and `readTerm` are functions into `Reading`.
 use mathlib.Core.List.{List, [], _++_, List·Memᴰ}
 use mathlib.Core.Path.{_≡_}
-use mathlib.Core.Bool.{true}
+use mathlib.Core.Bool.{true, false}
 use Prim.Native.Nat.{ℕ, _*_, _^_, _≤_, _<_}
 use lib.ListN.{length, take}
-use Rattle.terms.specs.Signature.{Symbol, Signature, symbolOf, NoZeroWeightUnary, Admissible}
+use Rattle.terms.specs.Signature.{Symbol, Signature, symbolOf, coefficientsOf, Ones, NoZeroWeightUnary, Admissible}
 use Rattle.terms.specs.Term.{Term, size, WellFormed}
 use Rattle.terms.specs.Words.{firstVariable, words, termOf}
 use Rattle.terms.specs.FirstUse.{inOrderFrom}
 use Rattle.terms.specs.Rewriting.{WellFormedRules}
-use Rattle.format.specs.Errors.{tooManyNodes}
+use Rattle.format.specs.Errors.{tooManyNodes, sideTooHeavy}
 use Rattle.format.specs.Layout.{symbolCountWidth, weightWidth, ruleCountWidth, arityWidth, rankWidth, maxNodes}
-use Rattle.format.specs.Layout.{formNumber, firstForm, maxBytes}
+use Rattle.format.specs.Layout.{formNumber, firstForm, coefficientWidth, maxBytes}
 use Rattle.format.specs.Reading.{bitSource, wordSource}
 use Rattle.format.specs.Reading.Reading.{got, fault}
 use Rattle.format.specs.Symbols.{ones, symbolsReader, weightOffset}
-use Rattle.format.specs.Forms.{isTaken, unusedOf}
-use Rattle.format.specs.Format.{Sides, RuleFile, systemOf}
+use Rattle.format.specs.Forms.{isTaken, hasCoefficients, unusedOf}
+use Rattle.format.specs.Format.{Sides, RuleFile, systemOf, isLight}
 use Rattle.format.specs.Packing.{packed, unpacked}
 use Rattle.format.specs.Files.{readBytesIn, readBytes, readWords, readFirstTerm, readTerm}
 
@@ -39,6 +39,7 @@ pub record WithinWidths (file : RuleFile) : Type 0 where
   pub arity : (f : ℕ) → symbolOf (file .signature) f .arity < 2 ^ arityWidth
   pub weight : (f : ℕ) → symbolOf (file .signature) f .weight < 2 ^ weightWidth
   pub precedence : (f : ℕ) → symbolOf (file .signature) f .precedence < 2 ^ rankWidth
+  pub coefficient : (f k : ℕ) → List·Memᴰ k (coefficientsOf (file .signature) f) → k < 2 ^ coefficientWidth
 
 -- The words of a well-formed term of at most 128 nodes.
 pub record IsTerm (σ : Signature) (ws : List ℕ) : Type 0 where
@@ -50,15 +51,26 @@ pub record IsTerm (σ : Signature) (ws : List ℕ) : Type 0 where
 abbrev pub Plain : Signature → Type 0
 Plain σ = (f : ℕ) → symbolOf σ f .coefficients ≡ ones (symbolOf σ f .arity)
 
--- An admissible signature of from 1 to 255 symbols, and rules whose sides are the words of terms, with the variables in
+-- A signature whose coefficients are all 1 and whose weights are within their width: no side is too heavy under it.
+pub record Unscaled (σ : Signature) : Type 0 where
+  pub ones : Ones σ
+  pub w0 : σ .w0 < 2 ^ weightWidth
+  pub weight : (f : ℕ) → symbolOf σ f .weight < 2 ^ weightWidth
+
+-- An admissible signature of from 1 to 255 symbols with a coefficient for each argument, all ones where the form has
+-- none, and rules whose sides are the words of terms, with the variables in
 -- the order that the form asks for.
 pub record WellFormedFile (file : RuleFile) : Type 0 where
   pub admissible : Admissible (file .signature)
-  pub plain : Plain (file .signature)
+  pub full : (f : ℕ) → length (coefficientsOf (file .signature) f) ≡ symbolOf (file .signature) f .arity
+  pub plain : hasCoefficients (file .form) ≡ false → Plain (file .signature)
   pub someSymbol : 0 < length (file .signature .symbols)
   pub within : WithinWidths file
   pub sides : (r : Sides) → List·Memᴰ r (file .rules) →
       IsTerm (file .signature) (r .left) × IsTerm (file .signature) (r .right)
+  pub light : (r : Sides) → List·Memᴰ r (file .rules) →
+      (isLight (file .signature) (termOf (file .signature) (r .left)) ≡ true)
+      × (isLight (file .signature) (termOf (file .signature) (r .right)) ≡ true)
   pub inTurn : (r : Sides) → List·Memᴰ r (file .rules) →
       inOrderFrom (unusedOf (file .form)) (r .left ++ r .right) ≡ true
 
@@ -93,25 +105,30 @@ OldFilesRead = (file : RuleFile) →
 abbrev pub ReadTermWellFormed : Type 0
 ReadTermWellFormed = (σ : Signature) (input nodes : List ℕ) (end : ℕ) →
     (readFirstTerm σ input ≡ got nodes end →
-    (nodes ≡ take end input) × (end ≡ length nodes) × IsTerm σ nodes × (end ≤ length input))
-    × (readTerm σ input ≡ got nodes end → (nodes ≡ input) × (end ≡ length nodes) × IsTerm σ nodes)
+    (nodes ≡ take end input) × (end ≡ length nodes) × IsTerm σ nodes × (end ≤ length input)
+    × (isLight σ (termOf σ nodes) ≡ true))
+    × (readTerm σ input ≡ got nodes end → (nodes ≡ input) × (end ≡ length nodes) × IsTerm σ nodes
+    × (isLight σ (termOf σ nodes) ≡ true))
 
 -- The words of a well-formed term read as they are, from the front also with words after them, unless a 129th node is
--- called for.
+-- called for or the term is too heavy.
 abbrev pub WellFormedReads : Type 0
 WellFormedReads = (σ : Signature) → length (σ .symbols) ≤ firstVariable → (t : Term) → WellFormed σ t →
-    (size t ≤ maxNodes → (readTerm σ (words t) ≡ got (words t) (size t))
+    (size t ≤ maxNodes → isLight σ t ≡ true → (readTerm σ (words t) ≡ got (words t) (size t))
     × ((rest : List ℕ) → readFirstTerm σ (words t ++ rest) ≡ got (words t) (size t)))
+    × (size t ≤ maxNodes → isLight σ t ≡ false → readTerm σ (words t) ≡ fault sideTooHeavy 0)
     × (maxNodes < size t → readTerm σ (words t) ≡ fault tooManyNodes maxNodes)
 
 -- 02, order 8: "at its weight": where symbols are read, the field at a symbol's offset is its weight.
 abbrev pub WeightsPlaced : Type 0
-WeightsPlaced = (least : ℕ → ℕ) (n start : ℕ) (symbols : List Symbol) (end f : ℕ) → f < length symbols → (w0 : ℕ) →
+WeightsPlaced = (form w0 n start : ℕ) (symbols : List Symbol) (end f : ℕ) → f < length symbols →
     let weight = symbolOf (record { w0 = w0; symbols = symbols }) f .weight in
-    ((bytes : List ℕ) → symbolsReader (bitSource bytes) least n [] start ≡ got symbols end →
-    (next : ℕ) × (bitSource bytes .field weightWidth (weightOffset (bitSource bytes) start f) ≡ got weight next))
-    × ((words : List ℕ) → symbolsReader (wordSource words) least n [] start ≡ got symbols end →
-    (next : ℕ) × (wordSource words .field weightWidth (weightOffset (wordSource words) start f) ≡ got weight next))
+    ((bytes : List ℕ) → symbolsReader (bitSource bytes) form w0 n [] start ≡ got symbols end →
+    (next : ℕ) × (bitSource bytes .field weightWidth (weightOffset (bitSource bytes) form start symbols f)
+    ≡ got weight next))
+    × ((words : List ℕ) → symbolsReader (wordSource words) form w0 n [] start ≡ got symbols end →
+    (next : ℕ) × (wordSource words .field weightWidth (weightOffset (wordSource words) form start symbols f)
+    ≡ got weight next))
 
 -- A fault lies within the input, or at its end.
 abbrev pub FaultsWithin : Type 0

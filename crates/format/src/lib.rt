@@ -6,6 +6,9 @@ pub const FORM: u16 = 2;
 // The form whose variables come in any order.
 pub const FIRST_FORM: u16 = 1;
 
+// The form whose symbols have coefficients.
+pub const COEFFICIENT_FORM: u16 = 3;
+
 pub const FORM_WIDTH: usize = 4;
 
 pub const SYMBOL_COUNT_WIDTH: usize = 8;
@@ -20,6 +23,8 @@ pub const ARITY_WIDTH: usize = 3;
 pub const AC_WIDTH: usize = 1;
 
 pub const RANK_WIDTH: usize = 8;
+
+pub const COEFFICIENT_WIDTH: usize = 4;
 
 // How many ranks there are.
 pub const RANKS: usize = 256;
@@ -78,6 +83,10 @@ pub const OLD_FORM: u8 = 17;
 pub const VARIABLE_OUT_OF_TURN: u8 = 18;
 
 pub const PAGE_TOO_SHORT: u8 = 19;
+
+pub const COEFFICIENT_INADMISSIBLE: u8 = 20;
+
+pub const SIDE_TOO_HEAVY: u8 = 21;
 
 pub const SIZE_OUT_OF_RANGE: u8 = 22;
 

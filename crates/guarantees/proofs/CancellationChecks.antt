@@ -18,7 +18,7 @@ use Rattle.terms.proofs.FormedTest.{isFormed, formed-decides}
 use Rattle.theory.proofs.WeightlessExample.{signature, _⊕_, a, f}
 use Rattle.format.specs.Reading.{bitField, wordBelow}
 use Rattle.format.specs.Symbols.{symbolReader, symbolsReader, symbolTableReader}
-use Rattle.format.specs.Format.{RuleFile, forestReader, ruleReader, rulesReader, bodyReader, fileReader}
+use Rattle.format.specs.Format.{RuleFile, forestReader, sideReader, ruleReader, rulesReader, bodyReader, fileReader}
 use Rattle.format.specs.Files.{wholeReader, readBytesIn, readTerm}
 use Rattle.operations.specs.declared.Relation.the-variants as said
 use Rattle.operations.specs.Inputs.{readTerms, readInputs}
@@ -67,7 +67,7 @@ replied :
     Replies book (words (f a ⊕ (a ⊕ f (f a)))) (words (f (f a) ⊕ a ⊕ a)) said.Greater ×
     Replies book (words (f a ⊕ a)) (words (a ⊕ a)) said.Greater
 unfolding compared readInputs readTerms relation readBytesIn readTerm wholeReader fileReader bodyReader
-    symbolTableReader symbolsReader symbolReader rulesReader ruleReader forestReader bitField wordBelow forestOf
-    isGreater isGreaterTo decreasingMark rootMark flattenedMark noneOftener isEquivalent isEquivalentTo rowEqual
-    rowGreater multisetEqual multisetGreater
+    symbolTableReader symbolsReader symbolReader rulesReader ruleReader sideReader forestReader bitField wordBelow
+    forestOf isGreater isGreaterTo decreasingMark rootMark flattenedMark noneOftener isEquivalent isEquivalentTo
+    rowEqual rowGreater multisetEqual multisetGreater
 replied = ((pos 0, refl), (pos 0, refl))

@@ -149,7 +149,7 @@ module _ (bytes : List ℕ) (old : RuleFile) (h : HeldBefore bytes old) where
     was-packed = bytes-packed firstForm bytes old (h .0) (h .1) small
 
     pub as-long : length (packed (convertedFile old)) ≡ length bytes
-    as-long = converted-length old ∙ ap length was-packed
+    as-long = converted-length old (taken-old (old .form) (was-readable .ok .formTaken)) ∙ ap length was-packed
 
     reads-now : Holds (packed (convertedFile old)) (convertedFile old)
     reads-now =
@@ -162,7 +162,7 @@ module _ (bytes : List ℕ) (old : RuleFile) (h : HeldBefore bytes old) where
     other-bits i m =
         let new = convertedFile old in
         bitAt-bytesOf (fileBits new) (items-bits (items new)) i
-        ∙ kept-at (file-kept old) i m
+        ∙ kept-at (file-kept old (taken-old (old .form) (was-readable .ok .formTaken))) i m
         ∙ sym (bitAt-bytesOf (fileBits old) (items-bits (items old)) i)
         ∙ ap (λ (b : List ℕ). bitAt b i) was-packed
 

@@ -97,23 +97,24 @@ rules-kept (r ∷ rs) =
     items-append (ruleItems r) (ruleItems (convertedSides r)) (flatMap ruleItems rs)
     (flatMap ruleItems (map convertedSides rs)) (sides-kept r) (rules-kept rs)
 
-symbols-kept : (ss : List Symbol) → ItemsKept (flatMap symbolItems ss) (flatMap symbolItems ss)
+symbols-kept : (ss : List Symbol) →
+    ItemsKept (flatMap (symbolItems firstForm) ss) (flatMap (symbolItems firstForm) ss)
 unfolding flatMap
 symbols-kept [] = none
 symbols-kept (s ∷ ss) =
     kept-append (kept-bits arityWidth _) (kept-append (kept-bits acWidth _)
     (kept-append (kept-bits weightWidth _) (kept-append (kept-bits rankWidth _) (symbols-kept ss))))
 
-pub file-kept : (f : RuleFile) →
+pub file-kept : (f : RuleFile) → f .form ≡ firstForm →
     KeptOff (convertedBits f) (fileBits f) (fileBits (convertedFile f))
 unfolding items flatMap
-file-kept f =
-    let symbols = flatMap symbolItems (f .signature .symbols) in
+file-kept f old =
+    let symbols = flatMap (symbolItems firstForm) (f .signature .symbols) in
     let rules = flatMap ruleItems (f .rules) in
     let new = flatMap ruleItems (map convertedSides (f .rules)) in
     let all = items-append symbols symbols rules new (symbols-kept (f .signature .symbols)) (rules-kept (f .rules)) in
-    rw (length-map (f .rules) convertedSides)
-    (kept-append (free-bits formWidth (f .form) formNumber) (kept-append (kept-bits symbolCountWidth _)
+    rw (length-map (f .rules) convertedSides, old)
+    (kept-append (free-bits formWidth firstForm formNumber) (kept-append (kept-bits symbolCountWidth _)
     (kept-append (kept-bits weightWidth _) (kept-append (kept-bits ruleCountWidth _) all))))
 
 -- ---- the first byte
@@ -160,5 +161,5 @@ forms-apart bits small =
 pub first-byte : (f : RuleFile) → f .form ≡ formNumber → inFirstForm (packed f) ≡ packed (fileBefore f)
 unfolding packed items flatMap
 first-byte f now =
-    let later = drop 1 (items f) in
+    let later = drop 1 (items (fileBefore f)) in
     rw now (forms-apart (flatMap itemBits later) (items-bits later))

@@ -12,7 +12,7 @@ use Rattle.terms.specs.Equivalence.{isEquivalentTo, isEquivalent}
 use Rattle.terms.specs.Order.{noneOftener, flattenedMark, rootMark, decreasingMark, isGreaterTo, isGreater, mark}
 use Rattle.format.specs.Reading.{bitField}
 use Rattle.format.specs.Symbols.{symbolReader, symbolsReader, symbolTableReader}
-use Rattle.format.specs.Format.{forestReader, ruleReader, rulesReader, bodyReader, fileReader}
+use Rattle.format.specs.Format.{forestReader, sideReader, ruleReader, rulesReader, bodyReader, fileReader}
 use Rattle.format.specs.Files.{wholeReader, readBytesIn}
 use Rattle.format.specs.Listing.{listing}
 use Rattle.operations.specs.declared.Job.{Job}
@@ -72,14 +72,14 @@ course (suc (suc (suc (suc k)))) = call (whole 2 ∷ whole 0 ∷ whole 1 ∷ [])
 -- The second turn serves job 1, and changes its count and its byte.
 second-served : ServesOnly (course 1) 1
 unfolding turned turnOf firstFrom isSound hasLeft bookMarks readBytesIn wholeReader fileReader bodyReader
-    symbolTableReader symbolsReader symbolReader rulesReader ruleReader forestReader bitField forestOf
+    symbolTableReader symbolsReader symbolReader rulesReader ruleReader sideReader forestReader bitField forestOf
 second-served = turn-serves-only (course 1) 1 refl
 
 second-changes : (run (course 1) .jobs ≡ whole 1 ∷ whole 2 ∷ whole 0 ∷ []) × (run (course 1) .marks ≡ marks₂)
 unfolding turned turnOf firstFrom isSound hasLeft bookMarks readBytesIn wholeReader fileReader bodyReader
-    symbolTableReader symbolsReader symbolReader rulesReader ruleReader forestReader bitField forestOf mark isGreater
-    isGreaterTo decreasingMark rootMark flattenedMark noneOftener isEquivalent isEquivalentTo rowEqual rowGreater
-    multisetEqual multisetGreater
+    symbolTableReader symbolsReader symbolReader rulesReader ruleReader sideReader forestReader bitField forestOf mark
+    isGreater isGreaterTo decreasingMark rootMark flattenedMark noneOftener isEquivalent isEquivalentTo rowEqual
+    rowGreater multisetEqual multisetGreater
 second-changes = (refl, refl)
 
 -- Of three jobs none has rules left.
@@ -88,7 +88,7 @@ finished = call (whole 2 ∷ whole 2 ∷ bare ∷ []) books marks₀ 1
 
 finished-idle : run finished .reply ≡ accepted Idle
 unfolding turned turnOf firstFrom isSound hasLeft bookMarks readBytesIn wholeReader fileReader bodyReader
-    symbolTableReader symbolsReader symbolReader rulesReader ruleReader forestReader bitField forestOf
+    symbolTableReader symbolsReader symbolReader rulesReader ruleReader sideReader forestReader bitField forestOf
 finished-idle = refl
 
 finished-left : (i : ℕ) → i < 3 → hasLeft (finished .buffer) (job finished i) ≡ false
@@ -107,7 +107,7 @@ later k = course (suc k)
 
 later-replies : (k : ℕ) → k < 3 → (t : Turn) × (run (later k) .reply ≡ accepted t)
 unfolding turned turnOf firstFrom isSound hasLeft bookMarks readBytesIn wholeReader fileReader bodyReader
-    symbolTableReader symbolsReader symbolReader rulesReader ruleReader forestReader bitField forestOf
+    symbolTableReader symbolsReader symbolReader rulesReader ruleReader sideReader forestReader bitField forestOf
 later-replies zero h = (Served 1, refl)
 later-replies (suc zero) h = (Served 2, refl)
 later-replies (suc (suc zero)) h = (Served 0, refl)
@@ -115,7 +115,7 @@ later-replies (suc (suc (suc k))) h = absurd (omega arith)
 
 later-kept : (k : ℕ) → suc k < 3 → JobKept later 0 k × PassedOn later 0 k
 unfolding turned turnOf firstFrom isSound hasLeft bookMarks readBytesIn wholeReader fileReader bodyReader
-    symbolTableReader symbolsReader symbolReader rulesReader ruleReader forestReader bitField forestOf
+    symbolTableReader symbolsReader symbolReader rulesReader ruleReader sideReader forestReader bitField forestOf
 later-kept zero h =
     (record { record-kept = refl; book-kept = refl }, record { number-kept = refl; last-passed = refl })
 later-kept (suc zero) h =
@@ -124,16 +124,16 @@ later-kept (suc (suc k)) h = absurd (omega arith)
 
 later-served : (k : ℕ) × (k < 3) × (run (later k) .reply ≡ accepted (Served 0))
 unfolding hasLeft bookMarks readBytesIn wholeReader fileReader bodyReader symbolTableReader symbolsReader symbolReader
-    rulesReader ruleReader forestReader bitField forestOf
+    rulesReader ruleReader sideReader forestReader bitField forestOf
 later-served = served-within later 0 (omega arith) refl later-replies later-kept
 
 -- ---- the marks of the whole run
 
 run-kept : (k : ℕ) → k < 4 → JobKept course 0 k × MarksKept course 0 k
 unfolding turned turnOf firstFrom isSound hasLeft bookMarks readBytesIn wholeReader fileReader bodyReader
-    symbolTableReader symbolsReader symbolReader rulesReader ruleReader forestReader bitField forestOf mark isGreater
-    isGreaterTo decreasingMark rootMark flattenedMark noneOftener isEquivalent isEquivalentTo rowEqual rowGreater
-    multisetEqual multisetGreater
+    symbolTableReader symbolsReader symbolReader rulesReader ruleReader sideReader forestReader bitField forestOf mark
+    isGreater isGreaterTo decreasingMark rootMark flattenedMark noneOftener isEquivalent isEquivalentTo rowEqual
+    rowGreater multisetEqual multisetGreater
 run-kept zero h = (record { record-kept = refl; book-kept = refl }, refl)
 run-kept (suc zero) h = (record { record-kept = refl; book-kept = refl }, refl)
 run-kept (suc (suc zero)) h = (record { record-kept = refl; book-kept = refl }, refl)
@@ -146,8 +146,9 @@ alone = 0 ∷ 0 ∷ []
 
 alone-replies : marked listing alone .reply ≡ accepted (record { rules = 2; decreasing = 1; score = 50 })
 unfolding marked scoreOf nearest readBytesIn wholeReader fileReader bodyReader symbolTableReader symbolsReader
-    symbolReader rulesReader ruleReader forestReader bitField forestOf mark isGreater isGreaterTo decreasingMark
-    rootMark flattenedMark noneOftener isEquivalent isEquivalentTo rowEqual rowGreater multisetEqual multisetGreater
+    symbolReader rulesReader ruleReader sideReader forestReader bitField forestOf mark isGreater isGreaterTo
+    decreasingMark rootMark flattenedMark noneOftener isEquivalent isEquivalentTo rowEqual rowGreater multisetEqual
+    multisetGreater
 alone-replies = refl
 
 job-marked : take 2 (marksFor 0 marks₄) ≡ take 2 (marked listing alone .output)

@@ -7,12 +7,12 @@
 --     replies-agree       what does not tell AC-equivalent terms apart replies the same
 use mathlib.Core.List.{List}
 use mathlib.Core.Logic.{_↔_}
-use mathlib.Core.Path.{_≡_, refl, ap}
+use mathlib.Core.Path.{_≡_, refl, ap, _∙_}
 use mathlib.Core.Bool.{true}
 use Prim.Native.Nat.{ℕ, _≤_}
 use native.Mathlib.Omega.{arith}
 use lib.ListN.{length}
-use Rattle.multisets.proofs.Relations.{byOrder, sameTest}
+use Rattle.multisets.proofs.Relations.{byOrder, byTest, sameTest}
 use Rattle.terms.specs.Signature.{Signature, Admissible}
 use Rattle.terms.specs.Term.{Term, size, WellFormed}
 use Rattle.terms.specs.Words.{firstVariable, words, termOf}
@@ -31,6 +31,8 @@ use Rattle.format.specs.Files.{readTerm}
 use Rattle.operations.specs.Replies.{Reply, _>>=_, fromInput}
 use Rattle.operations.specs.Replies.Reply.{accepted, refused}
 use Rattle.format.specs.Statements.{IsTerm}
+use Rattle.format.specs.Format.{isLight}
+use Rattle.format.proofs.LightLaws.{light-same}
 use Rattle.format.proofs.Theorems.{read-term-well-formed, well-formed-reads}
 use Rattle.operations.specs.declared.Error.{Error}
 use Rattle.operations.specs.Inputs.{Inputs, readTerms}
@@ -54,12 +56,23 @@ module _ (σ : Signature) (A : Admissible σ) where
     terms-alike : (s t : Term) → WellFormed σ s → WellFormed σ t → Equivalent σ s t →
         Alike (readTerm σ (words s)) (readTerm σ (words t))
     terms-alike s t v w d =
-        let e : size s ≡ size t = measures-respect-equivalence σ (A .acOnes) s t d .size in
+        let m = measures-respect-equivalence σ (A .acOnes) s t d in
+        let e : size s ≡ size t = m .size in
+        let same = light-same σ s t (m .weight) (m .variableCoefficients) in
         byOrder maxNodes (size t)
-        (λ h. rw (well-formed-reads σ few s v .1 (omega arith), well-formed-reads σ few t w .1 h) faults)
-        λ h. rw (well-formed-reads σ few s v .0 (omega arith) .0, well-formed-reads σ few t w .0 h .0)
+        (λ h. rw (well-formed-reads σ few s v .2 (omega arith), well-formed-reads σ few t w .2 h) faults)
+        λ h. byTest (isLight σ t)
+        (λ light. rw (
+          well-formed-reads σ few s v .0 (omega arith) (same ∙ light) .0,
+          well-formed-reads σ few t w .0 h light .0,
+        )
         (terms {ws = words s} {vs = words t} (rw (termOf-words σ few s v) v) (rw (termOf-words σ few t w) w)
-        (rw (termOf-words σ few s v, termOf-words σ few t w) d))
+        (rw (termOf-words σ few s v, termOf-words σ few t w) d)))
+        λ heavy. rw (
+          well-formed-reads σ few s v .1 (omega arith) (same ∙ heavy),
+          well-formed-reads σ few t w .1 h heavy,
+        )
+        faults
 
     pub like-reads : {left left' : List ℕ} → Like σ left left' → Alike (readTerm σ left) (readTerm σ left')
     like-reads (sameWords {ws = left}) =

@@ -20,11 +20,14 @@ use Rattle.terms.specs.Equivalence.{isEquivalent}
 use Rattle.terms.specs.Order.{isGreater}
 use Rattle.terms.proofs.TermLaws.{size-pos}
 use Rattle.terms.proofs.WordsLaws.{length-words, termOf-words}
-use Rattle.format.specs.Layout.{maxNodes}
+use Rattle.format.specs.Layout.{formNumber, maxNodes}
 use Rattle.format.specs.Reading.Reading.{got}
-use Rattle.format.specs.Format.{RuleFile}
+use Rattle.format.specs.Format.{RuleFile, isLight}
 use Rattle.format.specs.Files.{readBytes, readFirstTerm, readTerm}
-use Rattle.format.proofs.Theorems.{read-term-well-formed, well-formed-reads}
+use Rattle.format.specs.Statements.IsRead.{fromBytes}
+use Rattle.format.proofs.FormLaws.{taken-coefficients}
+use Rattle.format.proofs.LightLaws.{unscaled-formed, unscaled-light}
+use Rattle.format.proofs.Theorems.{readable-well-formed, read-term-well-formed, well-formed-reads}
 use Rattle.operations.specs.declared.Relation.{Relation}
 use Rattle.operations.specs.declared.Relation.the-variants as relation
 use Rattle.operations.specs.declared.GreaterSide.{GreaterSide}
@@ -37,13 +40,15 @@ use Rattle.operations.specs.Picking.{sideOf, greaterSide, picked, ofGreater, gr
 use Rattle.operations.proofs.InputLaws.{InputsRead, inputs-read}
 use Rattle.operations.proofs.PickingLaws.{front-size, picked-read, picked-accepted}
 use Rattle.guarantees.specs.Guarantees.{Holds}
-use Rattle.guarantees.specs.Picks.{Begins, Called, NoSide, equivalent, unrelated, refusal, Handed, ofLeft, ofRight}
+use Rattle.guarantees.specs.Picks.{Begins, Called, NoSide, equivalent, unrelated, refusal, Handed, ofLeft}
+use Rattle.guarantees.specs.Picks.{ofRight}
 use Rattle.guarantees.specs.Picks.{ofNeither}
 
 -- ---- what is read of two terms
 
 -- What two readers have read of two terms under a book.
-inputs-of : (reader : TermReader) (bytes left right : List ℕ) (file : RuleFile) (at : ℕ) → readBytes bytes ≡ got file at →
+inputs-of : (reader : TermReader) (bytes left right : List ℕ) (file : RuleFile) (at : ℕ) → readBytes bytes ≡ got file
+    at →
     length (file .signature .symbols) ≤ firstVariable → (s t : Term) → WellFormed (file .signature) s →
     WellFormed (file .signature) t → (m n : ℕ) → reader (file .signature) left ≡ got (words s) m →
     reader (file .signature) right ≡ got (words t) n →
@@ -51,6 +56,15 @@ inputs-of : (reader : TermReader) (bytes left right : List ℕ) (file : RuleFile
 unfolding readInputs readTerms
 inputs-of reader bytes left right file at h few s t v w m n l r =
     rw (h, l, r, termOf-words (file .signature) few s v, termOf-words (file .signature) few t w)
+
+-- No term of a readable book's is too heavy.
+term-light : (bytes : List ℕ) (file : RuleFile) → Holds bytes file → length (file .signature .symbols) ≤ firstVariable →
+    (t : Term) → WellFormed (file .signature) t → size t ≤ maxNodes → isLight (file .signature) t ≡ true
+term-light bytes file (at, h) few t w short =
+    let (formed, rules, current) = readable-well-formed file (fromBytes bytes at h) in
+    let unscaled = unscaled-formed file formed (taken-coefficients formNumber (file .form) current) in
+    rw (termOf-words (file .signature) few t w) at
+    (unscaled-light (file .signature) unscaled (words t) (omega (arith, length-words t)))
 
 module _ (bytes left right : List ℕ) (file : RuleFile) (few : length (file .signature .symbols) ≤ firstVariable)
     (s t : Term) (c : Called bytes left right file s t) where
@@ -63,13 +77,16 @@ module _ (bytes left right : List ℕ) (file : RuleFile) (few : length (file .si
       let l = c .leftBegins in
       let r = c .rightBegins in
       inputs-of readFirstTerm bytes left right file at h few s t (l .wellFormed) (r .wellFormed) (size s) (size t)
-      (rw (l .spelled) (well-formed-reads σ few s (l .wellFormed) .0 (l .short) .1 (l .rest)))
-      (rw (r .spelled) (well-formed-reads σ few t (r .wellFormed) .0 (r .short) .1 (r .rest)))
+      (rw (l .spelled) (well-formed-reads σ few s (l .wellFormed) .0 (l .short)
+      (term-light bytes file (c .holds) few s (l .wellFormed) (l .short)) .1 (l .rest)))
+      (rw (r .spelled) (well-formed-reads σ few t (r .wellFormed) .0 (r .short)
+      (term-light bytes file (c .holds) few t (r .wellFormed) (r .short)) .1 (r .rest)))
 
   pub called-picked : picked bytes left right ≡ accepted (sideOf (relation σ s t) (size s) (size t))
   called-picked = picked-accepted bytes left right _ called-inputs
 
-pub called-compared : (bytes : List ℕ) (file : RuleFile) → length (file .signature .symbols) ≤ firstVariable → (s t : Term) →
+pub called-compared : (bytes : List ℕ) (file : RuleFile) → length (file .signature .symbols) ≤ firstVariable →
+    (s t : Term) →
     Called bytes (words s) (words t) file s t →
     compared bytes (words s) (words t) ≡ accepted (comparison (file .signature) s t)
 unfolding compared
@@ -78,8 +95,10 @@ called-compared bytes file few s t c =
     let l = c .leftBegins in
     let r = c .rightBegins in
     rw (inputs-of readTerm bytes (words s) (words t) file at h few s t (l .wellFormed) (r .wellFormed) (size s) (size t)
-    (well-formed-reads (file .signature) few s (l .wellFormed) .0 (l .short) .0)
-    (well-formed-reads (file .signature) few t (r .wellFormed) .0 (r .short) .0))
+    (well-formed-reads (file .signature) few s (l .wellFormed) .0 (l .short)
+    (term-light bytes file (c .holds) few s (l .wellFormed) (l .short)) .0)
+    (well-formed-reads (file .signature) few t (r .wellFormed) .0 (r .short)
+    (term-light bytes file (c .holds) few t (r .wellFormed) (r .short)) .0))
 
 pub terms-compared : (bytes : List ℕ) (file : RuleFile) → length (file .signature .symbols) ≤ firstVariable →
     Holds bytes file → (s t : Term) → WellFormed (file .signature) s → WellFormed (file .signature) t →
@@ -98,12 +117,13 @@ begins-front σ input t b = rw (b .spelled) (take-at (words t) (b .rest) (size t
 read-begins : (σ : Signature) (input nodes : List ℕ) (end : ℕ) → readFirstTerm σ input ≡ got nodes end →
     Begins σ input (termOf σ nodes)
 read-begins σ input nodes end e =
-    let (front, count, term, within) = read-term-well-formed σ input nodes end .0 e in
+    let (front, count, term, within, light) = read-term-well-formed σ input nodes end .0 e in
     record {
       wellFormed = term .wellFormed;
       short = omega (arith, front-size σ nodes term, term .short);
       rest = drop end input;
-      spelled = sym (take-append-drop end input) ∙ ap (λ (ws : List ℕ). ws ++ drop end input) (sym front ∙ term .spelled);
+      spelled = sym (take-append-drop end input) ∙ ap (λ (ws : List ℕ). ws ++ drop end input)
+          (sym front ∙ term .spelled);
     }
 
 -- ---- which side is the greater one

@@ -27,6 +27,8 @@ use Rattle.operations.specs.Replies.Reply.{accepted}
 use Rattle.format.specs.Statements.{IsRead}
 use Rattle.format.specs.Statements.IsRead.{fromBytes}
 use Rattle.format.proofs.SymbolLaws.{ones-of-plain}
+use Rattle.format.specs.Layout.{formNumber}
+use Rattle.format.proofs.FormLaws.{taken-coefficients}
 use Rattle.format.proofs.Theorems.{readable-well-formed}
 use Rattle.operations.specs.Marking.{marksOf, summaryOf}
 use Rattle.terms.specs.Marks.{isDecreasing}
@@ -87,7 +89,9 @@ module _ (bytes : List ℕ) (file : RuleFile) (h : Holds bytes file) where
 
   -- 02: "Form 2 reads as all ones".
   one : Ones (file .signature)
-  one = ones-of-plain (file .signature) (readable-well-formed file read .0 .plain)
+  one =
+      let (formed, rules, current) = readable-well-formed file read in
+      ones-of-plain (file .signature) (formed .plain (taken-coefficients formNumber (file .form) current))
 
   pub few : length (file .signature .symbols) ≤ firstVariable
   few = omega (arith, readable-well-formed file read .0 .within .symbolCount)
@@ -214,7 +218,8 @@ relation-as-steinbach bytes file h L s t v w =
     let σ = file .signature in
     let A = admissible bytes file h in
     relation-exact σ A (SteinbachGreater σ)
-    (λ a b x y. rw (agrees-with-steinbach σ (one bytes file h) L A a b x y) (test-decides-steinbach σ A a b x y)) s t v w
+    (λ a b x y. rw (agrees-with-steinbach σ (one bytes file h) L A a b x y) (test-decides-steinbach σ A a b x y)) s t
+    v w
 
 pub compares-as-steinbach : ComparesAsSteinbach
 compares-as-steinbach bytes file h L s t v w i j r =

@@ -32,7 +32,7 @@ module _ (σ : Signature) (words : List ℕ) where
     term-read : (readTerm σ words ≡ got words n) × IsTerm σ words
     term-read =
         let (nodes, r) = end-got (readTerm σ words) value n e in
-        let (all, count, term) = read-term-well-formed σ words nodes n .1 r in
+        let (all, count, term, light) = read-term-well-formed σ words nodes n .1 r in
         (rw all at r, rw all at term)
 
     pub term-whole : IsTerm σ words

@@ -6,6 +6,7 @@ ghost use lib.ListN.{length};
 ghost use Rattle.terms.specs.Words.{termOf};
 ghost use Rattle.terms.specs.Fingerprint.{rowFactor, bagFactor, wrapped, inRow, inBag, fingerprint as fingerprintOf};
 ghost use Rattle.format.specs.Statements.{IsTerm};
+ghost use Rattle.reader.specs.Promise.{IsTable};
 ghost use Rattle.symbols.specs.Table.{signatureOf, maxTableWords};
 ghost use Rattle.operations.specs.Hashing.{fingerprintedTerm, fingerprinted};
 ghost use Rattle.operations.specs.Enums.{numberReply};
@@ -149,7 +150,7 @@ pub fn hash(table: &[u16], words: &[u16]) -> u32
 
 // The fingerprint of a term under a symbol table.
 fn fingerprint_under(table: &[u16], term: &[u16]) -> NumberReply
-    requires { ⌜ length (now table) ≤ maxTableWords ⌝ }
+    requires { ⌜ IsTable (now table) ⌝ }
     ensures { λ r. ⌜
         numberReply r ≡ fingerprintedTerm (signatureOf (now (table .entry))) (now (term .entry))
         ⌝ }

@@ -49,11 +49,11 @@ pub record FrontRead (whole : Bool) (σ : Signature) (words : List ℕ) (n : ℕ
 front-read : (whole : Bool) (σ : Signature) (words nodes : List ℕ) (n : ℕ) → readerOf whole σ words ≡ got nodes n →
     FrontRead whole σ words n
 front-read true σ words nodes n e =
-    let (all, count, term) = read-term-well-formed σ words nodes n .1 e in
+    let (all, count, term, light) = read-term-well-formed σ words nodes n .1 e in
     let front : take n words ≡ nodes = take-all n words (omega (arith, ap length all)) ∙ sym all in
     record { read = rw front e; within = omega (arith, ap length all); term = rw front term }
 front-read false σ words nodes n e =
-    let (front, count, term, within) = read-term-well-formed σ words nodes n .0 e in
+    let (front, count, term, within, light) = read-term-well-formed σ words nodes n .0 e in
     record { read = rw (sym front) e; within = within; term = rw (sym front) term }
 
 pub term-read : (whole : Bool) (σ : Signature) (words : List ℕ) (value n : ℕ) →

@@ -6,7 +6,7 @@ ghost use lib.ListN.{length};
 ghost use Rattle.format.specs.Layout.{formNumber, maxBytes, maxNodes};
 ghost use Rattle.format.specs.Reading.{bitSource};
 ghost use Rattle.format.specs.Forms.{unusedOf};
-ghost use Rattle.format.specs.Format.{Sides, sideReader, ruleReader};
+ghost use Rattle.format.specs.Format.{Sides, nodesReader, ruleReader};
 ghost use Rattle.format.specs.Statements.{IsTerm};
 ghost use Rattle.symbols.specs.Table.{signatureOf};
 ghost use Rattle.symbols.specs.Arities.{Arities};
@@ -74,7 +74,7 @@ fn mark_right(
     ensures { λ r. ⌜
         MarksRead (signatureOf (now (table .entry)))
         (λ (right : List ℕ). record { left = now (left .entry); right = right })
-        (sideReader (bitSource (now (book .entry))) maxNodes unused (signatureOf (now (table .entry))) (cursor .at)) r
+        (nodesReader (bitSource (now (book .entry))) maxNodes unused (signatureOf (now (table .entry))) (cursor .at)) r
         ⌝ }
     ensures { λ r. ⌜ MarkedWithin (8 * length (now (book .entry))) r ⌝ }
 {

@@ -1,14 +1,15 @@
--- What decoding and encoding give back for the listing; each error that they can give, by 01's and 02's number, with its
--- input and offset, and the output unchanged (a file that is too long to encode: LongFileChecks).
+-- What decoding and encoding give back for the listing; each error that they can give, by 01's and 02's number, with
+-- its input and offset, and the output unchanged (a file that is too long to encode: LongFileChecks).
 use mathlib.Core.Path.{_≡_, refl}
 use mathlib.Core.List.{List, [], _∷_, _++_, map, flatMap}
 use Prim.Native.Nat.{ℕ}
 use lib.ListN.{take, replicate}
+use Rattle.terms.specs.Words.{forestOf}
 use Rattle.format.specs.Layout.{formWidth, symbolCountWidth, weightWidth, ruleCountWidth, arityWidth, acWidth}
 use Rattle.format.specs.Layout.{rankWidth, formNumber}
 use Rattle.format.specs.Reading.{bitField, wordBelow}
 use Rattle.format.specs.Symbols.{symbolReader, symbolsReader, symbolTableReader}
-use Rattle.format.specs.Format.{forestReader, ruleReader, rulesReader, bodyReader, fileReader}
+use Rattle.format.specs.Format.{forestReader, sideReader, ruleReader, rulesReader, bodyReader, fileReader}
 use Rattle.format.specs.Files.{wholeReader, readBytesIn, readWords}
 use Rattle.format.specs.Packing.{Item, itemBits, itemWord, bytesOf, items, packed, unpacked}
 use Rattle.format.specs.Packing.Item.{field, node}
@@ -106,7 +107,7 @@ decodeCases =
 
 decode-errors : map (λ (c : ErrorCase). decoded (c .read) (c .lent)) decodeCases ≡ map refusal decodeCases
 unfolding decoded readBytesIn wholeReader fileReader bodyReader symbolTableReader symbolsReader symbolReader rulesReader
-    ruleReader forestReader bitField unpacked items flatMap
+    ruleReader sideReader forestReader forestOf bitField unpacked items flatMap
 decode-errors = refl
 
 abbrev encodeCases : List ErrorCase
@@ -141,5 +142,5 @@ encodeCases =
 
 encode-errors : map (λ (c : ErrorCase). encoded (c .read) (c .lent)) encodeCases ≡ map refusal encodeCases
 unfolding encoded readWords wholeReader fileReader bodyReader symbolTableReader symbolsReader symbolReader rulesReader
-    ruleReader forestReader wordBelow packed items flatMap
+    ruleReader sideReader forestReader forestOf wordBelow packed items flatMap
 encode-errors = refl

@@ -11,7 +11,7 @@ use Rattle.terms.specs.Equivalence.{isEquivalentTo, isEquivalent}
 use Rattle.terms.specs.Order.{noneOftener, flattenedMark, rootMark, decreasingMark, isGreaterTo, isGreater}
 use Rattle.format.specs.Reading.{bitField, wordBelow}
 use Rattle.format.specs.Symbols.{symbolReader, symbolsReader, symbolTableReader}
-use Rattle.format.specs.Format.{forestReader, ruleReader, rulesReader, bodyReader, fileReader}
+use Rattle.format.specs.Format.{forestReader, sideReader, ruleReader, rulesReader, bodyReader, fileReader}
 use Rattle.format.specs.Files.{wholeReader, readBytesIn, readTerm}
 use Rattle.operations.specs.Replies.{Reply}
 use Rattle.operations.specs.Replies.Reply.{accepted, refused}
@@ -59,9 +59,9 @@ cases =
 
 cases-hold : map (λ (c : Case). compared book (c .left) (c .right)) cases ≡ map (λ (c : Case). c .reply) cases
 unfolding compared readInputs readTerms relation readBytesIn readTerm wholeReader fileReader bodyReader
-    symbolTableReader symbolsReader symbolReader rulesReader ruleReader forestReader bitField wordBelow forestOf
-    isGreater isGreaterTo decreasingMark rootMark flattenedMark noneOftener isEquivalent isEquivalentTo rowEqual
-    rowGreater multisetEqual multisetGreater
+    symbolTableReader symbolsReader symbolReader rulesReader ruleReader sideReader forestReader bitField wordBelow
+    forestOf isGreater isGreaterTo decreasingMark rootMark flattenedMark noneOftener isEquivalent isEquivalentTo
+    rowEqual rowGreater multisetEqual multisetGreater
 cases-hold = refl
 
 faulty-book : compared (0x10 ∷ []) [] [] ≡ refused (record { code = 17; input = 0; offset = 0 })

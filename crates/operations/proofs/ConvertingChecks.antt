@@ -5,9 +5,10 @@ use mathlib.Core.List.{List, [], _∷_, _++_, map, flatMap}
 use Prim.Native.Nat.{ℕ}
 use lib.ListN.{take, drop, replicate}
 use Rattle.terms.specs.FirstUse.{see, seeAll, placeIn, renameWord}
+use Rattle.terms.specs.Words.{forestOf}
 use Rattle.format.specs.Reading.{bitField}
 use Rattle.format.specs.Symbols.{symbolReader, symbolsReader, symbolTableReader}
-use Rattle.format.specs.Format.{forestReader, ruleReader, rulesReader, bodyReader, fileReader}
+use Rattle.format.specs.Format.{forestReader, sideReader, ruleReader, rulesReader, bodyReader, fileReader}
 use Rattle.format.specs.Files.{wholeReader, readBytesIn}
 use Rattle.format.specs.Packing.{items, packed}
 use Rattle.format.specs.Listing.{listing, wrapping}
@@ -31,12 +32,12 @@ oldListing = 0x10 ∷ drop 1 listing
 
 converts : converted outOfTurn (replicate 18 7) ≡ record { reply = accepted 16; output = inTurn ++ (7 ∷ 7 ∷ []) }
 unfolding converted readBytesIn wholeReader fileReader bodyReader symbolTableReader symbolsReader symbolReader
-    rulesReader ruleReader forestReader bitField seeAll see placeIn renameWord packed items flatMap
+    rulesReader ruleReader sideReader forestReader forestOf bitField seeAll see placeIn renameWord packed items flatMap
 converts = refl
 
 listing-converts : converted oldListing (replicate 17 7) ≡ record { reply = accepted 17; output = listing }
 unfolding converted readBytesIn wholeReader fileReader bodyReader symbolTableReader symbolsReader symbolReader
-    rulesReader ruleReader forestReader bitField seeAll see placeIn renameWord packed items flatMap
+    rulesReader ruleReader sideReader forestReader forestOf bitField seeAll see placeIn renameWord packed items flatMap
 listing-converts = refl
 
 -- What is read, and the error's code, input and offset.
@@ -77,5 +78,5 @@ refusal c = record {
 
 errors : map (λ (c : ErrorCase). converted (c .read) lent) cases ≡ map refusal cases
 unfolding converted readBytesIn wholeReader fileReader bodyReader symbolTableReader symbolsReader symbolReader
-    rulesReader ruleReader forestReader bitField
+    rulesReader ruleReader sideReader forestReader forestOf bitField
 errors = refl

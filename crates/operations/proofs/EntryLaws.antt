@@ -1,30 +1,25 @@
 -- The marks and margins of rules, and that they fit on a page.
 --     mark-within      a mark is one of 1 to 11
 --     margin-fits      a margin below 10 to the 11 either way has its columns
---     weight-most      a side of 128 nodes weighs at most 128 times 65,535
 --     book-fits        what a readable book's rules have fits
-use mathlib.Core.List.{List, [], Memᴰ·of-map}
-use mathlib.Core.Path.{ap}
+use mathlib.Core.List.{Memᴰ·of-map}
+use mathlib.Core.Path.{_≡_}
 use mathlib.Core.Bool.{Bool, true, false, cond, _&&_, not, and-eq-true-iff as both}
-use Prim.Native.Nat.{ℕ, _+_, _*_, _^_, _≤_, _<_}
+use Prim.Native.Nat.{ℕ, _+_, _^_, _≤_, _<_}
 use native.Mathlib.Omega.{arith}
 use lib.Dec.{eqb, ltb}
 use lib.IntN.{ℤ, natAbs, subℕ}
 use lib.ListN.{length}
 use borrow.Author.Tests.{ltb-true}
 use Rattle.multisets.proofs.Relations.{byTest}
-use Rattle.terms.specs.Signature.{Signature, symbolOf, coefficientsOf, Ones}
-use Rattle.terms.specs.Term.{Term, Terms, size, sizes, weight, measure, measures, plain, variableCount}
-use Rattle.terms.specs.Term.Term.{var, app}
-use Rattle.terms.specs.Term.Terms.{nil, cons}
+use Rattle.terms.specs.Signature.{Signature}
+use Rattle.terms.specs.Term.{Term, weight, variableCount}
 use Rattle.terms.specs.Words.{termOf}
 use Rattle.terms.specs.Equivalence.{isEquivalent}
 use Rattle.terms.specs.Order.{noneOftener, decreasingMark, isGreater, mark, margin}
-use Rattle.terms.proofs.MeasureLaws.{measure-ones}
-use Rattle.terms.proofs.Theorems.{word-for-each-node}
-use Rattle.format.specs.Format.{Sides, RuleFile, systemOf}
-use Rattle.format.specs.Statements.{IsRead, IsTerm}
-use Rattle.format.proofs.SymbolLaws.{ones-of-plain}
+use Rattle.format.specs.Format.{Sides, RuleFile, systemOf, isLight}
+use Rattle.format.specs.Statements.{IsRead}
+use Rattle.format.proofs.LightLaws.{light-weight}
 use Rattle.format.proofs.Theorems.{readable-well-formed}
 use Rattle.operations.specs.Text.{signedDecimal}
 use Rattle.operations.specs.Page.{Fits, AllFit, columns}
@@ -60,54 +55,19 @@ margin-fits d h = signed-few 10 d h
 difference-most : (m n : ℕ) → natAbs (subℕ m n) ≤ m + n
 difference-most m n = byTest (ltb m n) (λ e. rw e (omega (arith, ltb-true m n e))) λ e. rw e (omega arith)
 
-module _ (v w : ℕ → ℕ) (variable : (x : ℕ) → v x ≤ 65535) (symbol : (f : ℕ) → w f ≤ 65535) where
-  mutual
-    measure-most : (t : Term) → measure plain v w t ≤ 65535 * size t
-    measure-most (var x) = omega (arith, variable x)
-    measure-most (app f ts) = omega (arith, symbol f, measures-most ts)
-
-    measures-most : (ts : Terms) → measures plain v w ts [] ≤ 65535 * sizes ts
-    measures-most nil = omega arith
-    measures-most (cons t ts) = omega (arith, measure-most t, measures-most ts)
-
-module _ (σ : Signature) (one : Ones σ) (variable : σ .w0 < 65536) (symbol : (f : ℕ) → symbolOf σ f .weight < 65536)
-  where
-    weight-most : (t : Term) → weight σ t ≤ 65535 * size t
-    weight-most t =
-        let v : ℕ → ℕ = λ (x : ℕ). σ .w0 in
-        let w : ℕ → ℕ = λ (f : ℕ). symbolOf σ f .weight in
-        omega (
+module _ (σ : Signature) where
+  sides-fit : (s t : Term) → isLight σ s ≡ true → isLight σ t ≡ true → Fits (entryOf σ (record { left = s; right = t }))
+  sides-fit s t l r =
+      record {
+        least = mark-within σ s t .0;
+        most = mark-within σ s t .1;
+        margin = margin-fits (margin σ s t) (omega (
           arith,
-          measure-ones (coefficientsOf σ) v w one t,
-          measure-most v w (λ x. omega arith) (λ f. omega (arith, symbol f)) t,
-        )
-
-    -- Sides have at most 128 nodes.
-    side-most : (ws : List ℕ) → IsTerm σ ws → weight σ (termOf σ ws) ≤ 8388480
-    side-most ws i =
-        omega (
-          arith,
-          weight-most (termOf σ ws),
-          word-for-each-node (termOf σ ws),
-          ap length (i .spelled),
-          i .short,
-        )
-
-    sides-fit : (left right : List ℕ) → IsTerm σ left → IsTerm σ right →
-        Fits (entryOf σ (record { left = termOf σ left; right = termOf σ right }))
-    sides-fit left right l r =
-        let s = termOf σ left in
-        let t = termOf σ right in
-        record {
-          least = mark-within σ s t .0;
-          most = mark-within σ s t .1;
-          margin = margin-fits (margin σ s t) (omega (
-            arith,
-            difference-most (weight σ s) (weight σ t),
-            side-most left l,
-            side-most right r,
-          ));
-        }
+          difference-most (weight σ s) (weight σ t),
+          light-weight σ s l,
+          light-weight σ t r,
+        ));
+      }
 
 -- What the rules of a readable book have fits.
 pub book-fits : (file : RuleFile) → IsRead file → AllFit (entriesOf (systemOf file))
@@ -117,6 +77,5 @@ book-fits file i e m =
     let (rule, n, d) = Memᴰ·of-map (entryOf σ) (systemOf file .rules) m in
     let (sides, k, c) = Memᴰ·of-map (λ (x : Sides). record { left = termOf σ (x .left); right = termOf σ (x .right) })
     (file .rules) n in
-    let (l, r) = formed .sides sides k in
-    let one = ones-of-plain σ (formed .plain) in
-    rw (← d, ← c) (sides-fit σ one (formed .within .w0) (formed .within .weight) (sides .left) (sides .right) l r)
+    let (l, r) = formed .light sides k in
+    rw (← d, ← c) (sides-fit σ (termOf σ (sides .left)) (termOf σ (sides .right)) l r)

@@ -4,9 +4,10 @@ use mathlib.Core.Path.{_≡_, refl}
 use mathlib.Core.List.{List, [], _∷_, map, flatten}
 use Prim.Native.Nat.{ℕ}
 use Rattle.terms.specs.Enumeration.{groundRows}
+use Rattle.terms.specs.Words.{forestOf}
 use Rattle.format.specs.Reading.{bitField}
 use Rattle.format.specs.Symbols.{symbolReader, symbolsReader, symbolTableReader}
-use Rattle.format.specs.Format.{forestReader, ruleReader, rulesReader, bodyReader, fileReader}
+use Rattle.format.specs.Format.{forestReader, sideReader, ruleReader, rulesReader, bodyReader, fileReader}
 use Rattle.format.specs.Files.{wholeReader, readBytesIn}
 use Rattle.operations.specs.declared.TermCount.the-variants.{Exactly, More}
 use Rattle.operations.specs.Replies.{Outcome}
@@ -41,14 +42,14 @@ cases =
 
 cases-hold : map (λ (c : Case). listed book (c .output) (c .size)) cases ≡ map (λ (c : Case). c .outcome) cases
 unfolding listed listedTerms groundRows flatten readBytesIn wholeReader fileReader bodyReader symbolTableReader
-    symbolsReader symbolReader rulesReader ruleReader forestReader bitField
+    symbolsReader symbolReader rulesReader ruleReader sideReader forestReader forestOf bitField
 cases-hold = refl
 
 counts-hold : map (counted book) (1 ∷ 7 ∷ 8 ∷ []) ≡
     accepted (Exactly 1) ∷ accepted (Exactly 1) ∷
     refused (record { code = 22; input = 0; offset = 0 }) ∷ []
 unfolding counted countedTerms groundRows readBytesIn wholeReader fileReader bodyReader symbolTableReader symbolsReader
-    symbolReader rulesReader ruleReader forestReader bitField
+    symbolReader rulesReader ruleReader sideReader forestReader forestOf bitField
 counts-hold = refl
 
 limits : map termCount (0 ∷ 65535 ∷ 65536 ∷ []) ≡ Exactly 0 ∷ Exactly 65535 ∷ More ∷ []

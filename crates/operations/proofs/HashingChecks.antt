@@ -7,7 +7,7 @@ use Rattle.terms.specs.Words.{forestOf}
 use Rattle.terms.specs.Fingerprint.{fingerprintTo, fingerprint}
 use Rattle.format.specs.Reading.{bitField, wordBelow}
 use Rattle.format.specs.Symbols.{symbolReader, symbolsReader, symbolTableReader}
-use Rattle.format.specs.Format.{forestReader, ruleReader, rulesReader, bodyReader, fileReader}
+use Rattle.format.specs.Format.{forestReader, sideReader, ruleReader, rulesReader, bodyReader, fileReader}
 use Rattle.format.specs.Files.{wholeReader, readBytesIn, readTerm}
 use Rattle.operations.specs.Replies.{Reply}
 use Rattle.operations.specs.Replies.Reply.{accepted, refused}
@@ -38,7 +38,8 @@ cases =
 
 cases-hold : map (λ (c : Case). fingerprinted book (c .term)) cases ≡ map (λ (c : Case). c .reply) cases
 unfolding fingerprinted fingerprintedTerm readBytesIn readTerm wholeReader fileReader bodyReader symbolTableReader
-    symbolsReader symbolReader rulesReader ruleReader forestReader bitField wordBelow forestOf fingerprint fingerprintTo
+    symbolsReader symbolReader rulesReader ruleReader sideReader forestReader bitField wordBelow forestOf fingerprint
+    fingerprintTo
 cases-hold = refl
 
 faulty-book : fingerprinted (0x10 ∷ []) [] ≡ refused (record { code = 17; input = 0; offset = 0 })

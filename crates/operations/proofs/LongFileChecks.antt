@@ -7,11 +7,12 @@ use Prim.Native.Nat.{ℕ, suc, zero}
 use lib.ListN.{length, replicate}
 use lib.Dec.{leb, lit<}
 use Rattle.terms.specs.Sample.{entry}
+use Rattle.terms.specs.Words.{forestOf}
 use Rattle.format.specs.Layout.{maxBytes}
 use Rattle.format.specs.Reading.{wordBelow}
 use Rattle.format.specs.Reading.Reading.{got}
 use Rattle.format.specs.Symbols.{symbolReader, symbolsReader, symbolTableReader}
-use Rattle.format.specs.Format.{RuleFile, forestReader, ruleReader, rulesReader, bodyReader, fileReader}
+use Rattle.format.specs.Format.{RuleFile, forestReader, sideReader, ruleReader, rulesReader, bodyReader, fileReader}
 use Rattle.format.specs.Files.{wholeReader, readWords}
 use Rattle.format.specs.Packing.{items, packed, unpacked}
 use Rattle.format.specs.Statements.{WellFormedFile}
@@ -37,7 +38,7 @@ file n = record {
 
 one-reads : readWords (unpacked (file 1)) ≡ got (file 1) 268
 unfolding readWords wholeReader fileReader bodyReader symbolTableReader symbolsReader symbolReader rulesReader
-    ruleReader forestReader wordBelow unpacked items flatMap
+    ruleReader sideReader forestReader forestOf wordBelow unpacked items flatMap
 one-reads = refl
 
 one-formed : WellFormedFile (file 1)
@@ -53,6 +54,7 @@ long-formed =
     let within = one-formed .within in
     record {
       admissible = one-formed .admissible;
+      full = one-formed .full;
       plain = one-formed .plain;
       someSymbol = one-formed .someSymbol;
       within = record {
@@ -62,8 +64,10 @@ long-formed =
         arity = within .arity;
         weight = within .weight;
         precedence = within .precedence;
+        coefficient = within .coefficient;
       };
       sides = λ r m. one-formed .sides r (List·Memᴰ·head (all-same 114 m));
+      light = λ r m. one-formed .light r (List·Memᴰ·head (all-same 114 m));
       inTurn = λ r m. one-formed .inTurn r (List·Memᴰ·head (all-same 114 m));
     }
 

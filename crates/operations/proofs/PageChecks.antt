@@ -11,7 +11,7 @@ use Rattle.terms.specs.Equivalence.{isEquivalentTo, isEquivalent}
 use Rattle.terms.specs.Order.{noneOftener, flattenedMark, rootMark, decreasingMark, isGreaterTo, isGreater, mark}
 use Rattle.format.specs.Reading.{bitField}
 use Rattle.format.specs.Symbols.{symbolReader, symbolsReader, symbolTableReader}
-use Rattle.format.specs.Format.{forestReader, ruleReader, rulesReader, bodyReader, fileReader}
+use Rattle.format.specs.Format.{forestReader, sideReader, ruleReader, rulesReader, bodyReader, fileReader}
 use Rattle.format.specs.Files.{wholeReader, readBytesIn}
 use Rattle.format.specs.Listing.{listing}
 use Rattle.operations.specs.Replies.{Outcome}
@@ -29,14 +29,16 @@ secondLine = ascii "   1 no case                                             0  
 listing-paged : paged listing (replicate 131 7) ≡
     record { reply = accepted 130; output = firstLine ++ (secondLine ++ (7 ∷ [])) }
 unfolding paged pageLine digits readBytesIn wholeReader fileReader bodyReader symbolTableReader symbolsReader
-    symbolReader rulesReader ruleReader forestReader bitField forestOf mark isGreater isGreaterTo decreasingMark
-    rootMark flattenedMark noneOftener isEquivalent isEquivalentTo rowEqual rowGreater multisetEqual multisetGreater
+    symbolReader rulesReader ruleReader sideReader forestReader bitField forestOf mark isGreater isGreaterTo
+    decreasingMark rootMark flattenedMark noneOftener isEquivalent isEquivalentTo rowEqual rowGreater multisetEqual
+    multisetGreater
 listing-paged = refl
 
 listing-put-up : board listing ≡ firstLine ++ secondLine
 unfolding board pageLine digits readBytesIn wholeReader fileReader bodyReader symbolTableReader symbolsReader
-    symbolReader rulesReader ruleReader forestReader bitField forestOf mark isGreater isGreaterTo decreasingMark
-    rootMark flattenedMark noneOftener isEquivalent isEquivalentTo rowEqual rowGreater multisetEqual multisetGreater
+    symbolReader rulesReader ruleReader sideReader forestReader bitField forestOf mark isGreater isGreaterTo
+    decreasingMark rootMark flattenedMark noneOftener isEquivalent isEquivalentTo rowEqual rowGreater multisetEqual
+    multisetGreater
 listing-put-up = refl
 
 abbrev refusal : ℕ → ℕ → ℕ → List ℕ → Outcome ℕ
@@ -45,7 +47,7 @@ refusal code input offset output =
 
 too-short-refused : paged listing (replicate 129 7) ≡ refusal 19 1 0 (replicate 129 7)
 unfolding paged readBytesIn wholeReader fileReader bodyReader symbolTableReader symbolsReader symbolReader rulesReader
-    ruleReader forestReader bitField
+    ruleReader sideReader forestReader forestOf bitField
 too-short-refused = refl
 
 empty-refused : paged [] (7 ∷ []) ≡ refusal 2 0 0 (7 ∷ [])

@@ -1,5 +1,5 @@
--- What picking gives back under the file of ComparingChecks: each side with its count of words and its part, words after
--- the terms, and each error of the left and of the right term.
+-- What picking gives back under the file of ComparingChecks: each side with its count of words and its part, words
+-- after the terms, and each error of the left and of the right term.
 use mathlib.Core.Path.{_≡_, refl}
 use mathlib.Core.List.{List, [], _∷_, _++_, map}
 use Prim.Native.Nat.{ℕ}
@@ -10,7 +10,7 @@ use Rattle.terms.specs.Equivalence.{isEquivalentTo, isEquivalent}
 use Rattle.terms.specs.Order.{noneOftener, flattenedMark, rootMark, decreasingMark, isGreaterTo, isGreater}
 use Rattle.format.specs.Reading.{bitField, wordBelow}
 use Rattle.format.specs.Symbols.{symbolReader, symbolsReader, symbolTableReader}
-use Rattle.format.specs.Format.{forestReader, ruleReader, rulesReader, bodyReader, fileReader}
+use Rattle.format.specs.Format.{forestReader, sideReader, ruleReader, rulesReader, bodyReader, fileReader}
 use Rattle.format.specs.Files.{wholeReader, readBytesIn, readFirstTerm}
 use Rattle.operations.specs.Replies.{Reply}
 use Rattle.operations.specs.Replies.Reply.{accepted, refused}
@@ -56,16 +56,16 @@ cases =
 
 replies-hold : map (λ (c : Case). picked book (c .left) (c .right)) cases ≡ map (λ (c : Case). c .reply) cases
 unfolding picked readInputs readTerms relation readBytesIn readFirstTerm wholeReader fileReader bodyReader
-    symbolTableReader symbolsReader symbolReader rulesReader ruleReader forestReader bitField wordBelow forestOf
-    isGreater isGreaterTo decreasingMark rootMark flattenedMark noneOftener isEquivalent isEquivalentTo rowEqual
-    rowGreater multisetEqual multisetGreater
+    symbolTableReader symbolsReader symbolReader rulesReader ruleReader sideReader forestReader bitField wordBelow
+    forestOf isGreater isGreaterTo decreasingMark rootMark flattenedMark noneOftener isEquivalent isEquivalentTo
+    rowEqual rowGreater multisetEqual multisetGreater
 replies-hold = refl
 
 parts-hold : map (λ (c : Case). greaterPart book (c .left) (c .right)) cases ≡ map (λ (c : Case). c .part) cases
 unfolding greaterPart picked readInputs readTerms relation readBytesIn readFirstTerm wholeReader fileReader bodyReader
-    symbolTableReader symbolsReader symbolReader rulesReader ruleReader forestReader bitField wordBelow forestOf
-    isGreater isGreaterTo decreasingMark rootMark flattenedMark noneOftener isEquivalent isEquivalentTo rowEqual
-    rowGreater multisetEqual multisetGreater
+    symbolTableReader symbolsReader symbolReader rulesReader ruleReader sideReader forestReader bitField wordBelow
+    forestOf isGreater isGreaterTo decreasingMark rootMark flattenedMark noneOftener isEquivalent isEquivalentTo
+    rowEqual rowGreater multisetEqual multisetGreater
 parts-hold = refl
 
 faulty-book : picked (0x10 ∷ []) [] [] ≡ refused (record { code = 17; input = 0; offset = 0 })

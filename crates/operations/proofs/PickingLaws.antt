@@ -44,7 +44,7 @@ SideWithin l r Unrelated = Unit {0}
 front-within : (σ : Signature) (input nodes : List ℕ) (end : ℕ) → readFirstTerm σ input ≡ got nodes end →
     Room (length input) (size (termOf σ nodes))
 front-within σ input nodes end e =
-    let (front, count, term, within) = read-term-well-formed σ input nodes end .0 e in
+    let (front, count, term, within, light) = read-term-well-formed σ input nodes end .0 e in
     let s = front-size σ nodes term in
     (omega arith, omega (arith, term .short))
 

@@ -7,7 +7,7 @@ use Rattle.terms.specs.Words.{forestOf}
 use Rattle.terms.specs.Oftener.{oftenerFrom, firstOftener}
 use Rattle.format.specs.Reading.{bitField, wordBelow}
 use Rattle.format.specs.Symbols.{symbolReader, symbolsReader, symbolTableReader}
-use Rattle.format.specs.Format.{forestReader, ruleReader, rulesReader, bodyReader, fileReader}
+use Rattle.format.specs.Format.{forestReader, sideReader, ruleReader, rulesReader, bodyReader, fileReader}
 use Rattle.format.specs.Files.{wholeReader, readBytesIn, readTerm}
 use Rattle.operations.specs.Replies.{Reply}
 use Rattle.operations.specs.Replies.Reply.{accepted, refused}
@@ -43,5 +43,6 @@ cases =
 
 cases-hold : map (λ (c : Case). oftener book (c .left) (c .right)) cases ≡ map (λ (c : Case). c .reply) cases
 unfolding oftener readInputs readTerms readBytesIn readTerm wholeReader fileReader bodyReader symbolTableReader
-    symbolsReader symbolReader rulesReader ruleReader forestReader bitField wordBelow forestOf firstOftener oftenerFrom
+    symbolsReader symbolReader rulesReader ruleReader sideReader forestReader bitField wordBelow forestOf firstOftener
+    oftenerFrom
 cases-hold = refl

@@ -5,27 +5,29 @@
 use mathlib.Core.Path.{_≡_, refl, sym, ap, _∙_}
 use mathlib.Core.List.{List, [], _∷_}
 use mathlib.Core.Bool.{Bool, true, false, false≢true}
-use Prim.Native.Nat.{ℕ, _+_, _*_, _≤_, _<_}
+use Prim.Native.Nat.{ℕ, _+_, _*_, _^_, _≤_, _<_}
 use native.Mathlib.Omega.{arith}
-use lib.Dec.{leb}
+use lib.Dec.{eqb, leb}
 use lib.ListN.{length, take}
 use lib.Seq.{sets, length-take-le}
+use Rattle.multisets.proofs.Relations.{byTest}
 use Rattle.terms.specs.Signature.{Symbol, Signature, Admissible}
 use Rattle.format.specs.Errors.{noSymbols, variableWeightless}
-use Rattle.format.specs.Layout.{formWidth, symbolCountWidth, weightWidth, ruleCountWidth, maxBytes}
+use Rattle.format.specs.Layout.{formWidth, firstForm, symbolCountWidth, weightWidth, ruleCountWidth, maxBytes}
 use Rattle.format.specs.Reading.{Reading, Reader, andThen, give, require, Source}
 use Rattle.format.specs.Reading.Reading.{got, fault}
-use Rattle.format.specs.Forms.{isTaken, formError, unusedOf, leastWeightIn}
+use Rattle.format.specs.Forms.{isTaken, formError, hasCoefficients, unusedOf}
 use Rattle.format.specs.Symbols.{symbolTableReader}
 use Rattle.format.specs.Format.{Sides, RuleFile, rulesReader, bodyReader, fileReader}
 use Rattle.format.specs.Files.{wholeReader}
 use Rattle.format.proofs.ReadingLaws.{andThen-assoc, andThen-same, holds-got}
 use Rattle.format.proofs.FormLaws.{taken-unused}
 use Rattle.format.proofs.FormatLaws.{symbols-read, table-read}
-use Rattle.format.proofs.SymbolLaws.{admissible-of-symbols}
-use Rattle.symbols.specs.Table.{symbolsAt, signatureOf, weightOf, tableWords, symbolsWords, frontWords}
+use Rattle.format.proofs.SymbolLaws.{ones-of-plain, coefficients-of-symbols, admissible-of-symbols, fits-at}
+use Rattle.format.specs.Statements.{Unscaled}
+use Rattle.symbols.specs.Table.{symbolsIn, formOf, signatureOf, weightOf, tableWords, symbolsWords, frontWords}
 use Rattle.symbols.proofs.TableLaws.{length-symbols}
-use Rattle.symbols.proofs.EntryLaws.{table-le, table-entries, signature-front, front-weight, front-words}
+use Rattle.symbols.proofs.EntryLaws.{table-le, table-entries, signature-front, front-form, front-weight, front-words}
 use Rattle.answers.specs.declared.Answer.{Answer}
 use Rattle.answers.specs.declared.Answer.the-variants.{Got, Fault}
 use Rattle.reader.specs.Source.{sourceOf, Reached, tableOf, Room, Stored, tested}
@@ -47,8 +49,8 @@ module _ (form : ℕ) (packed : Bool) (bytes words : List ℕ) where
       tableReader form packed bytes words w0 symbols rules at
   unfolding bodyReader tableReader restReader
   body-parts w0 symbols rules at =
-      andThen-assoc (symbolTableReader S (leastWeightIn form w0) symbols at) _ ends
-      ∙ andThen-same (symbolTableReader S (leastWeightIn form w0) symbols at) _ _
+      andThen-assoc (symbolTableReader S form w0 symbols at) _ ends
+      ∙ andThen-same (symbolTableReader S form w0 symbols at) _ _
       (λ ss next. andThen-assoc (rulesReader S (unusedOf form) (record { w0 = w0; symbols = ss }) rules next) _ ends)
 
   abbrev afterW0 : ℕ → ℕ → Reader RuleFile
@@ -99,43 +101,59 @@ module _ (form : ℕ) (packed : Bool) (bytes words : List ℕ) where
 
 -- ---- after the header
 
--- Symbols that were read are admissible, and where they end.
-symbols-admissible : (packed : Bool) (bytes words : List ℕ) (form w0 n at : ℕ) (ss : List Symbol) (end : ℕ) →
-    symbolTableReader (sourceOf packed bytes words) (leastWeightIn form w0) n at ≡ got ss end → 0 < w0 →
+-- Symbols that were read are admissible and have no coefficient but 1, and where they end.
+symbols-admissible : (packed : Bool) (bytes words : List ℕ) (form w0 n at : ℕ) → hasCoefficients form ≡ false →
+    (ss : List Symbol) (end : ℕ) →
+    symbolTableReader (sourceOf packed bytes words) form w0 n at ≡ got ss end → 0 < w0 → w0 < 2 ^ weightWidth →
     Reached packed bytes words 4 at →
-    Admissible (record { w0 = w0; symbols = ss }) × Reached packed bytes words (4 + 4 * n) end
-symbols-admissible packed bytes words form w0 n at ss end e positive start =
+    Admissible (record { w0 = w0; symbols = ss }) × Unscaled (record { w0 = w0; symbols = ss })
+    × Reached packed bytes words (4 + 4 * n) end
+symbols-admissible packed bytes words form w0 n at none ss end e positive narrow start =
     let source = sourceOf packed bytes words in
     let fits = field-fits packed bytes words in
-    let least = leastWeightIn form w0 in
-    let (read, ranked) = holds-got _ _ ss end (table-read source fits least n at) e in
-    let (all, same, count, oks, spelt) = holds-got _ _ ss end (symbols-read source fits least n [] at) read in (
-      admissible-of-symbols form (record { w0 = w0; symbols = ss }) (rw (sym same) at oks) ranked positive,
-      reached-symbols packed bytes words 4 least n at ss end start read,
+    let (read, ranked) = holds-got _ _ ss end (table-read source fits form w0 n at) e in
+    let (all, same, count, oks, spelt) = holds-got _ _ ss end (symbols-read source fits form w0 n [] at) read in
+    let σ : Signature = record { w0 = w0; symbols = ss } in
+    let ok = rw (sym same) at oks in
+    let (reached, fit) = reached-symbols packed bytes words 4 form w0 n at none ss end start read in (
+      admissible-of-symbols form σ ok ranked positive,
+      record {
+        ones = ones-of-plain σ (λ f. coefficients-of-symbols form σ ok ranked f .plain none);
+        w0 = narrow;
+        weight = λ f. fits-at form ss fit f .1 .1 .0;
+      },
+      reached,
     )
 
--- The words that were stored before the rules of a packed file, and w0.
+pub stored-coefficients : (form : ℕ) → hasCoefficients form ≡ false → hasCoefficients (storedForm form) ≡ false
+stored-coefficients form h = byTest (eqb form firstForm) (λ e. rw e) λ e. rw e h
+
+-- The words that were stored before the rules of a packed file, w0, and that its symbols have no coefficients.
 front-of : (form w0 symbols rules : ℕ) (before words table : List ℕ) (packed : Bool) →
     Stored packed 0 (form ∷ symbols ∷ w0 ∷ rules
-    ∷ symbolsWords (symbolsAt (tableOf packed words table) 0 symbols)) before table →
-    Room packed (tableWords symbols) before → (packed ≡ false → weightOf words ≡ w0) →
-    (weightOf (tableOf packed words table) ≡ w0) × (packed ≡ true → take (tableWords symbols) table
-    ≡ frontWords form (record { w0 = w0; symbols = symbolsAt (tableOf packed words table) 0 symbols }) rules)
-front-of form w0 symbols rules before words table true stored room stands =
-    let ss = symbolsAt table 0 symbols in
+    ∷ symbolsWords (symbolsIn false (tableOf packed words table) 0 symbols)) before table →
+    Room packed (tableWords symbols) before → hasCoefficients form ≡ false →
+    (packed ≡ false → (weightOf words ≡ w0) × (hasCoefficients (formOf words) ≡ false)) →
+    (weightOf (tableOf packed words table) ≡ w0) × (hasCoefficients (formOf (tableOf packed words table)) ≡ false)
+    × (packed ≡ true → take (tableWords symbols) table
+    ≡ frontWords form (record { w0 = w0; symbols = symbolsIn false (tableOf packed words table) 0 symbols }) rules)
+front-of form w0 symbols rules before words table true stored room none stands =
+    let ss = symbolsIn false table 0 symbols in
     let σ : Signature = record { w0 = w0; symbols = ss } in
-    let n : length ss ≡ symbols = length-symbols table 0 symbols in
+    let n : length ss ≡ symbols = length-symbols false table 0 symbols in
     let e : table ≡ sets before 0 (frontWords form σ rules) =
     stored ∙ ap (λ (k : ℕ). sets before 0 (form ∷ k ∷ w0 ∷ rules ∷ symbolsWords ss)) (sym n) in
     let r : tableWords (length ss) ≤ length before = rw n room in (
       front-weight before table form σ rules r e,
+      rw (front-form before table form σ rules r e) none,
       λ yes. ap (λ (k : ℕ). take (tableWords k) table) (sym n) ∙ front-words before table form σ rules r e,
     )
-front-of form w0 symbols rules before words table false stored room stands = (stands refl, λ no. absurd (false≢true no))
+front-of form w0 symbols rules before words table false stored room none stands =
+    (stands refl .0, stands refl .1, λ no. absurd (false≢true no))
 
 module _ (form : ℕ) (packed : Bool) (bytes words : List ℕ) (w0 symbols rules at : ℕ) where
   pub symbols-fault : (code offset : ℕ) →
-      symbolTableReader (sourceOf packed bytes words) (leastWeightIn form w0) symbols at ≡ fault code offset →
+      symbolTableReader (sourceOf packed bytes words) form w0 symbols at ≡ fault code offset →
       tableReader form packed bytes words w0 symbols rules at ≡ fault code offset
   unfolding tableReader
   symbols-fault code offset e = rw e
@@ -145,38 +163,41 @@ module _ (form : ℕ) (packed : Bool) (bytes words : List ℕ) (w0 symbols rules
     T = tableOf packed words table
 
     abbrev σ : Signature
-    σ = record { w0 = w0; symbols = symbolsAt T 0 symbols }
+    σ = record { w0 = w0; symbols = symbolsIn false T 0 symbols }
 
     pub head-read : (next : ℕ) →
-        symbolTableReader (sourceOf packed bytes words) (leastWeightIn form w0) symbols at ≡ got (σ .symbols) next →
+        symbolTableReader (sourceOf packed bytes words) form w0 symbols at ≡ got (σ .symbols) next →
         Stored packed 0 (storedForm form ∷ symbols ∷ w0 ∷ rules ∷ symbolsWords (σ .symbols)) before table →
-        (packed ≡ false → weightOf words ≡ w0) → length table ≡ length before →
+        hasCoefficients form ≡ false → (packed ≡ false → (weightOf words ≡ w0) × (formOf words ≡ form)) →
+        length table ≡ length before →
         Room packed (tableWords symbols) before → Reached packed bytes words 4 at → length bytes ≤ maxBytes →
-        symbols < 256 → rules < 1024 → 0 < w0 →
+        symbols < 256 → rules < 1024 → 0 < w0 → w0 < 2 ^ weightWidth →
         (reader : ℕ) → isTaken reader form ≡ true →
         HeadRead reader packed bytes words (tableReader form packed bytes words w0 symbols rules at) (Got symbols next)
         table rules
     unfolding tableReader
-    head-read next read stored stands same room start short few some positive reader taken =
-        let (admissible, reached) =
-        symbols-admissible packed bytes words form w0 symbols at (σ .symbols) next read positive start in
+    head-read next read stored none stands same room start short few some positive narrow reader taken =
+        let (admissible, one, reached) =
+        symbols-admissible packed bytes words form w0 symbols at none (σ .symbols) next read positive narrow start in
         let within = rw (← table-entries symbols) at reached in
         let long = room-table packed bytes words table (tableWords symbols) next
         (room-same packed _ before table same room) within in
-        let (weight, front) =
-        front-of (storedForm form) w0 symbols rules before words table packed stored room stands in
-        let e : signatureOf (take (tableWords symbols) T) ≡ σ = signature-front T symbols long ∙ rw weight in
+        let (weight, layout, front) =
+        front-of (storedForm form) w0 symbols rules before words table packed stored room
+        (stored-coefficients form none) (λ z. (stands z .0, rw (stands z .1) none)) in
+        let e : signatureOf (take (tableWords symbols) T) ≡ σ = signature-front T symbols long ∙ rw (weight, layout) in
         record {
           form = form;
           taken = taken;
           whole = rw (read, e);
-          symbolCount = rw e (sym (length-symbols T 0 symbols));
+          symbolCount = rw e (sym (length-symbols false T 0 symbols));
           short = short;
           fewSymbols = few;
           fewRules = some;
           decoded = record {
             short = omega (arith, length-take-le (tableWords symbols) T long, table-le symbols few);
             admissible = rw e admissible;
+            unscaled = rw e one;
           };
           within = within;
           front = rw e front;
@@ -184,18 +205,20 @@ module _ (form : ℕ) (packed : Bool) (bytes words : List ℕ) (w0 symbols rules
 
     -- What the answer to the symbols makes of the head.
     pub head-answer : (r : Answer) →
-        SymbolsRead (symbolTableReader (sourceOf packed bytes words) (leastWeightIn form w0) symbols at)
+        SymbolsRead (symbolTableReader (sourceOf packed bytes words) form w0 symbols at)
         (λ (ss : List Symbol). Stored packed 0 (storedForm form ∷ symbols ∷ w0 ∷ rules ∷ symbolsWords ss) before table)
         r (σ .symbols) →
-        (packed ≡ false → weightOf words ≡ w0) → length table ≡ length before →
+        hasCoefficients form ≡ false → (packed ≡ false → (weightOf words ≡ w0) × (formOf words ≡ form)) →
+        length table ≡ length before →
         Room packed (tableWords symbols) before → Reached packed bytes words 4 at → length bytes ≤ maxBytes →
-        symbols < 256 → rules < 1024 → 0 < w0 →
+        symbols < 256 → rules < 1024 → 0 < w0 → w0 < 2 ^ weightWidth →
         (reader : ℕ) → isTaken reader form ≡ true →
         HeadRead reader packed bytes words (tableReader form packed bytes words w0 symbols rules at) r table rules
-    head-answer (Got value next) (read, all, stored) stands same room start short few some positive reader taken =
-        rw (all ∙ length-symbols T 0 symbols)
-        (head-read next read stored stands same room start short few some positive reader taken)
-    head-answer (Fault offset code) read stands same room start short few some positive reader taken =
+    head-answer (Got value next) (read, all, stored) none stands same room start short few some positive narrow reader
+        taken =
+        rw (all ∙ length-symbols false T 0 symbols)
+        (head-read next read stored none stands same room start short few some positive narrow reader taken)
+    head-answer (Fault offset code) read none stands same room start short few some positive narrow reader taken =
         symbols-fault code offset read
 
 -- ---- after the symbols

@@ -2,14 +2,14 @@
 --     read-packed, read-words    the two sources as the format has them
 --     tested-fault, tested-less, tested-got, tested-field, tested-then     a field that is tested
 --     field-fits                 a field that is read is within its width
---     reached-start, reached-field, reached-entry, reached-symbols     where fields, and symbols, end
+--     reached-start, reached-field, reached-entry, reached-symbols     where fields end, and symbols, which fit
 --     reached-le                 an offset of one of the first fields is no further than a file's bits
---     entry-stands, w0-stands    what was read among words stands there
+--     entry-stands, form-stands, w0-stands    what was read among words stands there
 --     room-le, room-same, room-table    room for a table
 use mathlib.Core.Path.{_≡_, refl}
 use mathlib.Core.List.{List, [], _∷_, flatMap}
 use mathlib.Core.Bool.{Bool, true, false}
-use Prim.Native.Nat.{ℕ, _+_, _*_, _^_, _≤_, _<_}
+use Prim.Native.Nat.{ℕ, _+_, _*_, _%_, _^_, _≤_, _<_}
 use native.Mathlib.Omega.{arith}
 use lib.Dec.{eqb}
 use lib.ListN.{length, getD}
@@ -19,13 +19,14 @@ use Rattle.format.specs.Reading.{Reading, Reader, Source, andThen, require, bit
 use Rattle.format.specs.Reading.Reading.{got, fault}
 use Rattle.format.specs.Symbols.{ones, symbolsReader}
 use Rattle.format.specs.Files.{readBytesIn, readWords}
+use Rattle.format.specs.Forms.{hasCoefficients}
 use Rattle.format.specs.Packing.{itemWord, symbolItems}
 use Rattle.format.specs.Packing.Item.{field}
 use Rattle.format.proofs.ReadingLaws.{holds-got}
-use Rattle.format.proofs.SpellingLaws.{spells→coded}
+use Rattle.format.proofs.SpellingLaws.{AllFit, spells→coded}
 use Rattle.format.proofs.CodingLaws.{word-coding, bit-coding}
 use Rattle.format.proofs.FormatLaws.{symbols-read}
-use Rattle.symbols.specs.Table.{symbolAt, tableWords}
+use Rattle.symbols.specs.Table.{symbolIn, tableWords}
 use Rattle.symbols.proofs.EntryLaws.{table-next}
 use Rattle.reader.specs.Source.{sourceOf, Reached, tableOf, Room, tested, readSource}
 
@@ -129,6 +130,10 @@ w0-stands packed bytes words width at v next h e z =
     let (here, in-words) = rw z at h in
     rw here at (word-stands bytes words width at v next (rw z at e))
 
+pub form-stands : (packed : Bool) (bytes words : List ℕ) (width v next : ℕ) →
+    sourceOf packed bytes words .field width 0 ≡ got v next → packed ≡ false → getD words 0 0 ≡ v
+form-stands packed bytes words width v next e z = word-stands bytes words width 0 v next (rw z at e)
+
 -- The four fields of a symbol.
 module _ (packed : Bool) (bytes words : List ℕ) (number at arity n₁ ac n₂ weight n₃ rank n₄ : ℕ)
     (start : Reached packed bytes words (tableWords number) at)
@@ -153,10 +158,12 @@ module _ (packed : Bool) (bytes words : List ℕ) (number at arity n₁ ac n₂ 
   reached-entry = rw (table-next number) (reach _ _ _ _ _ r₃ e₄)
 
   pub entry-stands : packed ≡ false →
-      symbolAt words number
+      symbolIn false words number
       ≡ record { arity = arity; ac = eqb ac 1; weight = weight; precedence = rank; coefficients = ones arity }
   unfolding Reached tableWords
   entry-stands z =
+      let small : arity % 8 ≡ arity = omega (arith, field-fits packed bytes words _ _ _ _ e₁) in
+      let mark : ac % 2 ≡ ac = omega (arith, field-fits packed bytes words _ _ _ _ e₂) in
       let a₁ : 4 * number + 4 ≡ at = omega (arith, (rw z at start) .0) in
       let a₂ : 4 * number + 5 ≡ n₁ = omega (arith, (rw z at r₁) .0) in
       let a₃ : 4 * number + 6 ≡ n₂ = omega (arith, (rw z at r₂) .0) in
@@ -170,6 +177,8 @@ module _ (packed : Bool) (bytes words : List ℕ) (number at arity n₁ ac n₂ 
         word-stands bytes words _ n₁ ac n₂ (rw z at e₂),
         word-stands bytes words _ n₂ weight n₃ (rw z at e₃),
         word-stands bytes words _ n₃ rank n₄ (rw z at e₄),
+        small,
+        mark,
       )
 
 -- ---- room
@@ -190,23 +199,24 @@ room-table true bytes words table n at r h = r
 room-table false bytes words table n at r h = omega arith
 
 -- A symbol takes four words.
-length-coded : (ss : List Symbol) → length (flatMap (λ i. itemWord i ∷ []) (flatMap symbolItems ss))
+length-coded : (form : ℕ) → hasCoefficients form ≡ false → (ss : List Symbol) →
+    length (flatMap (λ i. itemWord i ∷ []) (flatMap (symbolItems form) ss))
     ≡ 4 * length ss
 unfolding flatMap
-length-coded [] = refl
-length-coded (s ∷ ss) = omega (arith, length-coded ss)
+length-coded form none [] = refl
+length-coded form none (s ∷ ss) = rw none (omega (arith, length-coded form none ss))
 
-pub reached-symbols : (packed : Bool) (bytes words : List ℕ) (fields : ℕ) (least : ℕ → ℕ) (n at : ℕ) (ss : List Symbol)
-    (next : ℕ) → Reached packed bytes words fields at →
-    symbolsReader (sourceOf packed bytes words) least n [] at ≡ got ss next →
-    Reached packed bytes words (fields + 4 * n) next
+pub reached-symbols : (packed : Bool) (bytes words : List ℕ) (fields form w0 n at : ℕ) → hasCoefficients form ≡ false →
+    (ss : List Symbol) (next : ℕ) → Reached packed bytes words fields at →
+    symbolsReader (sourceOf packed bytes words) form w0 n [] at ≡ got ss next →
+    Reached packed bytes words (fields + 4 * n) next × AllFit (flatMap (symbolItems form) ss)
 unfolding sourceOf Reached
-reached-symbols true bytes words fields least n at ss next h e =
+reached-symbols true bytes words fields form w0 n at none ss next h e =
     let (all, same, count, oks, spelt) =
-    holds-got _ _ ss next (symbols-read (bitSource bytes) (field-fits true bytes words) least n [] at) e in
-    spells→coded (bit-coding bytes) spelt h .2
-reached-symbols false bytes words fields least n at ss next h e =
+    holds-got _ _ ss next (symbols-read (bitSource bytes) (field-fits true bytes words) form w0 n [] at) e in
+    let (fit, ends, last, agree) = spells→coded (bit-coding bytes) spelt h in (last, rw same fit)
+reached-symbols false bytes words fields form w0 n at none ss next h e =
     let (all, same, count, oks, spelt) =
-    holds-got _ _ ss next (symbols-read (wordSource words) (field-fits false bytes words) least n [] at) e in
+    holds-got _ _ ss next (symbols-read (wordSource words) (field-fits false bytes words) form w0 n [] at) e in
     let (fit, ends, last, agree) = spells→coded (word-coding words) spelt (h .1) in
-    (omega (arith, length-coded all), last)
+    ((omega (arith, length-coded form none all), last), rw same fit)

@@ -20,10 +20,11 @@ use Rattle.multisets.proofs.Relations.{byTest}
 use Rattle.multisets.proofs.ListLaws.{sets-append}
 use Rattle.terms.specs.Signature.{Symbol}
 use Rattle.format.specs.Errors.{acNotBinary, weightInadmissible, rankTaken}
-use Rattle.format.specs.Layout.{arityWidth, acWidth, weightWidth, rankWidth}
+use Rattle.format.specs.Layout.{formNumber, arityWidth, acWidth, weightWidth, rankWidth}
+use Rattle.format.specs.Forms.{leastWeightIn}
 use Rattle.format.specs.Reading.{Reading, Reader, _>>=_, _>>_, give, here, require, Source}
 use Rattle.format.specs.Reading.Reading.{got, fault}
-use Rattle.format.specs.Symbols.{ones, heldBy, firstOutranked, weightOffset}
+use Rattle.format.specs.Symbols.{heldBy, firstOutranked, weightOffset, coefficientsIn}
 use Rattle.format.specs.Symbols.{symbolReader, symbolsReader, symbolTableReader}
 use Rattle.format.specs.Packing.{itemWord, symbolItems}
 use Rattle.format.proofs.ReadingLaws.{andThen-same}
@@ -93,66 +94,68 @@ taken-put ss s taken n small h rank b =
 
 -- ---- reading
 
-module _ (source : Source) (least : ℕ → ℕ) (earlier : List Symbol) where
+module _ (source : Source) (form w0 : ℕ) (earlier : List Symbol) where
   abbrev pub partsReader : Reader Symbol
   partsReader = do
     arityOffset ← here
     arity ← source .field arityWidth
     ac ← source .field acWidth
     require (eqb ac 0 || eqb arity 2) acNotBinary arityOffset
-    weight ← tested source weightWidth (leb (least arity)) weightInadmissible
+    weight ← tested source weightWidth (leb (leastWeightIn form w0 arity)) weightInadmissible
     rank ← tested source rankWidth (λ (rank : ℕ). not (heldBy earlier rank)) rankTaken
-    give (record { arity = arity; ac = eqb ac 1; weight = weight; precedence = rank; coefficients = ones arity })
+    coefficients ← coefficientsIn source form (eqb ac 1) arity
+    give (record { arity = arity; ac = eqb ac 1; weight = weight; precedence = rank; coefficients = coefficients })
 
-  pub symbol-parts : (at : ℕ) → symbolReader source least earlier at ≡ partsReader at
+  pub symbol-parts : (at : ℕ) → symbolReader source form w0 earlier at ≡ partsReader at
   unfolding symbolReader
   symbol-parts at =
       andThen-same (source .field arityWidth at) _ _ λ arity n₁.
       andThen-same (source .field acWidth n₁) _ _ λ ac n₂.
       andThen-same (require (eqb ac 0 || eqb arity 2) acNotBinary at n₂) _ _ λ u n.
-      tested-then source weightWidth (leb (least arity)) weightInadmissible n _
-      ∙ andThen-same (tested source weightWidth (leb (least arity)) weightInadmissible n) _ _ λ weight n₃.
+      tested-then source weightWidth (leb (leastWeightIn form w0 arity)) weightInadmissible n _
+      ∙ andThen-same (tested source weightWidth (leb (leastWeightIn form w0 arity)) weightInadmissible n) _ _ λ weight
+      n₃.
       tested-then source rankWidth (λ (rank : ℕ). not (heldBy earlier rank)) rankTaken n₃ _
 
-module _ (source : Source) (least : ℕ → ℕ) (count number : ℕ) (more : number < count) (earlier : List Symbol)
+module _ (source : Source) (form w0 count number : ℕ) (more : number < count) (earlier : List Symbol)
     (at : ℕ) where
   abbrev whole : Reading (List Symbol)
-  whole = symbolsReader source least (count - number) earlier at
+  whole = symbolsReader source form w0 (count - number) earlier at
 
-  pub symbols-fault : (code offset : ℕ) → symbolReader source least earlier at ≡ fault code offset →
+  pub symbols-fault : (code offset : ℕ) → symbolReader source form w0 earlier at ≡ fault code offset →
       whole ≡ fault code offset
   unfolding symbolsReader
   symbols-fault code offset e =
       let n : count - number ≡ suc (count - (number + 1)) = omega arith in
       rw (n, e)
 
-  pub symbols-past : (s : Symbol) (next : ℕ) → symbolReader source least earlier at ≡ got s next →
-      whole ≡ symbolsReader source least (count - (number + 1)) (earlier ++ (s ∷ [])) next
+  pub symbols-past : (s : Symbol) (next : ℕ) → symbolReader source form w0 earlier at ≡ got s next →
+      whole ≡ symbolsReader source form w0 (count - (number + 1)) (earlier ++ (s ∷ [])) next
   unfolding symbolsReader
   symbols-past s next e =
       let n : count - number ≡ suc (count - (number + 1)) = omega arith in
       rw (n, e)
 
-pub symbols-done : (source : Source) (least : ℕ → ℕ) (n : ℕ) (ss : List Symbol) (at : ℕ) → n ≡ 0 →
-    symbolsReader source least n ss at ≡ got ss at
+pub symbols-done : (source : Source) (form w0 n : ℕ) (ss : List Symbol) (at : ℕ) → n ≡ 0 →
+    symbolsReader source form w0 n ss at ≡ got ss at
 unfolding symbolsReader
-symbols-done source least n ss at e = rw e
+symbols-done source form w0 n ss at e = rw e
 
-module _ (source : Source) (least : ℕ → ℕ) (count at : ℕ) where
-  pub table-unread : (code offset : ℕ) → symbolsReader source least count [] at ≡ fault code offset →
-      symbolTableReader source least count at ≡ fault code offset
+module _ (source : Source) (form w0 count at : ℕ) where
+  pub table-unread : (code offset : ℕ) → symbolsReader source form w0 count [] at ≡ fault code offset →
+      symbolTableReader source form w0 count at ≡ fault code offset
   unfolding symbolTableReader
   table-unread code offset e = rw e
 
-  module _ (ss : List Symbol) (next : ℕ) (e : symbolsReader source least count [] at ≡ got ss next) (low : ℕ)
+  module _ (ss : List Symbol) (next : ℕ) (e : symbolsReader source form w0 count [] at ≡ got ss next) (low : ℕ)
       (first : low ≡ firstOutranked ss) where
-    pub table-outranked : low < length ss → (offset : ℕ) → offset ≡ weightOffset source at low →
-        symbolTableReader source least count at ≡ fault weightInadmissible offset
+    pub table-outranked : low < length ss → (offset : ℕ) → offset ≡ weightOffset source form at ss low →
+        symbolTableReader source form w0 count at ≡ fault weightInadmissible offset
     unfolding symbolTableReader
     table-outranked h offset o =
         rw (e, ← first, ne-eqb low (length ss) (λ p. omega arith), o)
 
-    pub table-ranked : length ss ≤ low → symbolTableReader source least count at ≡ got ss next
+    pub table-ranked : length ss ≤ low → symbolTableReader source form w0 count at ≡ got ss next
     unfolding symbolTableReader
     table-ranked h = rw (e, eq-eqb (firstOutranked ss) (length ss) (omega (arith, outranked-le ss ss)))
 
@@ -178,7 +181,7 @@ stored-same false index words other before after e stored = tt
 -- The entries before are stored, and one more.
 pub stored-more : (packed : Bool) (table before after : List ℕ) (n : ℕ) (ss : List Symbol) (s : Symbol) →
     n ≡ length ss → Stored packed 4 (symbolsWords ss) table before →
-    Stored packed (tableWords n) (map itemWord (symbolItems s)) before after →
+    Stored packed (tableWords n) (map itemWord (symbolItems formNumber s)) before after →
     Stored packed 4 (symbolsWords (ss ++ (s ∷ []))) table after
 stored-more true table before after n ss s e f g = entries-more table before after n ss s e f g
 stored-more false table before after n ss s e f g = tt
@@ -189,37 +192,38 @@ stored-none false table = tt
 
 -- ---- a symbol, by the answers to its fields
 
-module _ (source : Source) (least : ℕ → ℕ) (earlier : List Symbol) (at : ℕ) where
+module _ (source : Source) (form w0 : ℕ) (earlier : List Symbol) (at : ℕ) where
   abbrev symbol : Reading Symbol
-  symbol = symbolReader source least earlier at
+  symbol = symbolReader source form w0 earlier at
 
   abbrev Fielded : Read → ℕ → ℕ → Type 0
   Fielded x width offset = readingOf (λ (v : ℕ). v) (told x) ≡ source .field width offset
 
   pub arity-unread : (x : Read) (code offset : ℕ) → x ≡ read.Fault offset code → Fielded x arityWidth at →
       symbol ≡ fault code offset
-  arity-unread x code offset e f = symbol-parts source least earlier at ∙ rw (sym (rw e at f))
+  arity-unread x code offset e f = symbol-parts source form w0 earlier at ∙ rw (sym (rw e at f))
 
   module _ (x : Read) (arity : ℕ) (n : BitCursor) (e : x ≡ read.Got arity n) (f : Fielded x arityWidth at) where
     pub mark-unread : (y : Read) (code offset : ℕ) → y ≡ read.Fault offset code → Fielded y acWidth (n .at) →
         symbol ≡ fault code offset
-    mark-unread y code offset g h = symbol-parts source least earlier at ∙ rw (sym (rw e at f), sym (rw g at h))
+    mark-unread y code offset g h = symbol-parts source form w0 earlier at ∙ rw (sym (rw e at f), sym (rw g at h))
 
     module _ (y : Read) (ac : ℕ) (m : BitCursor) (g : y ≡ read.Got ac m) (h : Fielded y acWidth (n .at)) (b : Bool)
         (binary : b ≡ (eqb ac 0 || eqb arity 2)) where
       pub mark-refused : not b ≡ true → symbol ≡ fault acNotBinary at
       mark-refused wrong =
-          symbol-parts source least earlier at
+          symbol-parts source form w0 earlier at
           ∙ rw (sym (rw e at f), sym (rw g at h), sym binary ∙ not-true b wrong)
 
       abbrev Tested : Read → Type 0
       Tested z =
-          readingOf (λ (v : ℕ). v) (told z) ≡ tested source weightWidth (leb (least arity)) weightInadmissible (m .at)
+          readingOf (λ (v : ℕ). v) (told z) ≡ tested source weightWidth (leb (leastWeightIn form w0 arity))
+          weightInadmissible (m .at)
 
       pub weight-unread : not b ≡ false → (z : Read) (code offset : ℕ) → z ≡ read.Fault offset code → Tested z →
           symbol ≡ fault code offset
       weight-unread right z code offset i j =
-          symbol-parts source least earlier at
+          symbol-parts source form w0 earlier at
           ∙ rw (sym (rw e at f), sym (rw g at h), sym binary ∙ not-false b right, sym (rw i at j))
 
       pub rank-unread : not b ≡ false → (z : Read) (weight : ℕ) (o : BitCursor) → z ≡ read.Got weight o → Tested z →
@@ -227,7 +231,7 @@ module _ (source : Source) (least : ℕ → ℕ) (earlier : List Symbol) (at : �
           ((es : List Symbol) → TakenBy es taken → readingOf (λ (v : ℕ). v) (told r)
           ≡ tested source rankWidth (λ (rank : ℕ). not (heldBy es rank)) rankTaken (o .at)) → symbol ≡ fault code offset
       rank-unread right z weight o i j taken t r code offset u v =
-          symbol-parts source least earlier at
+          symbol-parts source form w0 earlier at
           ∙ rw (
             sym (rw e at f),
             sym (rw g at h),

@@ -13,11 +13,12 @@ use Rattle.format.specs.Errors.{badPadding, wordsLeftOver}
 use Rattle.format.specs.Layout.{formNumber}
 use Rattle.format.specs.Reading.{isPadding, bitSource, wordSource}
 use Rattle.format.specs.Reading.Reading.{got, fault}
-use Rattle.format.specs.Forms.{unusedOf}
+use Rattle.format.specs.Forms.{hasCoefficients, unusedOf}
 use Rattle.format.specs.Format.{Sides, RuleFile, rulesReader}
 use Rattle.format.specs.Files.{readBytesIn, readWords}
 use Rattle.format.proofs.ReadingLaws.{holds-got}
-use Rattle.format.proofs.FormLaws.{taken-first}
+use Rattle.format.specs.Statements.{Unscaled}
+use Rattle.format.proofs.FormLaws.{taken-first, taken-coefficients}
 use Rattle.format.proofs.FormatLaws.{rules-length}
 use Rattle.format.proofs.FileLaws.{words-unpacked}
 use Rattle.symbols.specs.Table.{signatureOf, tableWords, maxTableWords, frontWords}
@@ -39,7 +40,7 @@ module _ (form : ℕ) (bytes table before after : List ℕ) (h : Answer) (symbol
     (e : h ≡ Got symbols start)
     (read : HeadRead form true bytes [] (readSource form true bytes []) h table rules) (front : ℕ)
     (size : front ≡ tableWords symbols) (cells : List ℕ) (a : Arities (signatureOf (take front table)) cells)
-    (x : Answer) (ruled : (σ : Signature) → Arities σ cells →
+    (x : Answer) (ruled : (σ : Signature) → Arities σ cells → Unscaled σ →
     WordsRead (λ (rs : List Sides). rulesWords (rulesIn form rs))
     (rulesReader (bitSource bytes) (unusedOf form) σ rules start) 0 before x after) where
   abbrev τ : Signature
@@ -55,12 +56,12 @@ module _ (form : ℕ) (bytes table before after : List ℕ) (h : Answer) (symbol
   unfolding sourceOf
   packed-unread code offset g =
       packedWhole ∙ rest-unread form (parts .form) (parts .taken) true bytes [] τ rules start code offset
-      (rw g at (ruled τ (rw size at a)))
+      (rw g at (ruled τ (rw size at a) (parts .decoded .unscaled)))
 
   module _ (nodes next : ℕ) (g : x ≡ Got nodes next) (b : Bool) (p : b ≡ isPadding bytes next) where
     stored : WordsRead (λ (rs : List Sides). rulesWords (rulesIn form rs))
         (rulesReader (bitSource bytes) (unusedOf form) τ rules start) 0 before (Got nodes next) after
-    stored = rw g at (ruled τ (rw size at a))
+    stored = rw g at (ruled τ (rw size at a) (parts .decoded .unscaled))
 
     pub packed-unended : b ≡ false → readBytesIn form bytes ≡ fault badPadding next
     unfolding sourceOf
@@ -68,10 +69,10 @@ module _ (form : ℕ) (bytes table before after : List ℕ) (h : Answer) (symbol
         packedWhole ∙ rest-unended form (parts .form) (parts .taken) true bytes [] τ rules start (stored .0) next
         (stored .1) badPadding next (rw (sym p ∙ left))
 
-    pub packed-read : b ≡ true → front ≤ maxTableWords →
+    pub packed-read : hasCoefficients form ≡ false → b ≡ true → front ≤ maxTableWords →
         PackedRead bytes (readBytesIn form bytes) (Got nodes front) table before after
     unfolding sourceOf Reached
-    packed-read ended few =
+    packed-read none ended few =
         let (rs, rulesRead, count, put) = stored in
         let same = taken-first form (parts .form) (parts .taken) in
         let n = rules-length (bitSource bytes) (unusedOf form) τ rules start rs next rulesRead in (
@@ -80,6 +81,7 @@ module _ (form : ℕ) (bytes table before after : List ℕ) (h : Answer) (symbol
           packedWhole ∙ rest-ended form (parts .form) (parts .taken) true bytes [] τ rules start rs next rulesRead next
               (rw (sym p ∙ ended)),
           record {
+            plain = taken-coefficients form (parts .form) (parts .taken) ∙ none;
             short = parts .short;
             size = size ∙ ap tableWords (parts .symbolCount);
             few = few;
@@ -105,7 +107,7 @@ module _ (words table : List ℕ) (h : Answer) (symbols rules start : ℕ) (e : 
     (read : HeadRead formNumber false [] words (readSource formNumber false [] words) h table rules)
     (cells : List ℕ) (a : Arities (signatureOf (take start words)) cells) (unused : ℕ)
     (u : unused ≡ unusedOf formNumber)
-    (x : Answer) (ruled : (σ : Signature) → Arities σ cells →
+    (x : Answer) (ruled : (σ : Signature) → Arities σ cells → Unscaled σ →
     x ≡ endOf (rulesReader (wordSource words) unused σ rules start)) where
   abbrev υ : Signature
   υ = signatureOf (take (tableWords symbols) words)
@@ -118,7 +120,7 @@ module _ (words table : List ℕ) (h : Answer) (symbols rules start : ℕ) (e : 
 
   rulesEnd : endOf (rulesReader (wordSource words) (unusedOf formNumber) υ rules start) ≡ x
   unfolding Reached
-  rulesEnd = sym (rw u at (ruled υ (rw (sheetParts .within .0) at a)))
+  rulesEnd = sym (rw u at (ruled υ (rw (sheetParts .within .0) at a) (sheetParts .decoded .unscaled)))
 
   pub sheet-unread : (code offset : ℕ) → x ≡ Fault offset code → readWords words ≡ fault code offset
   unfolding sourceOf
@@ -149,13 +151,14 @@ module _ (words table : List ℕ) (h : Answer) (symbols rules start : ℕ) (e : 
           next,
           whole,
           record {
+            plain = taken-coefficients formNumber (sheetParts .form) (sheetParts .taken);
             symbolCount = sheetParts .symbolCount;
             begin = sheetParts .within .0;
             within = sheetParts .within .1;
             short = omega (
               arith,
               ap length (words-unpacked words file next whole),
-              unpacked-length file,
+              unpacked-length file (taken-coefficients formNumber (sheetParts .form) (sheetParts .taken)),
               few,
               sheetParts .symbolCount,
               sheetParts .fewSymbols,

@@ -1,7 +1,7 @@
 -- What the answers of reading a whole file stand for.
 use mathlib.Core.Path.{_≡_}
 use mathlib.Core.List.{List, map}
-use mathlib.Core.Bool.{Bool, true, cond}
+use mathlib.Core.Bool.{Bool, true, cond, false}
 use Prim.Native.Nat.{ℕ, _*_, _≤_, _<_}
 use lib.ListN.{length, take}
 use lib.Dec.{eqb, leb}
@@ -11,7 +11,7 @@ use Rattle.format.specs.Errors.{noSymbols, variableWeightless}
 use Rattle.format.specs.Layout.{firstForm, formNumber, symbolCountWidth, weightWidth, ruleCountWidth, maxBytes}
 use Rattle.format.specs.Reading.{Reading, Reader, _>>=_, _>>_, give}
 use Rattle.format.specs.Reading.Reading.{got, fault}
-use Rattle.format.specs.Forms.{isTaken, unusedOf, leastWeightIn}
+use Rattle.format.specs.Forms.{isTaken, hasCoefficients, unusedOf}
 use Rattle.format.specs.Symbols.{symbolTableReader}
 use Rattle.format.specs.Format.{Sides, RuleFile, rulesReader}
 use Rattle.format.specs.Conversion.{convertedSides}
@@ -33,7 +33,7 @@ module _ (form : ℕ) (packed : Bool) (bytes words : List ℕ) where
   -- What follows the header.
   unfoldable pub tableReader : ℕ → ℕ → ℕ → Reader RuleFile
   tableReader w0 symbolCount ruleCount = do
-    symbols ← symbolTableReader (sourceOf packed bytes words) (leastWeightIn form w0) symbolCount
+    symbols ← symbolTableReader (sourceOf packed bytes words) form w0 symbolCount
     restReader (record { w0 = w0; symbols = symbols }) ruleCount
 
   -- What follows the form.
@@ -86,6 +86,7 @@ HeadRead reader packed bytes words reading (Fault offset code) table rules = rea
 -- A packed file: the front of the table has the words before its rules, and the words those of its rules as they are
 -- stored, where there is room for all of them.
 pub record PackedParts (bytes table before after : List ℕ) (file : RuleFile) (nodes front : ℕ) : Type 0 where
+  pub plain : hasCoefficients (file .form) ≡ false
   pub short : length bytes ≤ maxBytes
   pub size : front ≡ tableWords (length (file .signature .symbols))
   pub few : front ≤ maxTableWords
@@ -105,6 +106,7 @@ PackedRead bytes reading (Fault offset code) table before after = reading ≡ fa
 
 -- A file among words: how many symbols it has, where its rules begin, and that the words are not many.
 pub record SheetParts (words : List ℕ) (file : RuleFile) (symbols front : ℕ) : Type 0 where
+  pub plain : hasCoefficients (file .form) ≡ false
   pub symbolCount : symbols ≡ length (file .signature .symbols)
   pub begin : front ≡ tableWords symbols
   pub within : front ≤ length words

@@ -1,12 +1,12 @@
 // Reading a whole file, packed or a sheet: what stands before its rules, and its rules, or its first fault.
 ghost use mathlib.Core.Path.{_≡_};
-ghost use mathlib.Core.Bool.{true};
+ghost use mathlib.Core.Bool.{true, false};
 ghost use Prim.Native.Nat.{ℕ, _≤_};
 ghost use lib.ListN.{length};
 ghost use Rattle.format.specs.Layout.{maxBytes};
-ghost use Rattle.format.specs.Forms.{isTaken, formError};
+ghost use Rattle.format.specs.Forms.{isTaken, formError, hasCoefficients};
 ghost use Rattle.format.specs.Files.{readBytesIn, readWords};
-ghost use Rattle.symbols.specs.Table.{maxTableWords};
+ghost use Rattle.symbols.specs.Table.{formOf, maxTableWords};
 ghost use Rattle.bits.specs.Cursor.{told};
 ghost use Rattle.reader.specs.Source.{Reached, Room, readSource};
 ghost use Rattle.reader.specs.File.{countsReader, HeadRead, PackedRead, SheetRead};
@@ -31,7 +31,8 @@ fn read_counts(
     cursor: BitCursor,
 ) -> Read
     requires { ⌜ (length (now book) ≤ maxBytes) × Reached packed (now book) (now sheet) 1 (cursor .at) ⌝ }
-    requires { ⌜ Room packed maxTableWords (now table) ⌝ }
+    requires { ⌜ Room packed maxTableWords (now table) × (hasCoefficients form ≡ false) ⌝ }
+    requires { ⌜ (packed ≡ false → formOf (now sheet) ≡ form) ⌝ }
     ensures { λ r. ⌜
         ((reader : ℕ) → isTaken reader form ≡ true →
         HeadRead reader packed (now (book .entry)) (now (sheet .entry))
@@ -93,7 +94,7 @@ pub fn read_head(
     table: &mut [u16],
     rules: &mut usize,
 ) -> Read
-    requires { ⌜ Room packed maxTableWords (now table) ⌝ }
+    requires { ⌜ Room packed maxTableWords (now table) × (hasCoefficients form ≡ false) ⌝ }
     ensures { λ r. ⌜
         HeadRead form packed (now (book .entry)) (now (sheet .entry))
         (readSource form packed (now (book .entry)) (now (sheet .entry))) (told r) (now (table .exit))
@@ -120,7 +121,7 @@ pub fn read_head(
 // rules to the front of the words, the variables in order of first use. The value is how many words the rules have, and
 // in place of an offset how many stand in the table.
 pub fn read_packed(book: &[u8], form: u16, table: &mut [u16], words: &mut [u16]) -> Answer
-    requires { ⌜ maxTableWords ≤ length (now table) ⌝ }
+    requires { ⌜ (maxTableWords ≤ length (now table)) × (hasCoefficients form ≡ false) ⌝ }
     ensures { λ r. ⌜
         PackedRead (now (book .entry)) (readBytesIn form (now (book .entry))) r (now (table .exit))
         (now (words .entry)) (now (words .exit))

@@ -8,6 +8,7 @@ ghost use Rattle.format.specs.Layout.{maxBytes, maxNodes};
 ghost use Rattle.format.specs.Reading.{bitSource, wordSource};
 ghost use Rattle.format.specs.Forms.{unusedOf};
 ghost use Rattle.format.specs.Format.{Sides, ruleReader, rulesReader};
+ghost use Rattle.format.specs.Statements.{Unscaled};
 ghost use Rattle.symbols.specs.Arities.{Arities};
 ghost use Rattle.answers.specs.Answer.{endOf, Within};
 ghost use Rattle.bits.specs.Cursor.{told};
@@ -30,7 +31,7 @@ fn read_packed_rule(
 ) -> Read
     requires { ⌜ (length (now book) ≤ maxBytes) × (cursor .at ≤ 8 * length (now book)) × (index + maxNodes < 2 ^ 32) ⌝ }
     ensures { λ r. ⌜
-        ((σ : Signature) → Arities σ (now (arities .entry)) →
+        ((σ : Signature) → Arities σ (now (arities .entry)) → Unscaled σ →
         WordsRead (λ (s : Sides). sideWords (sidesIn form s))
         (ruleReader (bitSource (now (book .entry))) (unusedOf form) σ (cursor .at))
         index (now (words .entry)) (told r) (now (words .exit)))
@@ -60,7 +61,7 @@ pub fn read_packed_rules(
 ) -> Read
     requires { ⌜ (length (now book) ≤ maxBytes) × (cursor .at ≤ 8 * length (now book)) × (count < 1024) ⌝ }
     ensures { λ r. ⌜
-        ((σ : Signature) → Arities σ (now (arities .entry)) →
+        ((σ : Signature) → Arities σ (now (arities .entry)) → Unscaled σ →
         WordsRead (λ (rules : List Sides). rulesWords (rulesIn form rules))
         (rulesReader (bitSource (now (book .entry))) (unusedOf form) σ count (cursor .at))
         0 (now (words .entry)) (told r) (now (words .exit)))
@@ -88,9 +89,9 @@ pub fn read_packed_rules(
 // Reads a rule's two sides from words, where the variables from a number on are unused.
 fn read_word_rule(arities: &[u32; NODE_WORDS], sheet: &[u16], unused: usize, at: usize) -> Answer
     requires { ⌜ (at ≤ 2 ^ 19) × (unused ≤ 16) ⌝ }
-    requires { ⌜ ((σ : Signature) × Arities σ (now arities)) ⌝ }
+    requires { ⌜ ((σ : Signature) × Arities σ (now arities) × Unscaled σ) ⌝ }
     ensures { λ r. ⌜
-        ((σ : Signature) → Arities σ (now (arities .entry)) →
+        ((σ : Signature) → Arities σ (now (arities .entry)) → Unscaled σ →
         r ≡ endOf (ruleReader (wordSource (now (sheet .entry))) unused σ at))
         ⌝ }
 {
@@ -114,9 +115,9 @@ pub fn read_word_rules(
     at: usize,
 ) -> Answer
     requires { ⌜ (at ≤ 2 ^ 16) × (count < 1024) × (unused ≤ 16) ⌝ }
-    requires { ⌜ ((σ : Signature) × Arities σ (now arities)) ⌝ }
+    requires { ⌜ ((σ : Signature) × Arities σ (now arities) × Unscaled σ) ⌝ }
     ensures { λ r. ⌜
-        ((σ : Signature) → Arities σ (now (arities .entry)) →
+        ((σ : Signature) → Arities σ (now (arities .entry)) → Unscaled σ →
         r ≡ endOf (rulesReader (wordSource (now (sheet .entry))) unused σ count at))
         ⌝ }
 {

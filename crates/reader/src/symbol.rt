@@ -7,11 +7,11 @@ ghost use lib.Dec.{eqb};
 ghost use lib.ListN.{length};
 ghost use Rattle.terms.specs.Signature.{Symbol};
 ghost use Rattle.format.specs.Errors.{rankTaken};
-ghost use Rattle.format.specs.Layout.{maxBytes, rankWidth};
-ghost use Rattle.format.specs.Forms.{leastWeightIn};
+ghost use Rattle.format.specs.Layout.{formNumber, maxBytes, rankWidth};
+ghost use Rattle.format.specs.Forms.{hasCoefficients};
 ghost use Rattle.format.specs.Symbols.{heldBy, ones, symbolReader, symbolsReader};
 ghost use Rattle.format.specs.Packing.{itemWord, symbolItems};
-ghost use Rattle.symbols.specs.Table.{symbolAt, symbolsAt, tableWords, symbolsWords};
+ghost use Rattle.symbols.specs.Table.{symbolIn, symbolsIn, tableWords, symbolsWords};
 ghost use Rattle.answers.specs.Answer.{readingOf, Below};
 ghost use Rattle.bits.specs.Cursor.{told};
 ghost use Rattle.reader.specs.Source.{sourceOf, Reached, tableOf, Room, Stored, tested};
@@ -63,14 +63,14 @@ fn put_entry(
     weight: u16,
     rank: u16,
 )
-    requires { ⌜ (number < 256) × Room packed (tableWords (number + 1)) (now table) ⌝ }
+    requires { ⌜ (number < 256) × Room packed (tableWords (number + 1)) (now table) × (arity < 8) × (ac < 2) ⌝ }
     ensures { λ _. ⌜
         ((words : List ℕ) (s : Symbol) →
         s
         ≡ record { arity = arity; ac = eqb ac 1; weight = weight; precedence = rank; coefficients = ones arity } →
-        (packed ≡ false → symbolAt words number ≡ s) →
-        symbolsAt (tableOf packed words (now (table .exit))) 0 (number + 1)
-        ≡ symbolsAt (tableOf packed words (now (table .entry))) 0 number ++ (s ∷ []))
+        (packed ≡ false → symbolIn false words number ≡ s) →
+        symbolsIn false (tableOf packed words (now (table .exit))) 0 (number + 1)
+        ≡ symbolsIn false (tableOf packed words (now (table .entry))) 0 number ++ (s ∷ []))
         ⌝ }
     ensures { λ _. ⌜
         Stored packed (tableWords number) (arity ∷ ac ∷ weight ∷ rank ∷ []) (now (table .entry)) (now (table .exit))
@@ -97,22 +97,25 @@ fn read_symbol(
     requires { ⌜ (length (now book) ≤ maxBytes) × (number < 256) × Room packed (tableWords (number + 1)) (now table) ⌝ }
     requires { ⌜ Reached packed (now book) (now sheet) (tableWords number) (cursor .at) ⌝ }
     requires { ⌜
-        TakenBy (symbolsAt (tableOf packed (now sheet) (now table)) 0 number) (now taken) × (length (now taken) ≡ 256)
+        TakenBy (symbolsIn false (tableOf packed (now sheet) (now table)) 0 number) (now taken)
+        × (length (now taken) ≡ 256) × (hasCoefficients form ≡ false)
         ⌝ }
     ensures { λ r. ⌜
         ((w0 : ℕ) →
-        LeastKept form w0 (hasZeroWeightUnary (symbolsAt (tableOf packed (now (sheet .entry)) (now (table .entry))) 0
+        LeastKept form w0 (hasZeroWeightUnary (symbolsIn false
+        (tableOf packed (now (sheet .entry)) (now (table .entry))) 0
         number)) (now (least .entry)) →
         SymbolPut
-        (symbolReader (sourceOf packed (now (book .entry)) (now (sheet .entry))) (leastWeightIn form w0)
-        (symbolsAt (tableOf packed (now (sheet .entry)) (now (table .entry))) 0 number) (cursor .at))
-        (symbolsAt (tableOf packed (now (sheet .entry)) (now (table .entry))) 0 number)
+        (symbolReader (sourceOf packed (now (book .entry)) (now (sheet .entry))) form w0
+        (symbolsIn false (tableOf packed (now (sheet .entry)) (now (table .entry))) 0 number) (cursor .at))
+        (symbolsIn false (tableOf packed (now (sheet .entry)) (now (table .entry))) 0 number)
         (Reached packed (now (book .entry)) (now (sheet .entry)) (tableWords (number + 1)))
-        (λ (s : Symbol). Stored packed (tableWords number) (map itemWord (symbolItems s)) (now (table .entry))
+        (λ (s : Symbol). Stored packed (tableWords number) (map itemWord (symbolItems formNumber s))
+        (now (table .entry))
         (now (table .exit)) × LeastKept form w0
-        (hasZeroWeightUnary (symbolsAt (tableOf packed (now (sheet .entry)) (now (table .exit))) 0 (number + 1)))
+        (hasZeroWeightUnary (symbolsIn false (tableOf packed (now (sheet .entry)) (now (table .exit))) 0 (number + 1)))
         (now (least .exit))) (told r)
-        (symbolsAt (tableOf packed (now (sheet .entry)) (now (table .exit))) 0 (number + 1)) (now (taken .exit)))
+        (symbolsIn false (tableOf packed (now (sheet .entry)) (now (table .exit))) 0 (number + 1)) (now (taken .exit)))
         ⌝ }
     ensures { λ r. ⌜ length (now (taken .exit)) ≡ 256 ⌝ }
 {
@@ -159,14 +162,14 @@ fn read_symbols_from(
     cursor: BitCursor,
 ) -> Read
     requires { ⌜ (length (now book) ≤ maxBytes) × (count < 256) × Room packed (tableWords count) (now table) ⌝ }
-    requires { ⌜ Reached packed (now book) (now sheet) 4 (cursor .at) ⌝ }
+    requires { ⌜ Reached packed (now book) (now sheet) 4 (cursor .at) × (hasCoefficients form ≡ false) ⌝ }
     ensures { λ r. ⌜
         SymbolsRead
-        (symbolsReader (sourceOf packed (now (book .entry)) (now (sheet .entry))) (leastWeightIn form w0) count []
+        (symbolsReader (sourceOf packed (now (book .entry)) (now (sheet .entry))) form w0 count []
         (cursor .at))
         (λ (ss : List Symbol). Stored packed 4 (symbolsWords ss) (now (table .entry)) (now (table .exit))
         × (now (weightless .exit) ≡ hasZeroWeightUnary ss)) (told r)
-        (symbolsAt (tableOf packed (now (sheet .entry)) (now (table .exit))) 0 count)
+        (symbolsIn false (tableOf packed (now (sheet .entry)) (now (table .exit))) 0 count)
         ⌝ }
 {
     let mut taken = [false; RANKS];
@@ -222,14 +225,16 @@ pub fn read_symbols(
     cursor: BitCursor,
 ) -> Read
     requires { ⌜ (length (now book) ≤ maxBytes) × (count < 256) × Room packed (tableWords count) (now table) ⌝ }
-    requires { ⌜ Reached packed (now book) (now sheet) 4 (cursor .at) × (rules < 1024) ⌝ }
+    requires { ⌜
+        Reached packed (now book) (now sheet) 4 (cursor .at) × (rules < 1024) × (hasCoefficients form ≡ false)
+        ⌝ }
     ensures { λ r. ⌜
         SymbolsRead
-        (symbolsReader (sourceOf packed (now (book .entry)) (now (sheet .entry))) (leastWeightIn form w0) count []
+        (symbolsReader (sourceOf packed (now (book .entry)) (now (sheet .entry))) form w0 count []
         (cursor .at))
         (λ (ss : List Symbol). Stored packed 0 (storedForm form ∷ count ∷ w0 ∷ rules ∷ symbolsWords ss)
         (now (table .entry)) (now (table .exit)) × (now (weightless .exit) ≡ hasZeroWeightUnary ss)) (told r)
-        (symbolsAt (tableOf packed (now (sheet .entry)) (now (table .exit))) 0 count)
+        (symbolsIn false (tableOf packed (now (sheet .entry)) (now (table .exit))) 0 count)
         ⌝ }
 {
     if packed {

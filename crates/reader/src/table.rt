@@ -2,13 +2,14 @@
 // one, is to be ranked above every other.
 ghost use mathlib.Core.Path.{_≡_};
 ghost use mathlib.Core.List.{List, _∷_};
+ghost use mathlib.Core.Bool.{false};
 ghost use Prim.Native.Nat.{ℕ, _*_, _≤_, _<_};
 ghost use lib.ListN.{length};
 ghost use Rattle.terms.specs.Signature.{Symbol};
 ghost use Rattle.format.specs.Layout.{maxBytes};
-ghost use Rattle.format.specs.Forms.{leastWeightIn};
+ghost use Rattle.format.specs.Forms.{hasCoefficients};
 ghost use Rattle.format.specs.Symbols.{firstOutranked, weightOffset, symbolTableReader};
-ghost use Rattle.symbols.specs.Table.{symbolsAt, tableWords, symbolsWords};
+ghost use Rattle.symbols.specs.Table.{symbolsIn, tableWords, symbolsWords};
 ghost use Rattle.bits.specs.Cursor.{told};
 ghost use Rattle.reader.specs.Source.{sourceOf, Reached, tableOf, Room, Stored};
 ghost use Rattle.reader.specs.File.{storedForm};
@@ -22,7 +23,7 @@ use format::ARITY_WIDTH;
 fn outranked_in(sheet: &[u16], packed: bool, table: &[u16], count: usize) -> usize
     requires { ⌜ count < 256 ⌝ }
     ensures { λ r. ⌜
-        r ≡ firstOutranked (symbolsAt (tableOf packed (now (sheet .entry)) (now (table .entry))) 0 count)
+        r ≡ firstOutranked (symbolsIn false (tableOf packed (now (sheet .entry)) (now (table .entry))) 0 count)
         ⌝ }
 {
     if packed {
@@ -31,10 +32,13 @@ fn outranked_in(sheet: &[u16], packed: bool, table: &[u16], count: usize) -> usi
     symbols::first_outranked(sheet, count)
 }
 
-// The offset of the weight of the symbol of that number, where the symbols begin at an offset.
+// The offset of the weight of the symbol of that number, where the symbols begin at an offset and have no coefficients.
 fn weight_offset(packed: bool, at: usize, f: usize) -> usize
     requires { ⌜ (at ≤ 8 * maxBytes) × (f < 256) ⌝ }
-    ensures { λ r. ⌜ ((bytes words : List ℕ) → r ≡ weightOffset (sourceOf packed bytes words) at f) ⌝ }
+    ensures { λ r. ⌜
+        ((bytes words : List ℕ) (form : ℕ) (ss : List Symbol) → hasCoefficients form ≡ false → f < length ss →
+        r ≡ weightOffset (sourceOf packed bytes words) form at ss f)
+        ⌝ }
 {
     if packed {
         let before = ARITY_WIDTH + AC_WIDTH;
@@ -56,14 +60,15 @@ pub fn read_table(
     cursor: BitCursor,
 ) -> Read
     requires { ⌜ (length (now book) ≤ maxBytes) × (count < 256) × Room packed (tableWords count) (now table) ⌝ }
-    requires { ⌜ Reached packed (now book) (now sheet) 4 (cursor .at) × (rules < 1024) ⌝ }
+    requires { ⌜ Reached packed (now book) (now sheet) 4 (cursor .at) × (rules < 1024) ×
+        (hasCoefficients form ≡ false) ⌝ }
     ensures { λ r. ⌜
         SymbolsRead
-        (symbolTableReader (sourceOf packed (now (book .entry)) (now (sheet .entry))) (leastWeightIn form w0) count
+        (symbolTableReader (sourceOf packed (now (book .entry)) (now (sheet .entry))) form w0 count
         (cursor .at))
         (λ (ss : List Symbol). Stored packed 0 (storedForm form ∷ count ∷ w0 ∷ rules ∷ symbolsWords ss)
         (now (table .entry)) (now (table .exit))) (told r)
-        (symbolsAt (tableOf packed (now (sheet .entry)) (now (table .exit))) 0 count)
+        (symbolsIn false (tableOf packed (now (sheet .entry)) (now (table .exit))) 0 count)
         ⌝ }
 {
     let mut weightless = false;

@@ -11,6 +11,7 @@ ghost use Rattle.format.specs.Reading.Reading.{got};
 ghost use Rattle.format.specs.Forms.{isTaken, unusedOf};
 ghost use Rattle.format.specs.Format.{Sides, ruleReader};
 ghost use Rattle.operations.specs.Jobs.{bookMarks};
+ghost use Rattle.format.specs.Statements.{Unscaled};
 ghost use Rattle.symbols.specs.Table.{signatureOf, maxTableWords};
 ghost use Rattle.symbols.specs.Arities.{Arities};
 ghost use Rattle.answers.specs.Answer.{Within};
@@ -35,7 +36,7 @@ pub enum Standing {
 fn skip_rule(book: &[u8], arities: &[u32; format::NODE_WORDS], cursor: BitCursor) -> Read
     requires { ⌜ (length (now book) ≤ maxBytes) × (cursor .at ≤ 8 * length (now book)) ⌝ }
     ensures { λ r. ⌜
-        ((σ : Signature) → Arities σ (now (arities .entry)) →
+        ((σ : Signature) → Arities σ (now (arities .entry)) → Unscaled σ →
         RuleSkipped (ruleReader (bitSource (now (book .entry))) (unusedOf formNumber) σ (cursor .at)) (told r))
         ⌝ }
     ensures { λ r. ⌜ Within maxNodes (8 * length (now (book .entry))) (told r) ⌝ }
@@ -58,7 +59,7 @@ fn skip_rules(
 ) -> Read
     requires { ⌜ (length (now book) ≤ maxBytes) × (cursor .at ≤ 8 * length (now book)) ⌝ }
     ensures { λ r. ⌜
-        ((σ : Signature) → Arities σ (now (arities .entry)) →
+        ((σ : Signature) → Arities σ (now (arities .entry)) → Unscaled σ →
         RulesSkipped (bitSource (now (book .entry))) (unusedOf formNumber) σ count (cursor .at) (told r))
         ⌝ }
     ensures { λ r. ⌜ Within 0 (8 * length (now (book .entry))) (told r) ⌝ }
@@ -81,7 +82,7 @@ fn skip_rules(
 // Reads the rules under a symbol table, that many of them, to the end of the file; `marked` of them are marked.
 fn find_after(book: &[u8], table: &[u16], marked: usize, count: usize, first: BitCursor) -> Standing
     requires { ⌜ (length (now book) ≤ maxBytes) × (first .at ≤ 8 * length (now book)) ⌝ }
-    requires { ⌜ length (now table) ≤ maxTableWords ⌝ }
+    requires { ⌜ IsTable (now table) ⌝ }
     ensures { λ r. ⌜
         ((form : ℕ) → isTaken formNumber form ≡ true →
         r

@@ -23,7 +23,9 @@ use Rattle.format.specs.Errors.{tooManyNodes}
 use Rattle.format.specs.Layout.{maxNodes}
 use Rattle.format.specs.Reading.{Reading, Source}
 use Rattle.format.specs.Reading.Reading.{got, fault}
-use Rattle.format.specs.Format.{forestReader, sideReader, ruleReader}
+use Rattle.format.specs.Format.{forestReader, nodesReader, sideReader, ruleReader}
+use Rattle.format.specs.Statements.{Unscaled}
+use Rattle.format.proofs.LightLaws.{unscaled-side}
 use Rattle.format.proofs.ForestLaws.{before, nothing-owed, none-allowed}
 use Rattle.answers.specs.declared.Answer.{Answer}
 use Rattle.answers.specs.declared.Answer.the-variants.{Got, Fault}
@@ -123,26 +125,29 @@ pub within-wider : (last wider limit : ℕ) → last ≤ wider → (r : Answer) 
 within-wider last wider limit h (Got end next) (e, n) = (omega arith, n)
 within-wider last wider limit h (Fault offset code) w = tt
 
-module _ (source : Source) (unused : ℕ) (σ : Signature) (at index : ℕ) (words : List ℕ) where
+module _ (source : Source) (unused : ℕ) (σ : Signature) (unscaled : Unscaled σ) (at index : ℕ) (words : List ℕ) where
+  light : (n from : ℕ) → sideReader source maxNodes n σ from ≡ nodesReader source maxNodes n σ from
+  light n from = unscaled-side σ unscaled source maxNodes n from (omega arith)
+
   pub left-fault : (code offset : ℕ) (after : List ℕ) →
-      sideReader source maxNodes unused σ at ≡ fault code offset →
+      nodesReader source maxNodes unused σ at ≡ fault code offset →
       WordsRead sideWords (ruleReader source unused σ at) index words (Fault offset code) after
   unfolding ruleReader
-  left-fault code offset after e = rw e
+  left-fault code offset after e = rw (light unused at, e)
 
   pub right-stored : (middle next : ℕ) (between : List ℕ) (used : ℕ) →
-      SideStored unused (sideReader source maxNodes unused σ at) index words (Got middle next) between used →
+      SideStored unused (nodesReader source maxNodes unused σ at) index words (Got middle next) between used →
       length between ≡ length words → (r : Answer) (after : List ℕ) (last : ℕ) →
-      SideStored used (sideReader source maxNodes used σ next) middle between r after last →
+      SideStored used (nodesReader source maxNodes used σ next) middle between r after last →
       WordsRead sideWords (ruleReader source unused σ at) index words r after
   unfolding ruleReader
   right-stored middle next between used (left, read, length-left, stored, u) same (Got end next') after last
       (right, read', length-right, stored', u') = (
         record { left = left; right = right },
-        rw (read, ← u, read'),
+        rw (light unused at, read, light (unusedAfterAll unused left) next, ← u, read'),
         simp length-append (omega arith),
         λ room. stored' (omega arith) ∙
             rw (length-left, stored (omega arith)) (sym (sets-append words index left right)),
       )
   right-stored middle next between used (left, read, length-left, stored, u) same (Fault offset code) after last read' =
-      rw (read, ← u, read')
+      rw (light unused at, read, light (unusedAfterAll unused left) next, ← u, read')

@@ -3,10 +3,12 @@
 --     unpacked-parts, unpacked-length     the header, the symbols and the rules, and how many words they are
 use mathlib.Core.Path.{_≡_, refl, ap, _∙_}
 use mathlib.Core.List.{List, [], _∷_, _++_, map, flatMap, map-append}
+use mathlib.Core.Bool.{false}
 use Prim.Native.Nat.{ℕ, _+_, _*_}
 use native.Mathlib.Omega.{arith}
 use lib.ListN.{length, length-append}
 use Rattle.terms.specs.Signature.{Symbol}
+use Rattle.format.specs.Forms.{hasCoefficients}
 use Rattle.format.specs.Format.{Sides, RuleFile}
 use Rattle.format.specs.Packing.{itemWord, symbolItems, ruleItems, items, unpacked}
 use Rattle.format.specs.Packing.Item.{node}
@@ -24,26 +26,30 @@ rules-items [] = refl
 rules-items (r ∷ rs) =
     rw (map-append node (sideWords r) (rulesWords rs), map-append node (r .left) (r .right), rules-items rs)
 
-symbols-words : (ss : List Symbol) → map itemWord (flatMap symbolItems ss) ≡ symbolsWords ss
+symbols-words : (form : ℕ) → hasCoefficients form ≡ false → (ss : List Symbol) →
+    map itemWord (flatMap (symbolItems form) ss) ≡ symbolsWords ss
 unfolding flatMap
-symbols-words [] = refl
-symbols-words (s ∷ ss) = map-append itemWord (symbolItems s) (flatMap symbolItems ss) ∙ rw (symbols-words ss)
+symbols-words form none [] = refl
+symbols-words form none (s ∷ ss) =
+    map-append itemWord (symbolItems form s) (flatMap (symbolItems form) ss) ∙ rw (none, symbols-words form none ss)
 
-pub unpacked-parts : (file : RuleFile) → unpacked file ≡ file .form ∷ length (file .signature .symbols)
+pub unpacked-parts : (file : RuleFile) → hasCoefficients (file .form) ≡ false → unpacked file ≡ file .form ∷ length
+    (file .signature .symbols)
     ∷ file .signature .w0 ∷ length (file .rules) ∷ (symbolsWords (file .signature .symbols) ++ rulesWords (file .rules))
 unfolding unpacked items
-unpacked-parts file =
+unpacked-parts file none =
     rw (
-      map-append itemWord (flatMap symbolItems (file .signature .symbols)) (flatMap ruleItems (file .rules)),
-      symbols-words (file .signature .symbols),
+      map-append itemWord (flatMap (symbolItems (file .form)) (file .signature .symbols))
+          (flatMap ruleItems (file .rules)),
+      symbols-words (file .form) none (file .signature .symbols),
       rules-items (file .rules),
       node-words (rulesWords (file .rules)),
     )
 
-pub unpacked-length : (file : RuleFile) →
+pub unpacked-length : (file : RuleFile) → hasCoefficients (file .form) ≡ false →
     length (unpacked file) ≡ 4 + 4 * length (file .signature .symbols) + length (rulesWords (file .rules))
-unpacked-length file =
-    ap length (unpacked-parts file)
+unpacked-length file none =
+    ap length (unpacked-parts file none)
     ∙ omega (
       arith,
       length-append (symbolsWords (file .signature .symbols)) (rulesWords (file .rules)),

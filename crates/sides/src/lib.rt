@@ -7,7 +7,8 @@ ghost use Rattle.terms.specs.Signature.{Signature};
 ghost use Rattle.terms.specs.Words.{firstVariable};
 ghost use Rattle.format.specs.Layout.{maxBytes, maxNodes};
 ghost use Rattle.format.specs.Reading.{bitSource};
-ghost use Rattle.format.specs.Format.{forestReader, sideReader, ruleReader};
+ghost use Rattle.format.specs.Statements.{Unscaled};
+ghost use Rattle.format.specs.Format.{forestReader, nodesReader, ruleReader};
 ghost use Rattle.symbols.specs.Arities.{Arities};
 ghost use Rattle.answers.specs.Answer.{answerOf, Within};
 ghost use Rattle.bits.specs.Cursor.{told, Ahead};
@@ -119,7 +120,7 @@ pub fn read_side(
     ensures { λ r. ⌜
         ((σ : Signature) → Arities σ (now (arities .entry)) →
         SideRead (now (unused .entry))
-        (sideReader (bitSource (now (book .entry))) maxNodes (now (unused .entry)) σ (cursor .at)) (told r)
+        (nodesReader (bitSource (now (book .entry))) maxNodes (now (unused .entry)) σ (cursor .at)) (told r)
         (now (words .exit)) (now (unused .exit)))
         ⌝ }
     ensures { λ r. ⌜ Within maxNodes (8 * length (now (book .entry))) (told r) ⌝ }
@@ -178,7 +179,7 @@ fn read_side_into(
     ensures { λ r. ⌜
         ((σ : Signature) → Arities σ (now (arities .entry)) →
         SideStored (now (unused .entry))
-        (sideReader (bitSource (now (book .entry))) maxNodes (now (unused .entry)) σ (cursor .at))
+        (nodesReader (bitSource (now (book .entry))) maxNodes (now (unused .entry)) σ (cursor .at))
         index (now (words .entry)) (told r) (now (words .exit)) (now (unused .exit)))
         ⌝ }
     ensures { λ r. ⌜ Within (index + maxNodes) (8 * length (now (book .entry))) (told r) ⌝ }
@@ -207,7 +208,7 @@ pub fn read_rule_into(
     requires { ⌜ (length (now book) ≤ maxBytes) × (cursor .at ≤ 8 * length (now book)) × (index + maxNodes < 2 ^ 32) ⌝ }
     requires { ⌜ unused ≤ 16 ⌝ }
     ensures { λ r. ⌜
-        ((σ : Signature) → Arities σ (now (arities .entry)) →
+        ((σ : Signature) → Arities σ (now (arities .entry)) → Unscaled σ →
         WordsRead sideWords (ruleReader (bitSource (now (book .entry))) unused σ (cursor .at))
         index (now (words .entry)) (told r) (now (words .exit)))
         ⌝ }

@@ -1,7 +1,8 @@
 -- The ranks of the symbols of a table, one by one.
 --     Unranked: unranked-none, unranked-more, unranked-found, unranked-done     a search for a higher rank
+--     outranked-layout                          the words for coefficients have no part in it
 --     Searched: searched-none, searched-more, searched-found, searched-done     a search for a symbol that is outranked
-use mathlib.Core.Path.{_≡_, _∙_}
+use mathlib.Core.Path.{_≡_, refl, _∙_}
 use mathlib.Core.List.{List}
 use mathlib.Core.Bool.{Bool, true, false, _&&_}
 use Prim.Native.Nat.{ℕ, suc, zero, _+_, _-_, _*_, _≤_, _<_}
@@ -13,7 +14,7 @@ use lib.ListN.{getD}
 use borrow.Author.Tests.{lt-ltb, le-ltb}
 use Rattle.terms.specs.Signature.{Symbol}
 use Rattle.format.specs.Symbols.{outranks, outrankedFrom, firstOutranked}
-use Rattle.symbols.specs.Table.{symbolAt, symbolsAt}
+use Rattle.symbols.specs.Table.{symbolsIn, symbolAt, symbolsAt}
 
 module _ (table : List ℕ) (count : ℕ) where
   module _ (rank : ℕ) where
@@ -74,3 +75,18 @@ module _ (table : List ℕ) (count : ℕ) where
       let n : count - f ≡ 0 = omega arith in
       let z : outrankedFrom symbols (symbolsAt table f (count - f)) ≡ 0 = rw n in
       omega arith
+
+-- ---- with and without coefficients
+
+module _ (a b : Bool) (table : List ℕ) where
+  outranks-layout : (f n rank : ℕ) → outranks (symbolsIn a table f n) rank ≡ outranks (symbolsIn b table f n) rank
+  outranks-layout f zero rank = refl
+  outranks-layout f (suc n) rank = rw (outranks-layout (suc f) n rank)
+
+  from-layout : (f m g n : ℕ) → outrankedFrom (symbolsIn a table f m) (symbolsIn a table g n)
+      ≡ outrankedFrom (symbolsIn b table f m) (symbolsIn b table g n)
+  from-layout f m g zero = refl
+  from-layout f m g (suc n) = rw (outranks-layout f m (getD table (4 * g + 7) 0), from-layout f m (suc g) n)
+
+  pub outranked-layout : (n : ℕ) → firstOutranked (symbolsIn a table 0 n) ≡ firstOutranked (symbolsIn b table 0 n)
+  outranked-layout n = from-layout 0 n 0 n

@@ -1,10 +1,10 @@
 // The words of a symbol table: how many there are, and storing them.
 ghost use mathlib.Core.Path.{_≡_};
 ghost use mathlib.Core.List.{[], _∷_};
-ghost use Prim.Native.Nat.{_+_, _≤_, _<_};
+ghost use Prim.Native.Nat.{_+_, _^_, _≤_, _<_};
 ghost use lib.ListN.{length};
 ghost use lib.Seq.{sets};
-ghost use Rattle.symbols.specs.Table.{signatureOf, tableWords, maxTableWords};
+ghost use Rattle.symbols.specs.Table.{scaledWords, signatureOf, tableWords, maxTableWords};
 
 // How many words a symbol table may have.
 pub const TABLE_WORDS: usize = 4 + 4 * format::MAX_SYMBOLS;
@@ -49,7 +49,7 @@ pub fn put_header(table: &mut [u16], form: u16, symbols: u16, w0: u16, rules: u1
     put_four(table, 0, form, symbols, w0, rules);
 }
 
-// Stores the entry of the symbol of that number, after those before it.
+// Stores the entry of the symbol of that number, after those before it, where symbols have no coefficients.
 pub fn put_symbol(table: &mut [u16], number: usize, arity: u16, ac: u16, weight: u16, rank: u16)
     requires { ⌜ (number < 256) × (tableWords (number + 1) ≤ length (now table)) ⌝ }
     ensures { λ _. ⌜
@@ -57,4 +57,26 @@ pub fn put_symbol(table: &mut [u16], number: usize, arity: u16, ac: u16, weight:
         ⌝ }
 {
     put_four(table, front(number), arity, ac, weight, rank);
+}
+
+// Stores it with its coefficients, whose digits the row has.
+pub fn put_scaled_symbol(
+    table: &mut [u16],
+    number: usize,
+    arity: u16,
+    ac: u16,
+    weight: u16,
+    rank: u16,
+    row: u64,
+)
+    requires { ⌜ (number < 256) × (tableWords (number + 1) ≤ length (now table)) ⌝ }
+    requires { ⌜ (arity < 8) × (ac < 2) × (row < 2 ^ 28) ⌝ }
+    ensures { λ _. ⌜
+        now (table .exit)
+        ≡ sets (now (table .entry)) (tableWords number) (scaledWords arity ac weight rank row)
+        ⌝ }
+{
+    let first = 8 * (row / 32768) as u16 + arity;
+    let second = 2 * (row % 32768) as u16 + ac;
+    put_four(table, front(number), first, second, weight, rank);
 }

@@ -1,12 +1,13 @@
 // The decoded symbol table: access to a symbol by its number. Only these functions know how the words lie.
 ghost use mathlib.Core.Path.{_≡_};
-ghost use mathlib.Core.Bool.{not, _&&_, _||_};
+ghost use mathlib.Core.Bool.{not, _&&_, _||_, cond};
 ghost use Prim.Native.Nat.{_+_, _*_, _^_, _≤_, _<_};
 ghost use lib.Dec.{eqb};
 ghost use lib.ListN.{length, getD};
 ghost use Rattle.terms.specs.Signature.{Signature, symbolOf};
 ghost use Rattle.format.specs.Layout.{firstForm};
-ghost use Rattle.symbols.specs.Table.{signatureOf, maxTableWords};
+ghost use Rattle.format.specs.Forms.{hasCoefficients};
+ghost use Rattle.symbols.specs.Table.{spelled, sevenOnes, rowAt, formOf, signatureOf, maxTableWords};
 ghost use Rattle.symbols.specs.Arities.{Arities, Between};
 use format::FIRST_FORM;
 use format::FIRST_VARIABLE;
@@ -19,6 +20,7 @@ pub use crate::entries::TABLE_WORDS;
 pub use crate::entries::count;
 pub use crate::entries::front;
 pub use crate::entries::put_header;
+pub use crate::entries::put_scaled_symbol;
 pub use crate::entries::put_symbol;
 pub use crate::ranks::first_outranked;
 
@@ -43,16 +45,23 @@ pub fn word_at(words: &[u16], index: usize) -> u16
     if index < words.len() { words[index] } else { 0 }
 }
 
+// Whether symbols have coefficients; else all are 1.
+pub fn has_coefficients(table: &[u16]) -> bool
+    ensures { λ r. ⌜ r ≡ hasCoefficients (formOf (now (table .entry))) ⌝ }
+{
+    word_at(table, 0) == format::COEFFICIENT_FORM
+}
+
 pub fn arity(table: &[u16], f: u16) -> usize
     ensures { λ r. ⌜ (r ≡ symbolOf (signatureOf (now (table .entry))) f .arity) × (r < 65536) ⌝ }
 {
-    wide(word_at(table, 4 * wide(f) + 4))
+    wide(word_at(table, 4 * wide(f) + 4) % 8)
 }
 
 pub fn is_ac(table: &[u16], f: u16) -> bool
     ensures { λ r. ⌜ r ≡ symbolOf (signatureOf (now (table .entry))) f .ac ⌝ }
 {
-    word_at(table, 4 * wide(f) + 5) == 1
+    word_at(table, 4 * wide(f) + 5) % 2 == 1
 }
 
 pub fn weight(table: &[u16], f: u16) -> u64
@@ -65,6 +74,29 @@ pub fn precedence(table: &[u16], f: u16) -> u16
     ensures { λ r. ⌜ r ≡ symbolOf (signatureOf (now (table .entry))) f .precedence ⌝ }
 {
     word_at(table, 4 * wide(f) + 7)
+}
+
+// Seven digits, of which a symbol's coefficients are the last ones.
+fn last_digits(table: &[u16], f: u16) -> u64
+    ensures { λ r. ⌜
+        (r ≡ cond (hasCoefficients (formOf (now (table .entry)))) (rowAt (now (table .entry)) f) sevenOnes)
+        × (r < 2 ^ 28)
+        ⌝ }
+{
+    if has_coefficients(table) {
+        let first = 4 * wide(f) + 4;
+        return 32768 * long(word_at(table, first) / 8) + long(word_at(table, first + 1) / 2);
+    }
+    0x1111111
+}
+
+// The coefficients of a symbol, a hexadecimal digit each, the last argument's lowest.
+pub fn row(table: &[u16], f: u16) -> u64
+    ensures { λ r. ⌜
+        (r ≡ spelled (symbolOf (signatureOf (now (table .entry))) f .coefficients)) × (r < 2 ^ 28)
+        ⌝ }
+{
+    last_digits(table, f) % (1u64 << (4 * arity(table, f)))
 }
 
 // The weight of a variable.
@@ -103,7 +135,7 @@ fn put_symbol_cells(table: &[u16], cells: &mut [u32; NODE_WORDS], count: usize)
 {
     let mut f = 0;
     while f < count {
-        cells[f] = wide(table[4 * f + 4]) as u32 + 1;
+        cells[f] = wide(table[4 * f + 4] % 8) as u32 + 1;
         f += 1;
     }
 }

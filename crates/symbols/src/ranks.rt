@@ -30,7 +30,7 @@ fn is_too_low(table: &[u16], count: usize, f: usize) -> bool
         && outranks (symbolsAt (now (table .entry)) 0 count) (symbolAt (now (table .entry)) f .precedence)))
         ⌝ }
 {
-    if word_at(table, 4 * f + 4) != 1 {
+    if word_at(table, 4 * f + 4) % 8 != 1 {
         return false;
     }
     if word_at(table, 4 * f + 6) != 0 {

@@ -4,6 +4,7 @@ use crate::digits::occurrence;
 ghost use mathlib.Core.Path.{_≡_};
 ghost use Prim.Native.Nat.{_≤_};
 ghost use lib.ListN.{length, replicate};
+ghost use Rattle.terms.specs.Signature.{Ones};
 ghost use Rattle.symbols.specs.Table.{signatureOf, maxTableWords};
 ghost use Rattle.weights.specs.Nodes.{nodeSumsLength, NodeSums, Weighed, Occurring};
 
@@ -40,10 +41,11 @@ fn put_variables(table: &[u16], adds: &mut [u64; NODE_SUMS])
     }
 }
 
-// Stores what each node word adds to the sums, where nothing is stored yet. They are lent, since as an answer they
-// would be copied.
+// Stores what each node word adds to the sums, where nothing is stored yet and every coefficient is 1. They are lent,
+// since as an answer they would be copied.
 pub fn put_node_sums(table: &[u16], adds: &mut [u64; NODE_SUMS])
-    requires { ⌜ (length (now table) ≤ maxTableWords) × (now adds ≡ replicate nodeSumsLength 0) ⌝ }
+    requires { ⌜ (length (now table) ≤ maxTableWords) × Ones (signatureOf (now table)) ⌝ }
+    requires { ⌜ now adds ≡ replicate nodeSumsLength 0 ⌝ }
     ensures { λ _. ⌜ NodeSums (signatureOf (now (table .entry))) (now (adds .exit)) ⌝ }
 {
     put_weights(table, adds, symbols::count(table));

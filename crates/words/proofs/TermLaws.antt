@@ -26,7 +26,9 @@ use Rattle.format.specs.Layout.{maxNodes}
 use Rattle.format.specs.Reading.{Reading, Node, wordSource, wordBelow}
 use Rattle.format.specs.Reading.Reading.{got, fault}
 use Rattle.format.specs.Forms.{allUsed}
-use Rattle.format.specs.Format.{forestReader, sideReader}
+use Rattle.format.specs.Format.{forestReader, nodesReader, sideReader}
+use Rattle.format.specs.Statements.{Unscaled}
+use Rattle.format.proofs.LightLaws.{unscaled-side}
 use Rattle.format.specs.Files.{readFirstTerm, readTerm}
 use Rattle.format.proofs.ForestLaws.{before, nothing-owed, none-allowed, node-fault, out-of-turn}
 use Rattle.format.proofs.SideLaws.{forest-short}
@@ -214,6 +216,10 @@ module _ (words : List ℕ) (σ : Signature) where
 
   abbrev answer : Reading (List ℕ) → Answer
   answer = answered (unusedAfterAll allUsed)
+
+  -- No term is too heavy under a signature without coefficients.
+  pub front-light : Unscaled σ → answer first ≡ answer (nodesReader (wordSource words) maxNodes allUsed σ 0)
+  front-light plain = ap answer (unscaled-side σ plain (wordSource words) maxNodes allUsed 0 (omega arith))
 
   pub front-fault : (whole : Bool) (code offset : ℕ) → answer first ≡ Fault offset code →
       Fault offset code ≡ endOf (readerOf whole σ words)

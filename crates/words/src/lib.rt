@@ -10,7 +10,8 @@ ghost use Rattle.terms.specs.FirstUse.{unusedAfterAll};
 ghost use Rattle.format.specs.Errors.{fieldMissing, tooManyNodes};
 ghost use Rattle.format.specs.Layout.{maxNodes};
 ghost use Rattle.format.specs.Reading.{wordBelow, wordSource};
-ghost use Rattle.format.specs.Format.{forestReader, sideReader};
+ghost use Rattle.format.specs.Format.{forestReader, nodesReader};
+ghost use Rattle.format.specs.Statements.{Unscaled};
 ghost use Rattle.symbols.specs.Arities.{Arities};
 ghost use Rattle.answers.specs.Answer.{readingOf, Below, answered, answerOf, endOf};
 ghost use Rattle.words.specs.Terms.{nodeError, readerOf};
@@ -136,7 +137,7 @@ pub fn term(
     requires { ⌜ (at ≤ 2 ^ 20) × (unused ≤ 16) × (most ≤ maxNodes) ⌝ }
     ensures { λ r. ⌜
         ((σ : Signature) → Arities σ (now (arities .entry)) →
-        r ≡ answered (unusedAfterAll unused) (sideReader (wordSource (now (words .entry))) most unused σ at))
+        r ≡ answered (unusedAfterAll unused) (nodesReader (wordSource (now (words .entry))) most unused σ at))
         ⌝ }
     ensures { λ r. ⌜ Below 17 r ⌝ }
 {
@@ -151,7 +152,8 @@ pub fn term(
 // Reads the term at the front of the words, which is to be all of them where that is asked, and gives its end.
 pub fn front_term(arities: &[u32; NODE_WORDS], words: &[u16], whole: bool) -> Answer
     ensures { λ r. ⌜
-        ((σ : Signature) → Arities σ (now (arities .entry)) → r ≡ endOf (readerOf whole σ (now (words .entry))))
+        ((σ : Signature) → Arities σ (now (arities .entry)) → Unscaled σ →
+        r ≡ endOf (readerOf whole σ (now (words .entry))))
         ⌝ }
 {
     let read = term(arities, words, format::MAX_NODES, format::VARIABLES, 0);

@@ -18,7 +18,7 @@ add-total c =
     let c12 = c6 .before .before .before .before .before .before in
     let a = c12 .args in
     let (file, end, read, parts) = rw (c .before .read .given .1) at (c6 .read-packed .ensures) in
-    omega (arith, parts .few, nodes-few (a .book .now) _ (a .nodes .now) _ file _ _ parts (c12 .pre))
+    omega (arith, parts .few, nodes-few (a .book .now) _ (a .nodes .now) _ file _ _ parts (c12 .pre .0))
 
 returns-2 : tie.Need-returns-2
 returns-2 c =
@@ -36,7 +36,7 @@ put-sheet-requires c κs =
     let c16 = c10 .before .before .before .before .before .before in
     let a = c16 .args in
     let (file, end, read, parts) = rw (c5 .read .given .1) at (c10 .read-packed .ensures) in
-    let few = nodes-few (a .book .now) _ (a .nodes .now) _ file _ _ parts (c16 .pre) in (
+    let few = nodes-few (a .book .now) _ (a .nodes .now) _ file _ _ parts (c16 .pre .0) in (
       omega (arith, parts .few, c10 .read-packed .kept .1 .1 .0),
       omega (arith, few, c10 .read-packed .kept .1 .1 .1 .0),
       omega arith,
@@ -49,7 +49,7 @@ returns-3 c =
     let c19 = c13 .before .before .before .before .before .before in
     let a = c19 .args in
     let (file, end, read, parts) = rw (c8 .read .given .1) at (c13 .read-packed .ensures) in
-    sheet-stored (a .book .now) _ (a .nodes .now) _ file _ _ parts (c19 .pre) (a .words .now) _ end _ read
+    sheet-stored (a .book .now) _ (a .nodes .now) _ file _ _ parts (c19 .pre .0) (a .words .now) _ end _ read
     (omega arith) (c .before .before .put-sheet .ensures)
 
 pub unpack-through-spec : {M : Type 1} → statement M

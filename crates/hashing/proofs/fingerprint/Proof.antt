@@ -23,8 +23,7 @@ slice-aggregate-fingerprint-under c =
 fingerprint-under-requires : tie.Need-fingerprint-under-requires
 fingerprint-under-requires c κs =
     let c5 = c .before .before .before .before .before in
-    let b = rw (c .before .before .next .given .1) at (c5 .read-book .ensures) in
-    omega (arith, b .few, length-take-le _ (c5 .read-book .last .1 .0) (b .room))
+    (rw (c .before .before .next .given .1) at (c5 .read-book .ensures)) .decoded
 
 returns : tie.Need-returns
 returns c =

@@ -14,7 +14,7 @@ returns c =
     let a = c10 .args in
     let σ = signatureOf (a .table .now) in
     rw (c .refusal .ensures) (left-fault (a .whole) (a .table .now) (a .left .now) (a .right .now) _ _
-    (sym (c .before .before .offset .given .1) ∙ c4 .front-term .ensures σ (c6 .arities .ensures)))
+    (sym (c .before .before .offset .given .1) ∙ c4 .front-term .ensures σ (c6 .arities .ensures) (c10 .pre .unscaled)))
 
 returns-2 : tie.Need-returns-2
 returns-2 c =
@@ -26,8 +26,9 @@ returns-2 c =
     let a = c15 .args in
     let σ = signatureOf (a .table .now) in
     rw (c .refusal2 .ensures) (right-fault (a .whole) (a .table .now) (a .left .now) (a .right .now) _ _
-    (sym (c7 .l .given .1) ∙ c9 .front-term .ensures σ (c11 .arities .ensures)) _ _
-    (sym (c .before .before .offset2 .given .1) ∙ c4 .front-term2 .ensures σ (c11 .arities .ensures)))
+    (sym (c7 .l .given .1) ∙ c9 .front-term .ensures σ (c11 .arities .ensures) (c15 .pre .unscaled)) _ _
+    (sym (c .before .before .offset2 .given .1) ∙ c4 .front-term2 .ensures σ (c11 .arities .ensures)
+    (c15 .pre .unscaled)))
 
 returns-3 : tie.Need-returns-3
 returns-3 c =
@@ -40,8 +41,9 @@ returns-3 c =
     let σ = signatureOf (a .table .now) in (
       refl,
       terms-read (a .whole) (a .table .now) (a .left .now) (a .right .now) _ _
-          (sym (c6 .l .given .1) ∙ c8 .front-term .ensures σ (c10 .arities .ensures)) _ _
-          (sym (c .before .r .given .1) ∙ c3 .front-term2 .ensures σ (c10 .arities .ensures)) (c14 .pre),
+          (sym (c6 .l .given .1) ∙ c8 .front-term .ensures σ (c10 .arities .ensures) (c14 .pre .unscaled)) _ _
+          (sym (c .before .r .given .1) ∙ c3 .front-term2 .ensures σ (c10 .arities .ensures) (c14 .pre .unscaled))
+          (c14 .pre),
     )
 
 pub read-terms-spec : {M : Type 1} → statement M

@@ -24,7 +24,8 @@ returns-2 c form taken =
     let c8 = c5 .before .before .before in
     let a = c8 .args in
     let σ = signatureOf (a .table .now) in
-    let unread = rw (c .enum-told .given .1) at (c2 .skip-rules .ensures .0 σ (c4 .arities .ensures)) in
+    let unread = rw (c .enum-told .given .1) at (c2 .skip-rules .ensures .0 σ (c4 .arities .ensures)
+    (c8 .pre .1 .unscaled)) in
     standing-unread (a .book .now) form taken σ (a .count) (a .first .at) (a .marked) _ _
     (unread (a .count) (omega (arith, c5 .if1 .left)))
 
@@ -47,9 +48,11 @@ returns-3 c form taken =
     let a = c13 .args in
     let σ = signatureOf (a .table .now) in
     let few = c10 .if1 .left in
-    let marked = rw (c5 .cursor .given .1) at (c7 .skip-rules .ensures .0 σ (c9 .arities .ensures)) in
+    let marked = rw (c5 .cursor .given .1) at (c7 .skip-rules .ensures .0 σ (c9 .arities .ensures)
+    (c13 .pre .1 .unscaled)) in
     let (done, so) = marked (a .count) (omega (arith, few)) in
-    let unread = rw (c .enum-told2 .given .1) at (c2 .skip-rules2 .ensures .0 σ (c9 .arities .ensures)) in
+    let unread = rw (c .enum-told2 .given .1) at (c2 .skip-rules2 .ensures .0 σ (c9 .arities .ensures)
+    (c13 .pre .1 .unscaled)) in
     standing-cut (a .book .now) form taken σ (a .count) (a .first .at) (a .marked) (omega (arith, few)) done _ so _ _
     (unread (a .count - a .marked) (omega arith))
 
@@ -66,10 +69,12 @@ returns-4 c form taken =
     let a = c17 .args in
     let σ = signatureOf (a .table .now) in
     let few = c14 .if1 .left in
-    let marked = rw (c9 .cursor .given .1) at (c11 .skip-rules .ensures .0 σ (c13 .arities .ensures)) in
+    let marked = rw (c9 .cursor .given .1) at (c11 .skip-rules .ensures .0 σ (c13 .arities .ensures)
+    (c17 .pre .1 .unscaled)) in
     let within = rw (c9 .cursor .given .1) at (c11 .skip-rules .ensures .1) in
     let (done, so) = marked (a .count) (omega (arith, few)) in
-    let others = rw (c4 .cursor2 .given .1) at (c6 .skip-rules2 .ensures .0 σ (c13 .arities .ensures)) in
+    let others = rw (c4 .cursor2 .given .1) at (c6 .skip-rules2 .ensures .0 σ (c13 .arities .ensures)
+    (c17 .pre .1 .unscaled)) in
     let (rest, last) = others (a .count - a .marked) (omega arith) in
     standing-left (a .book .now) form taken σ (a .count) (a .first .at) (a .marked) (omega (arith, few)) done _ so rest
     _ last (sym (c2 .is-padding .ensures) ∙ c .before .if2 .taken) (within .1) (c .if3 .taken)
@@ -87,9 +92,11 @@ returns-5 c form taken =
     let a = c17 .args in
     let σ = signatureOf (a .table .now) in
     let few = c14 .if1 .left in
-    let marked = rw (c9 .cursor .given .1) at (c11 .skip-rules .ensures .0 σ (c13 .arities .ensures)) in
+    let marked = rw (c9 .cursor .given .1) at (c11 .skip-rules .ensures .0 σ (c13 .arities .ensures)
+    (c17 .pre .1 .unscaled)) in
     let (done, so) = marked (a .count) (omega (arith, few)) in
-    let others = rw (c4 .cursor2 .given .1) at (c6 .skip-rules2 .ensures .0 σ (c13 .arities .ensures)) in
+    let others = rw (c4 .cursor2 .given .1) at (c6 .skip-rules2 .ensures .0 σ (c13 .arities .ensures)
+    (c17 .pre .1 .unscaled)) in
     let (rest, last) = others (a .count - a .marked) (omega arith) in
     standing-done (a .book .now) form taken σ (a .count) (a .first .at) (a .marked) (omega (arith, few)) done _ so rest
     _ last (sym (c2 .is-padding .ensures) ∙ c .before .if2 .taken) (c .if3 .left)
@@ -106,9 +113,11 @@ returns-6 c form taken =
     let a = c16 .args in
     let σ = signatureOf (a .table .now) in
     let few = c13 .if1 .left in
-    let marked = rw (c8 .cursor .given .1) at (c10 .skip-rules .ensures .0 σ (c12 .arities .ensures)) in
+    let marked = rw (c8 .cursor .given .1) at (c10 .skip-rules .ensures .0 σ (c12 .arities .ensures)
+    (c16 .pre .1 .unscaled)) in
     let (done, so) = marked (a .count) (omega (arith, few)) in
-    let others = rw (c3 .cursor2 .given .1) at (c5 .skip-rules2 .ensures .0 σ (c12 .arities .ensures)) in
+    let others = rw (c3 .cursor2 .given .1) at (c5 .skip-rules2 .ensures .0 σ (c12 .arities .ensures)
+    (c16 .pre .1 .unscaled)) in
     let (rest, last) = others (a .count - a .marked) (omega arith) in
     standing-unended (a .book .now) form taken σ (a .count) (a .first .at) (a .marked) (omega (arith, few)) done _ so
     rest _ last (sym (c .before .is-padding .ensures) ∙ c .if2 .left)

@@ -31,7 +31,7 @@ find-after-requires c κs =
     let c6 = c3 .before .before .before in
     let head = rw (c3 .value .given .1) at (c6 .read-head .ensures) in (
       (head .short, head .within),
-      rw (c .before .front .ensures .0) (head .decoded .short),
+      rw (c .before .front .ensures .0) (head .decoded),
     )
 
 returns : tie.Need-returns

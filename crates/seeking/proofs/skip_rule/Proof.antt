@@ -22,7 +22,7 @@ returns c =
     let a = c5 .before .before .args in
     let fault = c .enum-told .given .1 in
     rw fault (
-      λ σ k. left-unread σ (bitSource (a .book .now)) (unusedOf formNumber) (a .cursor .at) _ _
+      λ σ k plain. left-unread σ plain (bitSource (a .book .now)) (unusedOf formNumber) (a .cursor .at) _ _
           (rw (fault, c5 .unused-at-start .ensures .0) at (c2 .read-side .ensures .0 σ k)),
       tt,
     )
@@ -42,8 +42,9 @@ returns-2 c =
     let c9 = c6 .before .before .before in
     let a = c9 .before .before .args in
     let second = c .read-side2 in (
-      λ σ k. let (e, u) = rw (c4 .read .given .1, c9 .unused-at-start .ensures .0) at (c6 .read-side .ensures .0 σ k) in
-          rule-skipped σ (bitSource (a .book .now)) (unusedOf formNumber) (a .cursor .at) _ _ _ e u
+      λ σ k plain. let (e, u) = rw (c4 .read .given .1, c9 .unused-at-start .ensures .0) at
+          (c6 .read-side .ensures .0 σ k) in
+          rule-skipped σ plain (bitSource (a .book .now)) (unusedOf formNumber) (a .cursor .at) _ _ _ e u
           (told (second .result)) _ _ (second .ensures .0 σ k),
       second .ensures .1 .0,
     )

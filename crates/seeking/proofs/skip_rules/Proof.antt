@@ -6,6 +6,7 @@ use native.Mathlib.Omega.{arith}
 use lib.ListN.{length}
 use Rattle.terms.specs.Signature.{Signature}
 use Rattle.format.specs.Layout.{formNumber}
+use Rattle.format.specs.Statements.{Unscaled}
 use Rattle.format.specs.Reading.{bitSource}
 use Rattle.format.specs.Forms.{unusedOf}
 use Rattle.format.specs.Format.{Sides}
@@ -18,7 +19,7 @@ use Rattle.seeking.proofs.skip_rules.Tie as tie
 abbrev Inv-loop : tie.InvT-loop
 Inv-loop book arities count here₀ i₀ here i =
     (i ≤ count) × (here .at ≤ 8 * length book)
-    × ((σ : Signature) → Arities σ arities → (total : ℕ) → count ≤ total →
+    × ((σ : Signature) → Arities σ arities → Unscaled σ → (total : ℕ) → count ≤ total →
     (done : List Sides) × Done (bitSource book) (unusedOf formNumber) σ total (here₀ .at) i (here .at) done)
 
 abbrev μ-loop : tie.MeasureT-loop
@@ -29,7 +30,7 @@ loop-holds c =
     let a = c .before .args in (
       omega arith,
       c .before .pre .1,
-      λ σ k total h. ([], done-none (bitSource (a .book .now)) (unusedOf formNumber) σ total (a .cursor .at)),
+      λ σ k plain total h. ([], done-none (bitSource (a .book .now)) (unusedOf formNumber) σ total (a .cursor .at)),
     )
 
 skip-rule-requires : tie.Need-skip-rule-requires Inv-loop μ-loop
@@ -41,10 +42,10 @@ returns c =
     let c5 = c3 .before .before in
     let a = c5 .before .before .args in
     let l = c5 .loop in (
-      λ σ k total h. let (done, d) = l .inv .2 σ k total h in
+      λ σ k plain total h. let (done, d) = l .inv .2 σ k plain total h in
           done-fault (bitSource (a .book .now)) (unusedOf formNumber) σ total (a .cursor .at) (l .i) (l .here .at) done
           d (omega (arith, c3 .before .loop-test .taken)) _ _
-          (rw (c .before .offset .given .1) at (c3 .skip-rule .ensures .0 σ k)),
+          (rw (c .before .offset .given .1) at (c3 .skip-rule .ensures .0 σ k plain)),
       tt,
     )
 
@@ -57,8 +58,8 @@ loop-again c =
     let within = rw (c .before .cursor .given .1) at (c3 .skip-rule .ensures .1) in (
       omega arith,
       within .1,
-      λ σ k total h. let (done, d) = l .inv .2 σ k total h in
-          let (r, read) = rw (c .before .cursor .given .1) at (c3 .skip-rule .ensures .0 σ k) in (
+      λ σ k plain total h. let (done, d) = l .inv .2 σ k plain total h in
+          let (r, read) = rw (c .before .cursor .given .1) at (c3 .skip-rule .ensures .0 σ k plain) in (
             done ++ (r ∷ []),
             done-more (bitSource (a .book .now)) (unusedOf formNumber) σ total (a .cursor .at) (l .i) (l .here .at) done
                 d (omega (arith, c3 .before .loop-test .taken)) r _ read,
@@ -69,8 +70,8 @@ returns-2 : tie.Need-returns-2 Inv-loop μ-loop
 returns-2 c =
     let a = c .before .before .before .args in
     let l = c .before .loop in (
-      λ σ k total h. let e : l .i ≡ a .count = omega (arith, c .loop-test .left) in
-          let (done, d) = l .inv .2 σ k total h in (done, rw (← e) d),
+      λ σ k plain total h. let e : l .i ≡ a .count = omega (arith, c .loop-test .left) in
+          let (done, d) = l .inv .2 σ k plain total h in (done, rw (← e) d),
       (omega arith, l .inv .1),
     )
 

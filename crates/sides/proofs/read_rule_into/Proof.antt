@@ -14,7 +14,8 @@ returns c =
     let a = c9 .args in
     let fault = c .enum-told .given .1 in
     rw fault (
-      λ σ k. left-fault (bitSource (a .book .now)) (a .unused) σ (a .cursor .at) (a .index) (a .words .now) _ _
+      λ σ k plain. left-fault (bitSource (a .book .now)) (a .unused) σ plain (a .cursor .at) (a .index)
+          (a .words .now) _ _
           (a .words .now) (rw fault at (c4 .read-side-into .ensures .0 σ k)),
       tt,
     )
@@ -38,7 +39,8 @@ returns-2 c =
     let first = c10 .read-side-into in
     let second = c .before .before .read-side-into2 in
     let within = rw read at (first .ensures .1 .0) in (
-      λ σ k. right-stored (bitSource (a .book .now)) (a .unused) σ (a .cursor .at) (a .index) (a .words .now) _ _
+      λ σ k plain. right-stored (bitSource (a .book .now)) (a .unused) σ plain (a .cursor .at) (a .index)
+          (a .words .now) _ _
           (first .last .1 .1 .0) (first .last .1 .1 .1 .0) (rw read at (first .ensures .0 σ k))
           (first .kept .1 .1 .0) (told (second .result)) (second .last .1 .1 .0) (second .last .1 .1 .1 .0)
           (second .ensures .0 σ k),

@@ -3,7 +3,7 @@ use mathlib.Core.Path.{refl}
 use native.Mathlib.Omega.{arith}
 use Rattle.format.specs.Layout.{maxNodes}
 use Rattle.format.specs.Reading.{bitSource}
-use Rattle.format.specs.Format.{sideReader}
+use Rattle.format.specs.Format.{nodesReader}
 use Rattle.answers.specs.Answer.{answerOf}
 use Rattle.sides.proofs.SideLaws.{side-read}
 use borrow.Author.Needs.{needs}
@@ -30,7 +30,7 @@ returns c =
     rw (c .read-of .ensures) (
       λ σ k. side-read (a .unused .now) (a .words .now) (read .last .1 .1 .0) (read .last .1 .1 .1 .0) _
           (answerOf (read .result) (read .last .1 .1 .1 .1 .0) (read .last .1 .1 .1 .1 .1 .0))
-          (sideReader (bitSource (a .t1 .now)) maxNodes (a .unused .now) σ (a .cursor .at)) (c10 .pre .1 .0) refl
+          (nodesReader (bitSource (a .t1 .now)) maxNodes (a .unused .now) σ (a .cursor .at)) (c10 .pre .1 .0) refl
           (read .ensures .0 σ k (a .unused .now) refl),
       (read .ensures .1 .0, (read .ensures .1 .1 .0, omega (arith, read .ensures .1 .1 .2))),
     )

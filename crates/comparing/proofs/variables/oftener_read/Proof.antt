@@ -1,5 +1,4 @@
 -- Both terms are summed up, and the test is over their counts.
-use Rattle.symbols.proofs.TableLaws.{table-ones}
 use borrow.Author.Needs.{needs}
 use Rattle.comparing.proofs.variables.oftener_read.Statement.{statement}
 use Rattle.comparing.proofs.variables.oftener_read.Tie as tie
@@ -7,9 +6,10 @@ use Rattle.comparing.proofs.variables.oftener_read.Tie as tie
 returns : tie.Need-returns
 returns c =
     let c3 = c .before .before .before in
+    let c10 = c3 .before .before .before .before .before .before .before in
     let A = c3 .total .ensures in
     let B = c .before .total2 .ensures in
-    c .first-oftener .ensures _ (table-ones _) _ _ (A .counted) (B .counted)
+    c .first-oftener .ensures _ (c10 .pre .symbols .unscaled .ones) _ _ (A .counted) (B .counted)
 
 pub oftener-read-spec : {M : Type 1} → statement M
 oftener-read-spec =

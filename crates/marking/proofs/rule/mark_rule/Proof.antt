@@ -38,7 +38,7 @@ returns c =
     let σ = signatureOf (a .table .now) in
     let e = rw (c .before .offset .given .1, c6 .unused-at-start .ensures .0)
     at (c3 .read-side .ensures .0 σ (c9 .pre .1 .1)) in
-    (left-unread σ (bitSource (a .book .now)) (unusedOf formNumber) (a .cursor .at) _ _ e, tt)
+    (left-unread σ (c9 .pre .1 .0 .unscaled) (bitSource (a .book .now)) (unusedOf formNumber) (a .cursor .at) _ _ e, tt)
 
 returns-2 : tie.Need-returns-2
 returns-2 c =
@@ -50,7 +50,8 @@ returns-2 c =
     let σ = signatureOf (a .table .now) in
     let (e, u) = rw (c3 .value .given .1, c8 .unused-at-start .ensures .0)
     at (c5 .read-side .ensures .0 σ (c11 .pre .1 .1)) in (
-      rule-marked σ (bitSource (a .book .now)) (unusedOf formNumber) (a .cursor .at) _ _ _ e u (c .mark-right .result)
+      rule-marked σ (c11 .pre .1 .0 .unscaled) (bitSource (a .book .now)) (unusedOf formNumber) (a .cursor .at) _ _ _
+          e u (c .mark-right .result)
           (c .mark-right .ensures .0),
       c .mark-right .ensures .1,
     )

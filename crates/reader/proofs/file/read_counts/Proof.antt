@@ -64,10 +64,11 @@ read-table-requires c κs =
     let reach = reached-field (a .packed) (a .book .now) (a .sheet .now) in
     let second = reach 1 8 _ _ _ (c16 .pre .0 .1) (count .0) in
     let few = rw (c10 .read .given .1) at (c12 .field-at-least .ensures .1) in (
-      (c16 .pre .0 .0, few, room-le (a .packed) _ _ (a .table .now) (table-le _ few) (c16 .pre .1)),
+      (c16 .pre .0 .0, few, room-le (a .packed) _ _ (a .table .now) (table-le _ few) (c16 .pre .1 .0 .0)),
       (
         reach 3 10 _ _ _ (reach 2 16 _ _ _ second (w0 .0)) rules,
         rw (c .before .before .read3 .given .1) at (c4 .field .ensures .1),
+        c16 .pre .1 .0 .1,
       ),
     )
 
@@ -95,11 +96,12 @@ returns-4 c reader taken =
     rw (count-read, w0-read, rules) (head-answer (a .form) (a .packed) (a .book .now) (a .sheet .now) _ _ _ _
     (a .table .now) (c .before .before .read-table .last .1 .1 .1 .0) (told (c .before .before .read-table .result))
     (c .before .before .read-table .ensures)
-    (w0-stands (a .packed) (a .book .now) (a .sheet .now) 16 _ _ _ second (w0 .0))
+    (c19 .pre .1 .0 .1)
+    (λ z. (w0-stands (a .packed) (a .book .now) (a .sheet .now) 16 _ _ _ second (w0 .0) z, c19 .pre .1 .1 z))
     (c .before .before .read-table .kept .1 .1 .1 .0)
-    (room-le (a .packed) _ _ (a .table .now) (table-le _ few) (c19 .pre .1))
+    (room-le (a .packed) _ _ (a .table .now) (table-le _ few) (c19 .pre .1 .0 .0))
     (reach 3 10 _ _ _ (reach 2 16 _ _ _ second (w0 .0)) rules) (c19 .pre .0 .0) few some (leb-true 1 _ (w0 .1))
-    reader taken)
+    (rw (c9 .read2 .given .1) at (c11 .field-at-least2 .ensures .1)) reader taken)
 
 pub read-counts-spec : {M : Type 1} → statement M
 read-counts-spec =

@@ -4,8 +4,9 @@ use native.Mathlib.Omega.{arith}
 use lib.ListN.{length}
 use borrow.Author.Tests.{lt-leb, le-leb, not-true, not-false}
 use Rattle.format.specs.Layout.{maxBytes}
+use Rattle.format.proofs.FormLaws.{taken-coefficients}
 use Rattle.reader.specs.Source.{readSource}
-use Rattle.reader.proofs.SourceLaws.{reached-start, reached-field}
+use Rattle.reader.proofs.SourceLaws.{reached-start, reached-field, form-stands}
 use Rattle.reader.proofs.FileLaws.{read-parts}
 use borrow.Author.Needs.{needs}
 use Rattle.reader.proofs.file.read_head.Statement.{statement}
@@ -51,14 +52,22 @@ cast-read-counts c =
 read-counts-requires : tie.Need-read-counts-requires
 unfolding readSource
 read-counts-requires c κs =
-    let c5 = c .before .before .before .before .before in
+    let c2 = c .before .before in
+    let c3 = c2 .before in
+    let c5 = c3 .before .before in
     let c7 = c5 .before .before in
     let c8 = c7 .before in
     let c12 = c8 .before .before .before .before in
     let a = c12 .args in
     let form = sym (rw (c5 .read .given .1) at (c7 .field .ensures .0)) in
     let start = reached-start (a .packed) (a .book .now) (a .sheet .now) in
-    ((c8 .if1 .left, reached-field (a .packed) (a .book .now) (a .sheet .now) 0 4 _ _ _ start form), c12 .pre)
+    let taken = sym (c3 .is-taken .ensures) ∙ not-false _ (c2 .if2 .left) in (
+      (c8 .if1 .left, reached-field (a .packed) (a .book .now) (a .sheet .now) 0 4 _ _ _ start form),
+      (
+        (c12 .pre .0, taken-coefficients (a .form) _ taken ∙ c12 .pre .1),
+        form-stands (a .packed) (a .book .now) (a .sheet .now) 4 _ _ form,
+      ),
+    )
 
 returns-4 : tie.Need-returns-4
 unfolding readSource

@@ -32,7 +32,7 @@ slice-aggregate-arities c =
     let c7 = c .before .before .before .before .before .before .before in
     let c14 = c7 .before .before .before .before .before .before .before in
     sym (length-take-le (c .before .front .result) (c7 .read-head .last .1 .1 .1 .1 .0)
-    (omega (arith, c .before .front .ensures .1, c7 .read-head .kept .1 .1 .1 .1 .0, c14 .pre)))
+    (omega (arith, c .before .front .ensures .1, c7 .read-head .kept .1 .1 .1 .1 .0, c14 .pre .0)))
 
 arities-requires : tie.Need-arities-requires
 unfolding Reached
@@ -40,7 +40,7 @@ arities-requires c κs =
     let c7 = c .before .before .before .before .before .before .before in
     let c14 = c7 .before .before .before .before .before .before .before in
     let long = length-take-le (c .before .front .result) (c7 .read-head .last .1 .1 .1 .1 .0)
-    (omega (arith, c .before .front .ensures .1, c7 .read-head .kept .1 .1 .1 .1 .0, c14 .pre)) in
+    (omega (arith, c .before .front .ensures .1, c7 .read-head .kept .1 .1 .1 .1 .0, c14 .pre .0)) in
     omega (arith, long, c .before .front .ensures .1)
 
 read-packed-rules-requires : tie.Need-read-packed-rules-requires
@@ -92,7 +92,7 @@ returns-3 c =
     (c10 .arities .result) (c10 .arities .ensures) _ (c7 .read-packed-rules .ensures) _ _
     (ap told (c3 .read2 .given .1)) _
     (c .before .is-padding .ensures)
-    (c .if1 .taken) (c12 .front .ensures .1)
+    (c25 .pre .1) (c .if1 .taken) (c12 .front .ensures .1)
 
 returns-4 : tie.Need-returns-4
 unfolding Reached

@@ -53,7 +53,11 @@ read-word-rules-requires c κs =
         head .fewRules,
         c3 .unused-at-start .ensures .1,
       ),
-      (signatureOf (take (c5 .head .given .0 .1 .0 .at) (c13 .args .sheet .now)), c .before .arities .ensures),
+      (
+        signatureOf (take (c5 .head .given .0 .1 .0 .at) (c13 .args .sheet .now)),
+        c .before .arities .ensures,
+        rw (← head .within .0) at (head .decoded .unscaled),
+      ),
     )
 
 returns-2 : tie.Need-returns-2

@@ -29,11 +29,11 @@ returns c =
     let c5 = c3 .before .before in
     let c8 = c5 .before .before .before in
     let a = c8 .args in (
-      λ σ k. rule-as-read (a .form) (a .index) (a .words .now) (c3 .read-rule-into .last .1 .1 .0)
+      λ σ k plain. rule-as-read (a .form) (a .index) (a .words .now) (c3 .read-rule-into .last .1 .1 .0)
           (ruleReader (bitSource (a .book .now)) (unusedOf (a .form)) σ (a .cursor .at))
           (told (c3 .read-rule-into .result))
           (c .if1 .taken)
-          (rw (c5 .unused-at-start .ensures .0) at (c3 .read-rule-into .ensures .0 σ k)),
+          (rw (c5 .unused-at-start .ensures .0) at (c3 .read-rule-into .ensures .0 σ k plain)),
       c3 .read-rule-into .ensures .1,
     )
 
@@ -46,8 +46,11 @@ returns-2 : tie.Need-returns-2
 returns-2 c =
     let c5 = c .before .before .before .before .before in
     let c7 = c5 .before .before in
-    rw (c .enum-told .given .1)
-    (λ σ k. rw (c .enum-told .given .1, c7 .unused-at-start .ensures .0) at (c5 .read-rule-into .ensures .0 σ k), tt)
+    rw (c .enum-told .given .1) (
+      λ σ k plain. rw (c .enum-told .given .1, c7 .unused-at-start .ensures .0) at
+          (c5 .read-rule-into .ensures .0 σ k plain),
+      tt,
+    )
 
 renumber-requires : tie.Need-renumber-requires
 renumber-requires c κs =
@@ -67,9 +70,9 @@ returns-3 c =
     let c12 = c10 .before .before in
     let c15 = c12 .before .before .before in
     let a = c15 .args in (
-      λ σ k. rule-renumbered (a .book .now) (a .form) σ (a .cursor .at) (a .index) (a .words .now)
+      λ σ k plain. rule-renumbered (a .book .now) (a .form) σ (a .cursor .at) (a .index) (a .words .now)
           (c10 .read-rule-into .last .1 .1 .0) (c .before .before .renumber .last .0) _ _ (c7 .if1 .left)
-          (rw (c5 .read .given .1, c12 .unused-at-start .ensures .0) at (c10 .read-rule-into .ensures .0 σ k))
+          (rw (c5 .read .given .1, c12 .unused-at-start .ensures .0) at (c10 .read-rule-into .ensures .0 σ k plain))
           (c .before .before .renumber .ensures),
       rw (c5 .read .given .1) at (c10 .read-rule-into .ensures .1),
     )

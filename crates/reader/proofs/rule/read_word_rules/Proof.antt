@@ -5,6 +5,7 @@ use mathlib.Core.Path.{sym, ap, _∙_}
 use Prim.Native.Nat.{_≤_, _-_, _+_, _*_}
 use Rattle.terms.specs.Signature.{Signature}
 use Rattle.format.specs.Reading.{wordSource}
+use Rattle.format.specs.Statements.{Unscaled}
 use Rattle.format.specs.Format.{Sides, ruleReader}
 use Rattle.symbols.specs.Arities.{Arities}
 use Rattle.answers.specs.Answer.{endOf}
@@ -17,7 +18,7 @@ use Rattle.reader.proofs.rule.read_word_rule.Reads as read-word-rule-re
 
 abbrev Inv-loop : tie.InvT-loop
 Inv-loop arities sheet unused count at here₀ number₀ here number =
-    (number ≤ count) × (here ≤ at + 256 * number) × ((σ : Signature) → Arities σ arities →
+    (number ≤ count) × (here ≤ at + 256 * number) × ((σ : Signature) → Arities σ arities → Unscaled σ →
     (done : List Sides) × Done (wordSource sheet) unused σ count at number here done)
 
 abbrev μ-loop : tie.MeasureT-loop
@@ -25,8 +26,15 @@ abbrev μ-loop : tie.MeasureT-loop
 
 loop-holds : tie.Need-loop-holds Inv-loop μ-loop
 loop-holds c =
-    let a = c .before .args in
-    (omega arith, omega arith, λ σ k. ([], done-none (wordSource (a .sheet .now)) (a .unused) σ (a .count) (a .at)))
+    let a = c .before .args in (
+      omega arith,
+      omega arith,
+      λ σ k plain. (
+        [],
+        done-none (wordSource (a .sheet .now)) (a .unused) σ (a .count)
+            (a .at),
+      ),
+    )
 
 read-word-rule-requires : tie.Need-read-word-rule-requires Inv-loop μ-loop
 read-word-rule-requires c κs =
@@ -34,15 +42,15 @@ read-word-rule-requires c κs =
     ((omega arith, omega arith), c3 .pre .1)
 
 returns : tie.Need-returns Inv-loop μ-loop
-returns c σ table =
+returns c σ table plain =
     let c3 = c .before .before .before in
     let c5 = c3 .before .before in
     let c7 = c5 .before .before in
     let a = c7 .args in
     let l = c5 .loop in
-    let (done, so) = l .inv .2 σ table in
+    let (done, so) = l .inv .2 σ table plain in
     let rule = ruleReader (wordSource (a .sheet .now)) (a .unused) σ (l .here) in
-    let read = end-fault (λ (s : Sides). 0) rule _ _ (sym (c3 .read-word-rule .ensures σ table) ∙
+    let read = end-fault (λ (s : Sides). 0) rule _ _ (sym (c3 .read-word-rule .ensures σ table plain) ∙
     c .before .offset .given .1) in
     sym (ap endOf (done-fault (wordSource (a .sheet .now)) (a .unused) σ (a .count) (a .at) (l .number) (l .here) done
     so (omega arith) _ _ read))
@@ -54,27 +62,27 @@ loop-again c =
     let c7 = c5 .before .before in
     let a = c7 .args in
     let l = c5 .loop in
-    let (τ, cells) = c7 .pre .1 in
+    let (τ, cells, small) = c7 .pre .1 in
     let source = wordSource (a .sheet .now) in
     let (q, got-q, none) = end-got (λ (s : Sides). 0) (ruleReader source (a .unused) τ (l .here)) _ _
-    (sym (c3 .read-word-rule .ensures τ cells) ∙ c .before .value .given .1) in (
+    (sym (c3 .read-word-rule .ensures τ cells small) ∙ c .before .value .given .1) in (
       omega arith,
-      omega (arith, rule-end (a .sheet .now) (a .unused) τ (l .here) q _ got-q),
-      λ σ table.
-          let (done, so) = l .inv .2 σ table in
+      omega (arith, rule-end (a .sheet .now) (a .unused) τ small (l .here) q _ got-q),
+      λ σ table plain.
+          let (done, so) = l .inv .2 σ table plain in
           let (r, got-r, none) = end-got (λ (s : Sides). 0) (ruleReader source (a .unused) σ (l .here)) _ _
-          (sym (c3 .read-word-rule .ensures σ table) ∙ c .before .value .given .1) in (
+          (sym (c3 .read-word-rule .ensures σ table plain) ∙ c .before .value .given .1) in (
             done ++ (r ∷ []),
             done-more source (a .unused) σ (a .count) (a .at) (l .number) (l .here) done so (omega arith) r _ got-r,
           ),
     )
 
 returns-2 : tie.Need-returns-2 Inv-loop μ-loop
-returns-2 c σ table =
+returns-2 c σ table plain =
     let c3 = c .before .before .before in
     let a = c3 .args in
     let l = c .before .loop in
-    let (done, so) = l .inv .2 σ table in
+    let (done, so) = l .inv .2 σ table plain in
     sym (ap endOf (done-all (wordSource (a .sheet .now)) (a .unused) σ (a .count) (a .at) (l .number) (l .here) done so
     (omega arith)))
 

@@ -1,15 +1,15 @@
 -- The four fields are read and tested in the order of the definition; the entry is stored after the earlier ones.
 use mathlib.Core.Path.{refl, sym, _∙_}
+use mathlib.Core.Bool.{false}
 use native.Mathlib.Omega.{arith}
 use lib.Dec.{eqb}
 use lib.ListN.{length-set}
 use Rattle.format.specs.Symbols.{ones}
 use Rattle.terms.specs.Signature.{Symbol}
-use Rattle.symbols.specs.Table.{symbolsAt}
+use Rattle.symbols.specs.Table.{symbolsIn}
 use Rattle.symbols.proofs.EntryLaws.{entry-words}
 use Rattle.format.specs.Errors.{weightInadmissible, rankTaken}
 use Rattle.format.specs.Layout.{weightWidth, rankWidth}
-use Rattle.format.specs.Forms.{leastWeightIn}
 use Rattle.reader.specs.Source.{sourceOf, tableOf}
 use Rattle.reader.specs.Symbol.{hasZeroWeightUnary}
 use Rattle.reader.proofs.SourceLaws.{tested-field, entry-stands, reached-entry}
@@ -72,7 +72,7 @@ returns-4 c =
     let c13 = c11 .before .before in
     let c17 = c13 .before .before .before .before in
     rw (c .enum-told3 .given .1) (
-      λ w0 kept. weight-unread _ _ _ _ _ _ _ (c11 .read .given .1) (c13 .field .ensures .0) _ _ _
+      λ w0 kept. weight-unread _ _ _ _ _ _ _ _ (c11 .read .given .1) (c13 .field .ensures .0) _ _ _
           (c7 .read2 .given .1) (c9 .field2 .ensures .0) _ (c5 .binary-if-ac .ensures)
           (c4 .if1 .left) _ _ _
           (c .enum-told3 .given .1) (c .before .before .read-weight .ensures .0 w0 _ kept .0),
@@ -102,7 +102,7 @@ returns-5 c =
     let c18 = c16 .before .before in
     let c22 = c18 .before .before .before .before in
     rw (c .enum-told4 .given .1) (
-      λ w0 kept. rank-unread _ _ _ _ _ _ _ (c16 .read .given .1) (c18 .field .ensures .0) _ _ _
+      λ w0 kept. rank-unread _ _ _ _ _ _ _ _ (c16 .read .given .1) (c18 .field .ensures .0) _ _ _
           (c12 .read2 .given .1) (c14 .field2 .ensures .0) _ (c10 .binary-if-ac .ensures)
           (c9 .if1 .left) _ _ _
           (c5 .read3 .given .1) (c7 .read-weight .ensures .0 w0 _ kept .0) (c22 .args .taken .now)
@@ -119,9 +119,16 @@ cast-put-entry c =
 put-entry-requires : tie.Need-put-entry-requires
 put-entry-requires c κs =
     let c10 = c .before .before .before .before .before .before .before .before .before .before in
-    let c20 = c10 .before .before .before .before .before .before .before .before .before .before in
-    let c24 = c20 .before .before .before .before in
-    (c24 .pre .0 .1, c24 .pre .0 .2)
+    let c14 = c10 .before .before .before .before in
+    let c16 = c14 .before .before in
+    let c18 = c16 .before .before in
+    let c20 = c18 .before .before in
+    let c24 = c20 .before .before .before .before in (
+      c24 .pre .0 .1,
+      c24 .pre .0 .2,
+      rw (c18 .read .given .1) at (c20 .field .ensures .1),
+      rw (c14 .read2 .given .1) at (c16 .field2 .ensures .1),
+    )
 
 element-write-taken : tie.Need-element-write-taken
 element-write-taken c =
@@ -143,7 +150,7 @@ returns-6 c =
     let c23 = c21 .before .before in
     let c27 = c23 .before .before .before .before in
     let a = c27 .args in
-    let earlier = symbolsAt (tableOf (a .packed) (a .sheet .now) (a .table .now)) 0 (a .number) in
+    let earlier = symbolsIn false (tableOf (a .packed) (a .sheet .now) (a .table .now)) 0 (a .number) in
     let arity = sym (rw (c21 .read .given .1) at (c23 .field .ensures .0)) in
     let ac = sym (rw (c17 .read2 .given .1) at (c19 .field2 .ensures .0)) in
     let binary = sym (c15 .binary-if-ac .ensures) ∙ not-false _ (c14 .if1 .left) in
@@ -167,15 +174,15 @@ returns-6 c =
           (entry-stands (a .packed) (a .book .now) (a .sheet .now) (a .number) (a .cursor .at) _ _ _ _ _ _ _ _
           (c27 .pre .1 .0) arity ac weighed ranked) in (
             s,
-            symbol-parts source (leastWeightIn (a .form) w0) earlier (a .cursor .at)
-                ∙ rw (arity, ac, binary, weight, rank),
+            symbol-parts source (a .form) w0 earlier (a .cursor .at)
+                ∙ rw (arity, ac, binary, weight, rank, c27 .pre .1 .1 .2),
             stored,
             rw stored (taken-put earlier s (a .taken .now) (c27 .pre .1 .1 .1) small (c27 .pre .1 .1 .0)),
             reached-entry (a .packed) (a .book .now) (a .sheet .now) (a .number) (a .cursor .at) _ _ _ _ _ _ _ _
                 (c27 .pre .1 .0) arity ac weighed ranked,
             (
               stored-same (a .packed) _ _ _ _ _
-                  (entry-words _ _ _ _ (rw (c17 .read2 .given .1) at (c19 .field2 .ensures .1)))
+                  (entry-words _ _ _ _ (s .coefficients) (rw (c17 .read2 .given .1) at (c19 .field2 .ensures .1)))
                   (c .before .before .put-entry .ensures .1),
               has-more (a .form) w0 _ earlier _ s stored least,
             ),

@@ -21,7 +21,7 @@ read-symbols-from-requires c κs =
     let packed = c7 .if1 .taken in
     let room = rw packed at (c11 .pre .0 .2) in (
       (c11 .pre .0 .0, c11 .pre .0 .1, omega (arith, room, c4 .put-header .kept .0)),
-      rw packed at (c11 .pre .1 .0),
+      (rw packed at (c11 .pre .1 .0), c11 .pre .1 .2),
     )
 
 returns : tie.Need-returns
@@ -40,7 +40,7 @@ read-symbols-from-requires-2 : tie.Need-read-symbols-from-requires-2
 read-symbols-from-requires-2 c κs =
     let c6 = c .before .before .before .before .before .before in (
       (c6 .pre .0 .0, c6 .pre .0 .1, tt),
-      rw (c .before .before .if1 .left) at (c6 .pre .1 .0),
+      (rw (c .before .before .if1 .left) at (c6 .pre .1 .0), c6 .pre .1 .2),
     )
 
 returns-2 : tie.Need-returns-2

@@ -1,9 +1,11 @@
 -- The symbols are read, and the first that is outranked is looked for if one of them has arity 1 and weighs 0.
 use mathlib.Core.Path.{sym, _∙_}
+use mathlib.Core.Bool.{false}
 use native.Mathlib.Omega.{arith}
+use Prim.Native.Nat.{_<_}
 use lib.ListN.{length}
 use borrow.Author.Tests.{not-true}
-use Rattle.symbols.specs.Table.{symbolsAt}
+use Rattle.symbols.specs.Table.{symbolsIn}
 use Rattle.symbols.proofs.TableLaws.{length-symbols}
 use Rattle.reader.specs.Source.{sourceOf, tableOf}
 use Rattle.reader.proofs.SourceLaws.{reached-le}
@@ -17,7 +19,7 @@ returns : tie.Need-returns
 returns c =
     let c4 = c .before .before .before .before in
     let told = c .enum-told2 .given .1 in
-    rw told (table-unread _ _ _ _ _ _ (rw told at (c4 .read-symbols .ensures)))
+    rw told (table-unread _ _ _ _ _ _ _ (rw told at (c4 .read-symbols .ensures)))
 
 returns-2 : tie.Need-returns-2
 returns-2 c =
@@ -26,9 +28,10 @@ returns-2 c =
     let a = c11 .args in
     let told = c .before .enum-told .given .1 in
     let (read, all, (stored, weightless)) = rw told at (c5 .read-symbols .ensures) in
-    let symbols = symbolsAt (tableOf (a .packed) (a .sheet .now) (c5 .read-symbols .last .1 .1 .1 .0)) 0 (a .count) in
+    let symbols = symbolsIn false (tableOf (a .packed) (a .sheet .now) (c5 .read-symbols .last .1 .1 .1 .0)) 0
+    (a .count) in
     rw told (
-      table-ranked (sourceOf (a .packed) (a .book .now) (a .sheet .now)) _ (a .count) (a .cursor .at) _ _ read
+      table-ranked (sourceOf (a .packed) (a .book .now) (a .sheet .now)) _ _ (a .count) (a .cursor .at) _ _ read
           (length symbols) (sym (none-outranked symbols symbols (sym weightless ∙ not-true _ (c .if1 .taken))))
           (omega arith),
       all,
@@ -53,9 +56,12 @@ returns-3 c =
     let a = c15 .args in
     let table = tableOf (a .packed) (a .sheet .now) (c9 .read-symbols .last .1 .1 .1 .0) in
     let read = rw (c5 .enum-told .given .1) at (c9 .read-symbols .ensures) in
-    table-outranked (sourceOf (a .packed) (a .book .now) (a .sheet .now)) _ (a .count) (a .cursor .at) _ _ (read .0) _
-    (c .before .before .outranked-in .ensures) (omega (arith, length-symbols table 0 (a .count))) _
-    (c .weight-offset .ensures (a .book .now) (a .sheet .now))
+    let symbols = symbolsIn false table 0 (a .count) in
+    let below : c .before .before .outranked-in .result < length symbols =
+    omega (arith, length-symbols false table 0 (a .count)) in
+    table-outranked (sourceOf (a .packed) (a .book .now) (a .sheet .now)) _ _ (a .count) (a .cursor .at) _ _ (read .0) _
+    (c .before .before .outranked-in .ensures) below _
+    (c .weight-offset .ensures (a .book .now) (a .sheet .now) (a .form) symbols (c15 .pre .1 .2) below)
 
 returns-4 : tie.Need-returns-4
 returns-4 c =
@@ -67,8 +73,8 @@ returns-4 c =
     let table = tableOf (a .packed) (a .sheet .now) (c8 .read-symbols .last .1 .1 .1 .0) in
     let read = rw told at (c8 .read-symbols .ensures) in
     rw told (
-      table-ranked (sourceOf (a .packed) (a .book .now) (a .sheet .now)) _ (a .count) (a .cursor .at) _ _ (read .0) _
-          (c .before .outranked-in .ensures) (omega (arith, length-symbols table 0 (a .count))),
+      table-ranked (sourceOf (a .packed) (a .book .now) (a .sheet .now)) _ _ (a .count) (a .cursor .at) _ _ (read .0) _
+          (c .before .outranked-in .ensures) (omega (arith, length-symbols false table 0 (a .count))),
       read .1,
       read .2 .0,
     )

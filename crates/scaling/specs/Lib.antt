@@ -1,0 +1,2 @@
+-- What the contracts of weighing and counting with coefficients say.
+pub mod Scaled

@@ -47,7 +47,7 @@ fn compare_read(table: &[u16], left: &[u16], right: &[u16]) -> Comparison
     let t = sum_up(table, &adds, right, &mut right_sums);
     Comparison {
         relation: relation(table, &adds, left, s, &left_sums, right, t, &right_sums),
-        margin: margin(s, t),
+        margin: margin(s.weight, t.weight),
     }
 }
 

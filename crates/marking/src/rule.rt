@@ -49,7 +49,7 @@ fn mark_sides(
     let t = total(table, adds, right);
     MarkedRule {
         mark: order::mark::mark(table, adds, left, s, right, t),
-        margin: weights::totals::margin(s, t),
+        margin: weights::totals::margin(s.weight, t.weight),
         cursor,
     }
 }

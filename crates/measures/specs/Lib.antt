@@ -1,2 +1,2 @@
--- What the contracts of the weighing of parts say: SummedUp and Scale.
+-- What the contracts of the weighing of parts say: SummedUp, Summed and Scale.
 pub mod Sums

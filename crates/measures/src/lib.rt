@@ -1,4 +1,5 @@
 // Weights and occurrences of variables of the parts of a term, by offset.
+pub mod offsets;
 pub mod sums;
 
 // How many numbers are stored for the offsets in a term and the one past it, three for each.

@@ -1,8 +1,8 @@
 -- Both terms are summed up; the order's relation and the margin are those of the terms.
-use mathlib.Core.Path.{refl}
+use mathlib.Core.Path.{refl, ap₂, _∙_}
+use lib.IntN.{subℕ}
 use mir.Syntax.{w64}
 use mir.ValLaws.{toZ-ofZ}
-use Rattle.symbols.specs.Table.{signatureOf}
 use borrow.Author.Needs.{needs}
 use Rattle.comparing.proofs.compare_read.Statement.{statement}
 use Rattle.comparing.proofs.compare_read.Tie as tie
@@ -33,11 +33,7 @@ returns : tie.Need-returns
 returns c =
     let c5 = c .before .before .before .before .before in
     let c8 = c5 .before .before .before in
-    let c16 = c8 .before .before .before .before .before .before .before .before in
-    let a = c16 .args in
-    let margin = c .margin .ensures (signatureOf (a .table .now)) (a .left .now) (a .right .now)
-    (c8 .sum-up .ensures .1)
-    (c5 .sum-up2 .ensures .1) in
+    let margin = c .margin .ensures ∙ ap₂ subℕ (c8 .sum-up .ensures .1 .weight) (c5 .sum-up2 .ensures .1 .weight) in
     rw (toZ-ofZ w64 (c .margin .result) (record { sfits = c .margin .ok }), c .before .relation .ensures, margin)
 
 pub compare-read-spec : {M : Type 1} → statement M

@@ -1,5 +1,7 @@
 -- Both sides are terms, so their totals are theirs, and the order marks them.
-use mathlib.Core.Path.{refl, _∙_}
+use mathlib.Core.Path.{refl, ap₂, _∙_}
+use native.Mathlib.Omega.{arith}
+use lib.IntN.{subℕ}
 use mir.Syntax.{w64}
 use mir.ValLaws.{toZ-ofZ}
 use Rattle.marking.proofs.rule.mark_sides.Statement.{statement}
@@ -21,18 +23,19 @@ mark-requires c κs =
     let (D, N) = c5 .pre in (D, (c .before .total .ensures, c .total2 .ensures, N))
 
 margin-requires : tie.Need-margin-requires
-margin-requires c κs = (c .before .before .total .ensures .small, c .before .total2 .ensures .small)
+margin-requires c κs =
+    (omega (arith, c .before .before .total .ensures .small), omega (arith, c .before .total2 .ensures .small))
 
 returns : tie.Need-returns
 returns c =
     let c3 = c .before .before .before in
-    let margin = c .margin .ensures _ _ _ (c3 .total .ensures) (c .before .before .total2 .ensures) in (
+    let weights = ap₂ subℕ (c3 .total .ensures .weight) (c .before .before .total2 .ensures .weight) in (
       record {
         mark = c .before .mark .ensures;
         margin = toZ-ofZ w64 (c .margin .result) (record {
           sfits = c .margin
               .ok;
-        }) ∙ margin;
+        }) ∙ c .margin .ensures ∙ weights;
       },
       refl,
     )

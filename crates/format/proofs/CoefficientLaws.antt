@@ -39,6 +39,7 @@ ones-admitted ac zero = tt
 ones-admitted ac (suc n) = (one-admitted ac, ones-admitted ac n)
 
 pub admitted-ones : (ks : List ℕ) → Admitted true ks → AllOnes ks
+admitted-ones [] _ k x3 = elim x3 [ ]
 admitted-ones (j ∷ ks) (ok, oks) k (Memᴰ.head e) = e ∙ eqb-true j 1 ok
 admitted-ones (j ∷ ks) (ok, oks) k (Memᴰ.tail m) = admitted-ones ks oks k m
 
@@ -47,6 +48,7 @@ positive_of true k ok = omega (arith, eqb-true k 1 ok)
 positive_of false k ok = ltb-true 0 k ok
 
 pub admitted-positive : (ac : Bool) (ks : List ℕ) → Admitted ac ks → AllPositive ks
+admitted-positive ac [] _ k x3 = elim x3 [ ]
 admitted-positive ac (j ∷ ks) (ok, oks) k (Memᴰ.head e) = rw e (positive_of ac j ok)
 admitted-positive ac (j ∷ ks) (ok, oks) k (Memᴰ.tail m) = admitted-positive ac ks oks k m
 
@@ -80,6 +82,7 @@ coefficients-fit form ks h = by_test (has_coefficients form) (λ e. rw e (all-fi
 
 of-all-fit : (ks : List ℕ) → AllFit (map (field coefficient_width) ks) → (k : ℕ) → Memᴰ k ks →
     k < 2 ^ coefficient_width
+of-all-fit [] _ k x3 = elim x3 [ ]
 of-all-fit (j ∷ ks) (f, fs) k (Memᴰ.head e) = rw e f
 of-all-fit (j ∷ ks) (f, fs) k (Memᴰ.tail m) = of-all-fit ks fs k m
 

@@ -49,6 +49,7 @@ converted-words r = sym (map-append _ r.left r.right)
 -- ---- the new numbers
 
 fit-below : (ws : List ℕ) → AllFit (map node ws) → (x : ℕ) → Memᴰ (first_variable + x) ws → x < variable_count
+fit-below [] _ x x5 = elim x5 [ ]
 fit-below (w ∷ ws) (f, fits) x (Memᴰ.head e) = omega arith
 fit-below (w ∷ ws) (f, fits) x (Memᴰ.tail m) = fit-below ws fits x m
 
@@ -229,7 +230,7 @@ pub converted-bits : (f : RuleFile) → f.form ≡ first_form →
 unfolding items flat_map
 converted-bits f old =
     let symbols = flat_map (symbol_items first_form) f.signature.symbols in
-    rw old (omega (
+    simp old (omega (
       arith,
       items-length symbols (flat_map rule_items (map converted_sides f.rules)),
       items-length symbols (flat_map rule_items f.rules),

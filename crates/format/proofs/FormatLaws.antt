@@ -106,14 +106,14 @@ module _ (source : Source) where
       let (f, o, p) = holds-got _ _ ws end (forest-read after σ a owed next) r in
       (term_node k f, (both _ _).1 (t, o), more (v.offset, e) p)
 
-  pub forest-reads : (unused : ℕ) (σ : Signature) {a n : ℕ} {ws : List ℕ} → Forest σ a n ws →
+  pub forest-reads : (σ : Signature) (unused : ℕ) {a n : ℕ} {ws : List ℕ} → Forest σ a n ws →
       in_order_from unused ws ≡ true → {at end : ℕ} →
       Spells source (map node ws) at end → forest_reader source unused σ a n at ≡ got ws end
   unfolding forest_reader in_order_from
-  forest-reads unused σ (no_term {a}) o {at} none = nothing-owed source unused σ a at
-  forest-reads unused σ (term_node {w = w} k f) o (more e p) =
+  forest-reads σ unused (no_term {a}) o {at} none = nothing-owed source unused σ a at
+  forest-reads σ unused (term_node {w = w} k f) o (more e p) =
       let (t, rest) = (both (leb w (first_variable + unused)) _).0 o in
-      rw (e.1, k, t, forest-reads (unused_after unused w) σ f rest p)
+      rw (e.1, k, t, forest-reads σ (unused_after unused w) f rest p)
 
   -- ---- a side
 
@@ -138,7 +138,7 @@ module _ (source : Source) where
       in_order_from unused ws ≡ true → {at end : ℕ} → Spells source (map node ws) at end →
       side_reader source limit unused σ at ≡ got ws end
   unfolding side_reader
-  side-reads limit unused σ ok o p = rw (forest-reads unused σ ok.nodes o p, ok.light)
+  side-reads limit unused σ ok o p = rw (forest-reads σ unused ok.nodes o p, ok.light)
 
   -- ---- rules
 

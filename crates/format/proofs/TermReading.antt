@@ -109,7 +109,7 @@ forest-cut no_term a h = absurd (omega arith)
 forest-cut (term_node k f) zero h = spent
 forest-cut (term_node k f) (suc a) h = cut_node k (forest-cut f a (omega arith))
 
-cut-reads : (source : Source) (unused : ℕ) {σ : Signature} {a n : ℕ} {ws : List ℕ} → Cut σ a n ws →
+cut-reads : (source : Source) {σ : Signature} (unused : ℕ) {a n : ℕ} {ws : List ℕ} → Cut σ a n ws →
     in_order_from unused ws ≡ true → {at end : ℕ} →
     Spells source (map node ws) at end → forest_reader source unused σ a n at ≡ fault too_many_nodes end
 unfolding forest_reader in_order_from
@@ -160,7 +160,7 @@ module _ (σ : Signature) (few : length σ.symbols ≤ first_variable) (t : Term
       let p = rw (append-nil (words t)) at (front-spells (words t) [] (words-fit σ few t h)) in
       let f = rw all at (nodes-form (max_nodes - size t)) in
       let o = fit-in-order (words t) (words-fit σ few t h) in
-      rw (forest-reads (word_source (words t)) all_used σ f o p, spelled-light heavy)
+      rw (forest-reads (word_source (words t)) σ all_used f o p, spelled-light heavy)
 
   pub term-refused : max_nodes < size t → read_term σ (words t) ≡ fault too_many_nodes max_nodes
   unfolding read_term side_reader

@@ -16,7 +16,7 @@ module _ {A B : Type 0} (f : A → List B) where
       ⊎_elim (λ i. (a, Memᴰ.head refl, i))
       (λ i. let (c, j, k) = flat_map-member l i in (c, Memᴰ.tail j, k)) (Memᴰ.append_cases (f a) m)
 
-  pub member-flat_map : {l : List A} {a : A} {b : B} → Memᴰ a l → Memᴰ b (f a) → Memᴰ b (flat_map f l)
+  pub member-flat_map : {a : A} {l : List A} {b : B} → Memᴰ a l → Memᴰ b (f a) → Memᴰ b (flat_map f l)
   unfolding flat_map
   member-flat_map (Memᴰ.head {xs = l} e) i = Memᴰ.append_left (flat_map f l) (rw e at i)
   member-flat_map (Memᴰ.tail {x = c} m) i = Memᴰ.append_right (f c) (member-flat_map m i)

@@ -62,6 +62,7 @@ module _ {A : Type 0} (greater : A → A → Bool) where
 
   pub member-sorted : (l : List A) (b : A) → Memᴰ b l → Memᴰ b (sorted greater l)
   unfolding sorted
+  member-sorted [] b x' = elim x' [ ]
   member-sorted (a ∷ l) b (Memᴰ.head e) = rw e (takes-member (insert-takes a (sorted greater l)))
   member-sorted (a ∷ l) b (Memᴰ.tail m) = takes-within (insert-takes a (sorted greater l)) (member-sorted l b m)
 

@@ -33,9 +33,12 @@ use Rattle.terms.proofs.VariableLaws.{Grounds, not-ground}
 abbrev pub headed : ℕ → List (List ℕ) → List (List ℕ)
 headed f rows = map (λ (ws : List ℕ). f ∷ ws) rows
 
+before-apart : {vs ws : List ℕ} → Before vs ws → vs ≡ ws → ⊥
+before-apart (first {v = v} {w = w} h) e = let d : v ≡ w = cc in omega arith
+before-apart (later b) e = before-apart b cc
+
 pub before-irrefl : (ws : List ℕ) → Before ws ws → ⊥
-before-irrefl (w ∷ ws) (first h) = omega arith
-before-irrefl (w ∷ ws) (later b) = before-irrefl ws b
+before-irrefl ws b = before-apart b refl
 
 heads-before : (f g : ℕ) (vs ws : List ℕ) (l m : List (List ℕ)) → f < g → Memᴰ vs (headed f l) →
     Memᴰ ws (headed g m) → Before vs ws

@@ -1,12 +1,12 @@
 -- The order's cases are a strict order, over a likeness that keeps roots and an order of the parts in which no variable
 -- is greater than anything.
 --     decreases-trans, decreases-irrefl   transitive, irreflexive
-use mathlib.Core.Path.{◌≡◌, sym, ◌∙◌}
+use mathlib.Core.Path.{◌≡◌, sym, ◌∙◌, ap, refl}
 use mathlib.Core.Bool.{Bool, true, false≢true, true≢false}
 use Prim.Native.Nat.{ℕ}
 use native.Mathlib.Omega.{arith}
 use Rattle.multisets.specs.Multiset.{row_equal, row_greater}
-use Rattle.terms.specs.Signature.{Signature, Admissible}
+use Rattle.terms.specs.Signature.{Signature, Admissible, symbol_of}
 use Rattle.terms.specs.Term.{Term, WellFormed}
 use Rattle.terms.specs.Term.Term.{var}
 use Rattle.terms.specs.Marks.{NoneOftener, Balanced}
@@ -30,6 +30,7 @@ module _ (σ : Signature) (like : Term → Term → Bool) (E : IsEquivalence lik
     -- Above a variable of its weight stands a power alone.
     root-trans : Admissible σ → {s t u : Term} → WellFormed σ s → WellFormed σ u → Balanced σ s u →
         RootDecreases σ like greater s t → RootDecreases σ like greater t u → RootDecreases σ like greater s u
+    root-trans A {u = u} v w z (by_power {f = f} {ss = ss} _) x12 = elim x12 [ ]
     root-trans A v w z (by_precedence {f} h) (by_precedence {g} k) = by_precedence {f = f} {g = g} (omega arith)
     root-trans A v w z (by_precedence h) (by_row c r) = by_precedence h
     root-trans A v w z (by_precedence h) (by_flattening c d) = by_precedence h
@@ -59,10 +60,16 @@ module _ (σ : Signature) (like : Term → Term → Bool) (E : IsEquivalence lik
             let z : Balanced σ s u = record { none = fewer b.none c.none; weights = c.weights ∙ b.weights } in
             by_root z (root-trans A v w z q r)
 
+    root-apart : {s t u : Term} → RootDecreases σ like greater s t → SameRoot σ like s u → t ≡ u → ⊥
+    root-apart (by_precedence {f} {g} h) (same_symbol a) e = let d : g ≡ f = cc in omega (arith, ap (λ (k : ℕ). (symbol_of σ k).precedence) d)
+    root-apart (by_row {ts = ts} c r) (same_symbol {ts = ts'} a) e =
+        let d : ts' ≡ ts = cc in R.irreflexive r (rw (c, d) at a)
+    root-apart (by_flattening {f} {ts = ts} c h) (same_symbol {ts = ts'} a) e =
+        let d : ts' ≡ ts = cc in flattened-irrefl σ like E keeps greater O f lowest h (rw (c, d) at a)
+    root-apart (by_power {f} {x} _) (same_symbol a) e = cc
+
     root-irrefl : {s t : Term} → RootDecreases σ like greater s t → SameRoot σ like s t → ⊥
-    root-irrefl (by_precedence h) (same_symbol a) = omega arith
-    root-irrefl (by_row c r) (same_symbol a) = R.irreflexive r (rw c at a)
-    root-irrefl (by_flattening {f} c d) (same_symbol a) = flattened-irrefl σ like E keeps greater O f lowest d (rw c at a)
+    root-irrefl d a = root-apart d a refl
 
     pub decreases-irrefl : {s t : Term} → Decreases σ like greater s t → Alike σ like s t → ⊥
     decreases-irrefl (by_weight n h) a = omega arith

@@ -84,6 +84,7 @@ module _ (σ : Signature) (A : Admissible σ) where
   var-lowest (suc n) x t w e = go ((decreases-view σ (is_equivalent σ) (is_greater_to σ n) (var x) t).0 e)
     where
       go : Decreases σ (is_equivalent σ) (is_greater_to σ n) (var x) t → ⊥
+      go (by_root _ x6) = elim x6 [ ]
       go (by_weight o h) = omega (arith, variable-lightest σ A x t w)
 
   is_greater_to-order : (n : ℕ) → IsStrictOrderOn (WellFormed σ) (is_equivalent σ) (is_greater_to σ n)

@@ -135,6 +135,7 @@ module _ (σ : Signature) (A : Admissible σ) where
       absurd (go t w ((formed-view σ (var x) t v w).0 h))
     where
       go : (t : Term) → WellFormed σ t → Decreases σ (like_formed σ) (greater_formed σ) (var x) t → ⊥
+      go t w (by_root _ x3) = elim x3 [ ]
       go t w (by_weight o h) = omega (arith, variable-lightest σ A x t w)
 
   argument-formed : (f : ℕ) (ts : Terms) → WellFormed σ (app f ts) → (a : Term) → Memᴰ a (row ts) → WellFormed σ a

@@ -29,6 +29,7 @@ use Rattle.terms.proofs.EquivalenceSound.{join-exchange, bunch-append, bunch-two
 use Rattle.terms.proofs.TermLaws.{row-arguments, arguments-row}
 
 takes_one : {a b : Term} {m : List Term} → Takes a (b ∷ []) m → (a ≡ b) × (m ≡ [])
+takes_one {a = a} {b = b} (Rattle.multisets.proofs.MultisetLaws.later {m = m} x4) = elim x4 [ ]
 takes_one here = (refl, refl)
 
 module _ (σ : Signature) (A : Admissible σ) (f : ℕ) (ac : (symbol_of σ f).ac ≡ true) where

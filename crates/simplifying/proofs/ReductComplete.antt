@@ -136,6 +136,7 @@ module _ (R : System) where
         where
           go : (us : Terms) → Memᴰ us (regroupings f ts) → Equivalents σ us (pair a v) →
               Expression σ (app f us) → Among σ (reducts R (app f ts)) (app f (pair b v))
+          go Rattle.terms.specs.Term.nil i x3 h = elim x3 [ ]
           go (cons s us) i (each d r) h =
               let (t, j, q) = whole s ((expressions σ).head s us ((expressions σ).inner f (cons s us) h)) d in (
                 app f (cons t us),

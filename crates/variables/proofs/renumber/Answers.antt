@@ -18,7 +18,8 @@ loop-i-init c = (refl, omega arith, λ old nodes e long room all. rw e (passing-
 pub loop-i-preserved : goal.loop-i-preserved
 loop-i-preserved c =
     let v = c.loop-i.invariant in
-    let (word, few) = c.new_is_word.ensures in (
+    let word = c.new_word.ensures.by_index in
+    let few = c.new_word.ensures.unused_bound in (
       simp length-set v.0,
       omega arith,
       λ old nodes e long room all. passing-more (v.2 old nodes e long room all) (omega arith) _ _ _ word,

@@ -96,3 +96,10 @@ returns t c = record {
         c.if-from-pattern.false,
   );
 }
+
+pub instance_size-others-requires : goal.instance_size-others-requires
+instance_size-others-requires t c = (
+  omega (arith, c.decreases, word-inside c.requires c.if-from-pattern.false),
+  filled_next c.requires
+      c.if-from-pattern.false,
+)

@@ -123,3 +123,31 @@ returns t c =
             c.if-words-i.false c.size_at-count.ensures.0,
       );
     }
+
+pub sum_size-requires : goal.sum_size-requires
+sum_size-requires t c =
+    let M = c.requires in (
+      omega (
+        arith,
+        c.decreases,
+        owed-some M
+            c.if-mask-eq0.false,
+        M.stands.fits,
+      ),
+      masked-own M c.if-mask-eq0.false c.if-words-i.true
+          c.arity.ensures.0,
+    )
+
+pub sum_size-others-requires : goal.sum_size-others-requires
+sum_size-others-requires t c =
+    let M = c.requires in (
+      omega (
+        arith,
+        c.decreases,
+        part-some M c.if-mask-eq0.false
+            c.if-words-i.false c.size_at-count.ensures.0,
+        owed-some M c.if-mask-eq0.false,
+        M.stands.fits,
+      ),
+      masked-next M c.if-mask-eq0.false c.if-words-i.false c.size_at-count.ensures.0,
+    )

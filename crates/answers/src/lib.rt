@@ -5,7 +5,7 @@ ghost use Rattle.std.specs.Prelude.{◌≡◌};
 ghost use Rattle.answers.specs.Answer.{answer_of};
 
 // A value and the offset past what was read, or an error's code and offset. A value that is nothing is 0.
-#[derive(Drop)]
+#[derive(Clone, Copy)]
 pub enum Answer {
     Got { value: usize, next: usize },
     Fault { offset: usize, code: u8 },

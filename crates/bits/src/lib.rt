@@ -17,20 +17,20 @@ mod window;
 pub use crate::window::Window;
 
 // Where reading stands: an offset in bits.
-#[derive(Drop)]
+#[derive(Clone, Copy)]
 pub struct BitCursor {
     pub at: usize,
 }
 
 // A value and the moved cursor, or an error's code and offset.
-#[derive(Drop)]
+#[derive(Clone, Copy)]
 pub enum Read {
     Got { value: usize, cursor: BitCursor },
     Fault { offset: usize, code: u8 },
 }
 
 // A node's word, the moved cursor and the window there, or an error's code and offset.
-#[derive(Drop)]
+#[derive(Clone, Copy)]
 pub enum NodeRead {
     Got {
         word: usize,

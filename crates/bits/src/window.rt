@@ -7,7 +7,7 @@ ghost use Rattle.bits.specs.Cursor.{node_width, four, Ahead};
 const FOUR_BYTES: u64 = 0x1_0000_0000;
 
 // The bits from an offset on that are at hand: the first ones of a number, and how many.
-#[derive(Drop)]
+#[derive(Clone, Copy)]
 pub struct Window {
     pub bits: u64,
     pub count: usize,

@@ -10,7 +10,7 @@ use scheduling::Search;
 
 // What is left to store after a turn: the code of its reply, and the job whose count changes, with that count. An index
 // that is the number of jobs is none.
-#[derive(Drop)]
+#[derive(Clone, Copy)]
 pub struct Stored {
     pub code: u8,
     pub index: usize,

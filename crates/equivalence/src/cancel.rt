@@ -8,7 +8,7 @@ use crate::equivalence::partner;
 use crate::offsets::{delete, wide_byte};
 use format::MAX_NODES;
 
-#[derive(Drop)]
+#[derive(Clone, Copy)]
 pub struct Uncancelled {
     pub left: usize,
     pub right: usize,

@@ -67,7 +67,7 @@ pub fn size_at(keys: &[u64; MAX_NODES], i: usize) -> usize
     (keys[i] % SIZES) as usize
 }
 
-#[derive(Drop)]
+#[derive(Clone, Copy)]
 struct Gathered {
     end: usize,
     hash: u64,

@@ -3,5 +3,7 @@
 // the left and of the right term, skeys and tkeys their keys, ssums and tsums their sums by offset; shigh, slow and
 // svars are the offsets of the elements of a flattening on the left that stand above its symbol, below it, and are
 // variables, thigh, tlow and tvars those on the right.
+#![tactic(auto)]
+
 pub mod compare;
 pub mod parts;

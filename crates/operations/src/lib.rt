@@ -1,7 +1,7 @@
 // What the operations reply, as types. What each gives back is defined in specs/; no function stands here.
 
 // An error's code, the input at fault, and the offset in it.
-#[derive(Drop)]
+#[derive(Clone, Copy)]
 pub struct Error {
     pub code: u8,
     pub input: u8,
@@ -32,14 +32,14 @@ pub const NO_CASE: u8 = 10;
 pub const FALLS_BY_WRAPPING: u8 = 11;
 
 // A number, such as how many words or bytes were written, or why there is none.
-#[derive(Drop)]
+#[derive(Clone, Copy)]
 pub enum NumberReply {
     Accepted(usize),
     Refused(Error),
 }
 
 // How the left term is related to the right one.
-#[derive(Drop)]
+#[derive(Clone, Copy)]
 pub enum Relation {
     Greater,
     Less,
@@ -48,21 +48,21 @@ pub enum Relation {
 }
 
 // The relation, and the weight of the left term less that of the right one.
-#[derive(Drop)]
+#[derive(Clone, Copy)]
 pub struct Comparison {
     pub relation: Relation,
     pub margin: i64,
 }
 
 // How two terms compare, or why they were not compared.
-#[derive(Drop)]
+#[derive(Clone, Copy)]
 pub enum CompareReply {
     Accepted(Comparison),
     Refused(Error),
 }
 
 // Which of two terms is greater, with the count of its words, or why neither is.
-#[derive(Drop)]
+#[derive(Clone, Copy)]
 pub enum GreaterSide {
     Left { words: usize },
     Right { words: usize },
@@ -71,14 +71,14 @@ pub enum GreaterSide {
 }
 
 // The greater side, or why it was not looked for.
-#[derive(Drop)]
+#[derive(Clone, Copy)]
 pub enum PickReply {
     Accepted(GreaterSide),
     Refused(Error),
 }
 
 // The counts of rules and of those that decrease, and the score.
-#[derive(Drop)]
+#[derive(Clone, Copy)]
 pub struct Summary {
     pub rules: usize,
     pub decreasing: usize,
@@ -86,21 +86,21 @@ pub struct Summary {
 }
 
 // A file's summary, or why nothing was marked.
-#[derive(Drop)]
+#[derive(Clone, Copy)]
 pub enum MarkReply {
     Accepted(Summary),
     Refused(Error),
 }
 
 // How many terms there are: a number up to 65,535, or more.
-#[derive(Drop)]
+#[derive(Clone, Copy)]
 pub enum TermCount {
     Exactly { terms: usize },
     More,
 }
 
 // How many terms there are, or why they were not counted.
-#[derive(Drop)]
+#[derive(Clone, Copy)]
 pub enum CountReply {
     Accepted(TermCount),
     Refused(Error),
@@ -108,7 +108,7 @@ pub enum CountReply {
 
 // A rule file in a buffer, by its start and length there, and how many of its rules are marked. 02: a desk.
 #[repr(C)]
-#[derive(Drop)]
+#[derive(Clone, Copy)]
 pub struct Job {
     pub start: usize,
     pub length: usize,
@@ -116,14 +116,14 @@ pub struct Job {
 }
 
 // The job of which a rule was marked, by its index, or that none has rules left.
-#[derive(Drop)]
+#[derive(Clone, Copy)]
 pub enum Turn {
     Served { index: usize },
     Idle,
 }
 
 // Whose turn it was, or why nothing was marked.
-#[derive(Drop)]
+#[derive(Clone, Copy)]
 pub enum TurnReply {
     Accepted(Turn),
     Refused(Error),

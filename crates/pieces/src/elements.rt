@@ -11,7 +11,7 @@ use format::MAX_NODES;
 use symbols::arity;
 
 // A whole part, where the mask is 0, or the sum of the elements that the mask takes of the flattening there.
-#[derive(Drop)]
+#[derive(Clone, Copy)]
 pub struct Piece {
     pub offset: usize,
     pub mask: u16,

@@ -14,7 +14,7 @@ const MAX_JOBS: usize = 32;
 // What a search over jobs has found so far: the first that is not sound, and, of those with rules left, the one that
 // comes first after the last served, going round, with its book, its count and the bit where its next rule begins. An
 // index that is `jobs`, the number of jobs, is none.
-#[derive(Drop)]
+#[derive(Clone, Copy)]
 pub struct Search {
     pub jobs: usize,
     pub last: usize,

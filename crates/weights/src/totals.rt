@@ -14,7 +14,7 @@ use crate::NODE_SUMS;
 use crate::digits::first_greater;
 
 // The sums over the words of a term: weights, and the occurrences of the variables 0 to 7 and 8 to 15 as digits.
-#[derive(Drop)]
+#[derive(Clone, Copy)]
 pub struct Totals {
     pub weight: u64,
     pub low: u64,

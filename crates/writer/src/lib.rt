@@ -8,7 +8,7 @@ ghost use Rattle.writer.specs.Writer.{Writes, byte_before, eight_bytes};
 
 // The bytes stored so far, and the bits after them: the last ones of a number, and how many. What stands before them in
 // the number is of no account, so that nothing need be taken off when they are stored.
-#[derive(Drop)]
+#[derive(Clone, Copy)]
 pub struct BitWriter {
     pub stored: usize,
     pub pending: u64,

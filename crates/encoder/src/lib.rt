@@ -1,4 +1,6 @@
 // Encoding a rule file: from its words to its packed form.
+#![tactic(auto)]
+
 ghost use Rattle.std.specs.Prelude.{◌≡◌};
 ghost use Rattle.operations.specs.Coding.{encoded};
 ghost use Rattle.operations.specs.Enums.{number_reply};

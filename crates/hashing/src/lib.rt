@@ -1,5 +1,7 @@
 // The fingerprint of a term under a rule file, from right to left over its words, with a stack of the terms that stand
 // to the right.
+#![tactic(auto)]
+
 ghost use Rattle.std.specs.Prelude.{◌≡◌, ◌+◌, ◌*◌, ◌≤◌, length};
 ghost use Rattle.terms.specs.Words.{term_of};
 ghost use Rattle.terms.specs.Fingerprint.{row_factor, bag_factor, wrapped, in_row, in_bag, fingerprint as fingerprintOf};

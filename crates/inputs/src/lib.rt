@@ -1,4 +1,6 @@
 // Reading the inputs of an operation on a rule file and terms.
+#![tactic(auto)]
+
 ghost use Rattle.std.specs.Prelude.{◌≡◌, length};
 ghost use Rattle.format.specs.Files.{read_bytes};
 ghost use Rattle.operations.specs.Inputs.{read_terms, read_inputs};
@@ -12,7 +14,7 @@ use operations::Error;
 use words::front_term;
 
 // How many words of the table are its front, and how many words the terms have; or the error.
-#[derive(Clone, Copy)]
+#[derive(Drop)]
 pub enum Ends {
     Read {
         front: usize,

@@ -1,4 +1,6 @@
 // Converting a packed file of form 1 into one of form 2.
+#![tactic(auto)]
+
 ghost use Rattle.std.specs.Prelude.{◌≡◌, ◌+◌, ◌*◌, ◌≤◌, length};
 ghost use Rattle.format.specs.Layout.{max_bytes};
 ghost use Rattle.operations.specs.Converting.{converted};

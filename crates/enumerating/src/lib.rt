@@ -1,4 +1,6 @@
 // The operations that count and list the ground terms of n nodes under a rule file.
+#![tactic(auto)]
+
 ghost use Rattle.std.specs.Prelude.{◌≡◌, ◌≤◌, ◌*◌, length};
 ghost use Rattle.symbols.specs.Table.{signature_of, max_table_words};
 ghost use Rattle.operations.specs.Enumerating.{counted_terms, counted, listed_terms, listed, term_count, is_size};

@@ -1,4 +1,6 @@
 // Comparing two terms under a rule file.
+#![tactic(auto)]
+
 ghost use Rattle.std.specs.Prelude.{◌≡◌};
 ghost use Rattle.terms.specs.Words.{term_of};
 ghost use Rattle.symbols.specs.Table.{signature_of};
@@ -21,7 +23,7 @@ mod variables;
 pub use crate::variables::oftener;
 
 // How two terms compare, and how many words they have; or the error.
-#[derive(Clone, Copy)]
+#[derive(Drop)]
 pub enum Related {
     Read {
         found: Comparison,

@@ -1,4 +1,6 @@
 // Marking the rules of a rule file, and the text that `marker` prints.
+#![tactic(auto)]
+
 pub mod mark;
 pub mod report;
 pub mod rule;

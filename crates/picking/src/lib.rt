@@ -1,4 +1,6 @@
 // Picking the greater of two terms under a rule file.
+#![tactic(auto)]
+
 ghost use Rattle.std.specs.Prelude.{◌≡◌};
 ghost use Rattle.operations.specs.Picking.{picked, of_greater, greater_part};
 ghost use Rattle.operations.specs.Enums.{pick_reply};

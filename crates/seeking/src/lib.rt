@@ -1,4 +1,6 @@
 // One rule of a packed file, by its number: finding where it begins, and marking it there.
+#![tactic(auto)]
+
 ghost use Rattle.std.specs.Prelude.{◌≡◌, [], true, ℕ, ◌*◌, ◌≤◌, length, get_or};
 ghost use Rattle.terms.specs.Signature.{Signature};
 ghost use Rattle.format.specs.Layout.{form_number, max_bytes, max_nodes};
@@ -22,7 +24,7 @@ use bits::{BitCursor, Read};
 
 // How a packed file stands of which so many rules are marked: it is refused or has fewer rules, it has no others, or
 // the next begins at a bit.
-#[derive(Clone, Copy)]
+#[derive(Drop)]
 pub enum Standing {
     Bad,
     Done,

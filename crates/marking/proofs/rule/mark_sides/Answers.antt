@@ -22,3 +22,14 @@ mark-requires c =
 pub margin-requires : goal.margin-requires
 margin-requires c = (c.total-s.ensures.small, c.total-t.ensures.small)
 
+pub returns : goal.returns
+returns c =
+    let margin = c.margin.ensures _ _ _ c.total-s.ensures c.total-t.ensures in record {
+      marks = record {
+        mark = c.mark.ensures;
+        margin = to_z-of_z w64 c.margin.result (record {
+          sfits = c.margin.type_inv;
+        }) ∙ margin;
+      };
+      cursor_value = refl;
+    }

@@ -69,3 +69,24 @@ returns c =
           refl;
       within = (omega arith, l.invariant.4);
     }
+
+pub loop-i-preserved : goal.loop-i-preserved
+loop-i-preserved c =
+    let a = c.args in
+    let l = c.loop-i in
+    let within = rw c.in-Got.is at c.mark_rule.ensures.marked_within in (
+      omega arith,
+      omega (arith, c.decreases-decreasing.ensures.upper_bound),
+      ap length c.put_mark.ensures ∙ simp length-set l.invariant.2,
+      ap length c.put_margin.ensures ∙ simp length-set l.invariant.3,
+      within,
+      listed_more (bit_source a.book.now) (unused_of form_number) (signature_of a.table.now) a.count
+          a.cursor.at
+          a.marks.now a.margins.now
+          l.i l.here.at l.decreasing l.marks l.margins l.invariant.5 c.loop-i-test.true _
+          c.in-Got.rule _ _
+          (rw c.in-Got.is at c.mark_rule.ensures.marks_read) c.decreases-decreasing.ensures.value c.put_mark.ensures
+          (c.put_margin.ensures ∙ ap (set l.margins l.i) (to_z-of_z w64 _ (record {
+            sfits = omega arith;
+          }))),
+    )

@@ -1,0 +1,23 @@
+-- The rule that is read there is marked, the first of one.
+use native.Mathlib.Omega.{arith}
+use Rattle.format.specs.Layout.{form_number}
+use Rattle.format.specs.Reading.{bit_source}
+use Rattle.format.specs.Forms.{unused_of}
+use Rattle.symbols.specs.Table.{signature_of}
+use Rattle.bits.specs.Cursor.{told}
+use Rattle.seeking.proofs.OneLaws.{one-marked}
+use Rattle.seeking.proofs.mark_there.Goals as goal
+
+pub mark_rules-requires : goal.mark_rules-requires
+mark_rules-requires c =
+    record {
+      book_len_bound = c.requires.book_len_bound;
+      table = (c.requires.table, c.arities-arities.ensures, c.put_node_sums.ensures);
+      count_in_bounds = omega arith;
+    }
+
+pub returns : goal.returns
+returns c sides next e =
+    let a = c.args in
+    one-marked (bit_source a.book.now) (unused_of form_number) (signature_of a.table.now) a.cursor.at sides next
+    e (told c.mark_rules.result) _ _ _ _ _ c.mark_rules.ensures.all_marked

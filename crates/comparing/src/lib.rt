@@ -23,7 +23,7 @@ mod variables;
 pub use crate::variables::oftener;
 
 // How two terms compare, and how many words they have; or the error.
-#[derive(Drop)]
+#[derive(Clone, Copy)]
 pub enum Related {
     Read {
         found: Comparison,

@@ -11,7 +11,7 @@ use equivalence::MAX_ELEMENTS;
 use format::MAX_NODES;
 use symbols::precedence;
 
-#[derive(Drop)]
+#[derive(Clone, Copy)]
 pub struct PartCounts {
     pub above: usize,
     pub below: usize,

@@ -14,7 +14,7 @@ use operations::Error;
 use words::front_term;
 
 // How many words of the table are its front, and how many words the terms have; or the error.
-#[derive(Drop)]
+#[derive(Clone, Copy)]
 pub enum Ends {
     Read {
         front: usize,

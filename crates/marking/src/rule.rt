@@ -16,7 +16,7 @@ use weights::NODE_SUMS;
 use weights::totals::total;
 
 // A rule's mark and margin, and the cursor past it.
-#[derive(Drop)]
+#[derive(Clone, Copy)]
 pub struct MarkedRule {
     pub mark: u8,
     pub margin: i64,
@@ -24,7 +24,7 @@ pub struct MarkedRule {
 }
 
 // A rule that was marked, or an error's code and offset.
-#[derive(Drop)]
+#[derive(Clone, Copy)]
 pub enum RuleReading {
     Got(MarkedRule),
     Fault { code: u8, offset: usize },

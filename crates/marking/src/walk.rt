@@ -19,7 +19,7 @@ use bits::{BitCursor, Read};
 use marks::{decreases, put_margin, put_mark};
 
 // How many rules a file has and how many of them decrease, or an error's code and offset.
-#[derive(Drop)]
+#[derive(Clone, Copy)]
 pub enum FileMarked {
     Marked { rules: usize, decreasing: usize },
     Fault { code: u8, offset: usize },

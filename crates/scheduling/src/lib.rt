@@ -1,4 +1,6 @@
 // Jobs in turn, one rule at a time: a search over them, job by job, for the next that has rules left, and its turn.
+#![tactic(auto)]
+
 ghost use Rattle.std.specs.Prelude.{◌≡◌, length};
 ghost use Rattle.operations.specs.Enums.{turn_reply};
 ghost use Rattle.scheduling.specs.Search.{standing_of, is_allowed, comes_first, begun, looked};

@@ -24,7 +24,7 @@ use bits::{BitCursor, Read};
 
 // How a packed file stands of which so many rules are marked: it is refused or has fewer rules, it has no others, or
 // the next begins at a bit.
-#[derive(Drop)]
+#[derive(Clone, Copy)]
 pub enum Standing {
     Bad,
     Done,

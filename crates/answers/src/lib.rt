@@ -1,4 +1,6 @@
 // The answer of reading, a value or the first fault.
+#![tactic(auto)]
+
 ghost use Rattle.std.specs.Prelude.{◌≡◌};
 ghost use Rattle.answers.specs.Answer.{answer_of};
 

@@ -1,4 +1,6 @@
 // The bit cursor: each of its methods hands back a field or a node of a packed file, and the cursor moved past it.
+#![tactic(auto)]
+
 ghost use Rattle.std.specs.Prelude.{◌≡◌, ℕ, ◌+◌, ◌/◌, ◌^◌, ◌≤◌, length};
 ghost use Rattle.format.specs.Layout.{max_bytes};
 ghost use Rattle.format.specs.Reading.{bit_field, is_padding, bit_source};

@@ -127,6 +127,8 @@ module _ (σ : Signature) (few : length σ.symbols ≤ first_variable) where
 
   rules-agree : (rs rs' : List Sides) → AllTerms σ rs → AllTerms σ rs' →
       Each Renamed (map (rule_of σ) rs) (map (rule_of σ) rs') → map converted_sides rs ≡ map converted_sides rs'
+  rules-agree [] (r' ∷ rs') h h' x6 = elim x6 [ ]
+  rules-agree (r ∷ rs) [] h h' x5 = elim x5 [ ]
   rules-agree [] [] h h' none = refl
   rules-agree (r ∷ rs) (r' ∷ rs') h h' (more p ps) =
       ap₂ ◌∷◌ (sides-agree r r' (h r (Memᴰ.head refl)) (h' r' (Memᴰ.head refl)) p)

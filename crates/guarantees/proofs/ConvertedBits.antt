@@ -113,7 +113,7 @@ file-kept f old =
     let rules = flat_map rule_items f.rules in
     let new = flat_map rule_items (map converted_sides f.rules) in
     let all = items-append symbols symbols rules new (symbols-kept f.signature.symbols) (rules-kept f.rules) in
-    rw (length-map f.rules converted_sides, old)
+    simp (length-map f.rules converted_sides, old)
     (kept_append (free-bits form_width first_form form_number) (kept_append (kept-bits symbol_count_width _)
     (kept_append (kept-bits weight_width _) (kept_append (kept-bits rule_count_width _) all))))
 
@@ -162,4 +162,4 @@ pub first_byte : (f : RuleFile) → f.form ≡ form_number → in_first_form (pa
 unfolding packed items flat_map
 first_byte f now =
     let later = drop 1 (items (file_before f)) in
-    rw now (forms-apart (flat_map item_bits later) (items-bits later))
+    simp now (forms-apart (flat_map item_bits later) (items-bits later))

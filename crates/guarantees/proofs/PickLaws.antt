@@ -207,6 +207,8 @@ module _ (bytes left right : List ℕ) where
   handed-by (refused f) e = of_neither (rw e refusal) (part_of _ e)
 
   pub empty_of : (r : Reply GreaterSide) → picked bytes left right ≡ r → NoSide r → greater_part bytes left right ≡ []
+  empty_of (accepted (Left _)) e x6 = elim x6 [ ]
+  empty_of (accepted (Right _)) e x7 = elim x7 [ ]
   empty_of (accepted Equivalent) e equivalent = part_of _ e
   empty_of (accepted Unrelated) e unrelated = part_of _ e
   empty_of (refused f) e refusal = part_of _ e

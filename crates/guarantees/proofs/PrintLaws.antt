@@ -21,6 +21,7 @@ Printed [] = Unit {0}
 Printed (c ∷ text) = ((32 ≤ c) × (c ≤ 126)) × Printed text
 
 printed-member : (text : List ℕ) → Printed text → (c : ℕ) → Memᴰ c text → (32 ≤ c) × (c ≤ 126)
+printed-member [] _ c x3 = elim x3 [ ]
 printed-member (a ∷ text) (h, k) c (Memᴰ.head e) = rw e h
 printed-member (a ∷ text) (h, k) c (Memᴰ.tail m) = printed-member text k c m
 

@@ -1,4 +1,6 @@
 // Marks: which of them are those of the order, where they are stored, and the score.
+#![tactic(auto)]
+
 ghost use Rattle.std.specs.Prelude.{◌≡◌, [], ◌∷◌, ◌≤◌, ◌<◌, length, set};
 ghost use Rattle.terms.specs.Marks.{is_decreasing};
 ghost use Rattle.operations.specs.Marking.{decreasing_count};

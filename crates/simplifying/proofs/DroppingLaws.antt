@@ -43,6 +43,7 @@ module _ {A : Type 0} where
 
   parted-takes-left : {a : A} {l m n k : List A} → Parted l m n → Takes a m k →
       (j : List A) × Takes a l j × Parted j k n
+  parted-takes-left parted x = elim x [ ]
   parted-takes-left (on_left {l} p) here = (l, here, p)
   parted-takes-left (on_left {a = b} p) (later x) =
       let (j, y, q) = parted-takes-left p x in (b ∷ j, later y, on_left q)
@@ -51,6 +52,7 @@ module _ {A : Type 0} where
 
   parted-takes-right : {a : A} {l m n k : List A} → Parted l m n → Takes a n k →
       (j : List A) × Takes a l j × Parted j m k
+  parted-takes-right parted x = elim x [ ]
   parted-takes-right (on_right {l} p) here = (l, here, p)
   parted-takes-right (on_right {a = b} p) (later x) =
       let (j, y, q) = parted-takes-right p x in (b ∷ j, later y, on_right q)

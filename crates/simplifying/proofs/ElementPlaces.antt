@@ -12,7 +12,7 @@ use lib.Dec.{eqb}
 use borrow.Author.Tests.{eqb-true}
 use Rattle.multisets.specs.Multiset.{multiset_equal}
 use Rattle.multisets.proofs.Relations.{by_test}
-use Rattle.multisets.proofs.MultisetLaws.{Takes, here, takes-member, multiset_equal-split}
+use Rattle.multisets.proofs.MultisetLaws.{Takes, here, later, takes-member, multiset_equal-split}
 use Rattle.multisets.proofs.SortingLaws.{takes-append}
 use Rattle.terms.specs.Signature.{Signature, symbol_of, Admissible}
 use Rattle.terms.specs.Term.{Term, Terms, row, arguments, flattening, flattenings, WellFormed, WellFormeds, Expression}
@@ -29,6 +29,7 @@ use Rattle.terms.proofs.EquivalenceSound.{join-exchange, bunch-append, bunch-two
 use Rattle.terms.proofs.TermLaws.{row-arguments, arguments-row}
 
 takes_one : {a b : Term} {m : List Term} → Takes a (b ∷ []) m → (a ≡ b) × (m ≡ [])
+takes_one (later x4) = elim x4 [ ]
 takes_one here = (refl, refl)
 
 module _ (σ : Signature) (A : Admissible σ) (f : ℕ) (ac : (symbol_of σ f).ac ≡ true) where

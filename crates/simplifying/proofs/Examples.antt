@@ -84,6 +84,7 @@ abbrev all_rules : List Rule
 all_rules = dropping ∷ (cancelling ∷ (regrouping ∷ (growing ∷ [])))
 
 every-member : {A : Type 0} (p : A → Bool) (l : List A) → every p l ≡ true → (a : A) → Memᴰ a l → p a ≡ true
+every-member p [] e a x = elim x [ ]
 every-member p (b ∷ l) e a (Memᴰ.head q) = rw q ((both (p b) _).0 e).0
 every-member p (b ∷ l) e a (Memᴰ.tail m) = every-member p l ((both (p b) _).0 e).1 a m
 

@@ -170,6 +170,8 @@ module _ (σ : Signature) where
       pub matches_in-complete : (ps ts : Terms) (b : Bindings) (τ : Substitution) → WellFormeds σ ts →
           Equivalents σ ts (substitute_in τ ps) → Agrees σ b τ →
           (d : Bindings) × Memᴰ d (matches_in σ ps ts b) × Agrees σ d τ
+      matches_in-complete nil (cons t ts) b τ w x9 a = elim x9 [ ]
+      matches_in-complete (cons p ps) nil b τ w x8 a = elim x8 [ ]
       matches_in-complete nil nil b τ w none a = (b, Memᴰ.head refl, a)
       matches_in-complete (cons p ps) (cons t ts) b τ w (each q r) a =
           let (c, j, g) = matches-complete p t b τ w.0 q a in

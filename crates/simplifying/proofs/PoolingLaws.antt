@@ -63,6 +63,7 @@ module _ (σ : Signature) (binary : AcBinary σ) (f : ℕ) (ac : (symbol_of σ f
       (flattening-joined σ f ac binary t w)
 
   pub of-full : (b : Bunch) (t : Term) → SameBunch σ b (full t) → (u : Term) × (b ≡ full u) × Equivalent σ u t
+  of-full empty t x = elim x [ ]
   of-full (full u) t (both_full d) = (u, refl, d)
 
   module _ (shared : ℕ → Bool) (τ : Substitution) (w : (x : ℕ) → WellFormed σ (τ x)) where

@@ -3,7 +3,7 @@
 --     greater-after, at-most-after          the order
 use mathlib.Core.List.Memᴰ
 use mathlib.Core.List.{List, [], ◌∷◌, ◌++◌}
-use mathlib.Core.Path.{◌≡◌, refl, sym, ◌∙◌}
+use mathlib.Core.Path.{◌≡◌, refl, sym, ap, ◌∙◌}
 use mathlib.Core.Bool.{Bool, true, false, true≢false}
 use Prim.Native.Nat.{ℕ, ◌+◌}
 use native.Mathlib.Omega.{arith}
@@ -26,7 +26,7 @@ use Rattle.terms.proofs.WeightLaws.{weights}
 use Rattle.terms.proofs.VariableLaws.{none_oftener-ground}
 use Rattle.theory.proofs.DecreasesView.{Decreases, RootDecreases}
 use Rattle.theory.proofs.DecreasesView.Decreases.{by_weight, by_root}
-use Rattle.theory.proofs.DecreasesView.RootDecreases.{by_precedence, by_row, by_flattening}
+use Rattle.theory.proofs.DecreasesView.RootDecreases.{by_precedence, by_row, by_flattening, by_power}
 use Rattle.theory.proofs.FormedLaws.{like_formed, like_formed-equivalence}
 use Rattle.theory.proofs.StrictOrder.{greater_formed, greater_formed-order, formed-view}
 use Rattle.theory.proofs.Contexts.{greater-fill}
@@ -74,17 +74,33 @@ module _ (σ : Signature) (A : Admissible σ) where
     same_length : length us ≡ length vs
     same_length = omega (arith, bs.1, cs.1)
 
-    roots-after : (symbol_of σ g).ac ≡ false →
-        RootDecreases σ (like_formed σ) (greater_formed σ) (after g vs ss) (after g vs ts) →
+    roots-from : {s t : Term} → RootDecreases σ (like_formed σ) (greater_formed σ) s t →
+        s ≡ after g vs ss → t ≡ after g vs ts → (symbol_of σ g).ac ≡ false →
         RootDecreases σ (like_formed σ) (greater_formed σ) (after g us ss) (after g us ts)
-    roots-after a (by_precedence h) = absurd (omega arith)
-    roots-after a (by_row b h) =
-        by_row {ss = arguments (us ++ row ss)} {ts = arguments (us ++ row ts)} b
+    roots-from (by_precedence {f = f} {g = h} d) p q a =
+        let x : f ≡ g = cc in
+        let y : h ≡ g = cc in
+        absurd (omega (
+          arith,
+          ap (λ (k : ℕ). (symbol_of σ k).precedence) x,
+          ap (λ (k : ℕ). (symbol_of σ k).precedence) y,
+        ))
+    roots-from (by_row {ss = ss'} {ts = ts'} b h) p q a =
+        let x : ss' ≡ arguments (vs ++ row ss) = cc in
+        let y : ts' ≡ arguments (vs ++ row ts) = cc in
+        by_row {ss = arguments (us ++ row ss)} {ts = arguments (us ++ row ts)} a
         (rw (row-arguments (us ++ row ss), row-arguments (us ++ row ts))
         (row_greater-after (like_formed σ) (like_formed-equivalence σ) (greater_formed σ) (greater_formed-order σ A) vs us
         (row ss) (row ts) (sym same_length)
-        (rw (row-arguments (vs ++ row ss), row-arguments (vs ++ row ts)) at h)))
-    roots-after a (by_flattening b h) = absurd (true≢false (sym b ∙ a))
+        (rw (x, y, row-arguments (vs ++ row ss), row-arguments (vs ++ row ts)) at h)))
+    roots-from (by_flattening {f = f} b h) p q a =
+        let x : f ≡ g = cc in absurd (true≢false (sym b ∙ ap (λ (k : ℕ). (symbol_of σ k).ac) x ∙ a))
+    roots-from (by_power _) p q a = let x : ⊥ = cc in absurd x
+
+    roots-after : (symbol_of σ g).ac ≡ false →
+        RootDecreases σ (like_formed σ) (greater_formed σ) (after g vs ss) (after g vs ts) →
+        RootDecreases σ (like_formed σ) (greater_formed σ) (after g us ss) (after g us ts)
+    roots-after a d = roots-from d refl refl a
 
     greater-after-plain : (symbol_of σ g).ac ≡ false → is_greater σ (after g vs ss) (after g vs ts) ≡ true →
         is_greater σ (after g us ss) (after g us ts) ≡ true

@@ -16,7 +16,7 @@ use Rattle.multisets.specs.Multiset.{multiset_equal}
 use Rattle.terms.specs.Signature.{Signature, symbol_of, Admissible}
 use Rattle.terms.specs.Term.{Term, Terms, row, arguments, flattening, flattenings, WellFormed, WellFormeds, Expression}
 use Rattle.terms.specs.Term.Term.{var, app}
-use Rattle.terms.specs.Term.Terms.{cons}
+use Rattle.terms.specs.Term.Terms.{nil, cons}
 use Rattle.terms.specs.Equivalence.{pair, Equivalent, Equivalents, is_equivalent}
 use Rattle.terms.specs.Equivalence.Equivalent.{same, back, then, under, exchange, regroup}
 use Rattle.terms.specs.Equivalence.Equivalents.{none, each}
@@ -57,6 +57,8 @@ module _ (R : System) where
   in_row : (a b : Term) → Leads a b → (ps qs : List Term) (ts : Terms) → WellFormeds σ ts × Grounds ts →
       Equivalents σ ts (arguments (ps ++ (a ∷ qs))) →
       (us : Terms) × Memᴰ us (reducts_in R ts) × Equivalents σ us (arguments (ps ++ (b ∷ qs)))
+  in_row a b h [] qs nil e x4 = elim x4 [ ]
+  in_row a b h (p ∷ ps) qs nil e x5 = elim x5 [ ]
   in_row a b h [] qs (cons t ts) e (each d r) =
       let (u, i, q) = h t ((expressions σ).head t ts e) d in (cons u ts, of-first R t ts u i, each q r)
   in_row a b h (p ∷ ps) qs (cons t ts) e (each d r) =
@@ -136,6 +138,7 @@ module _ (R : System) where
         where
           go : (us : Terms) → Memᴰ us (regroupings f ts) → Equivalents σ us (pair a v) →
               Expression σ (app f us) → Among σ (reducts R (app f ts)) (app f (pair b v))
+          go nil i x3 h = elim x3 [ ]
           go (cons s us) i (each d r) h =
               let (t, j, q) = whole s ((expressions σ).head s us ((expressions σ).inner f (cons s us) h)) d in (
                 app f (cons t us),

@@ -136,6 +136,7 @@ module _ (R : System) (A : Admissible R.signature) where
   left-symbol (var x) r w h = absurd (go ((is_greater-view σ (var x) r).0 h))
     where
       go : Decreases σ (is_equivalent σ) (is_greater σ) (var x) r → ⊥
+      go (by_root _ x5) = elim x5 [ ]
       go (by_weight o h) = omega (arith, variable-lightest σ A x r w)
   left-symbol (app g ls) r w h = (g, ls, refl)
 

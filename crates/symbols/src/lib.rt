@@ -1,4 +1,6 @@
 // The decoded symbol table: access to a symbol by its number. Only these functions know how the words lie.
+#![tactic(auto)]
+
 ghost use Rattle.std.specs.Prelude.{◌≡◌, not, ◌&&◌, ◌||◌, cond, ◌+◌, ◌*◌, ◌^◌, ◌≤◌, ◌<◌, eqb, length, get_or};
 ghost use Rattle.terms.specs.Signature.{Signature, symbol_of};
 ghost use Rattle.format.specs.Layout.{first_form};

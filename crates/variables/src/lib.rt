@@ -1,4 +1,6 @@
 // The variables of node words in order of first use: the lowest unused number, and renumbering a rule in place.
+#![tactic(auto)]
+
 ghost use Rattle.std.specs.Prelude.{◌≡◌, List, ℕ, ◌+◌, ◌*◌, ◌≤◌, ◌<◌};
 ghost use Rattle.terms.specs.Term.{variable_count};
 ghost use Rattle.terms.specs.Words.{first_variable};

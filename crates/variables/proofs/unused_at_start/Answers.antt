@@ -1,0 +1,11 @@
+-- The test is the definition's.
+use native.Mathlib.Omega.{arith}
+use borrow.Author.Tests.{eq-eqb, ne_eqb}
+use Rattle.format.specs.Layout.{first_form}
+use Rattle.variables.proofs.unused_at_start.Goals as goal
+
+pub returns-then-form-eq-FIRST_FORM : goal.returns-then-form-eq-FIRST_FORM
+returns-then-form-eq-FIRST_FORM c = (rw (eq-eqb c.args.form first_form c.if-form-eq-FIRST_FORM.true), omega arith)
+
+pub returns : goal.returns
+returns c = (rw (ne_eqb c.args.form first_form c.if-form-eq-FIRST_FORM.false), omega arith)

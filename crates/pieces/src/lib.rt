@@ -1,5 +1,7 @@
 // Pieces of a term that is to be simplified, whole parts and sums of some elements of a flattening, which a mask takes;
 // their words, and those of instances of a rule's side, put into a buffer.
+#![tactic(auto)]
+
 pub mod comparison;
 pub mod elements;
 pub mod instances;

@@ -1,4 +1,6 @@
 // Text in a buffer: each function writes at an index, and answers the index past what it wrote.
+#![tactic(auto)]
+
 ghost use Rattle.std.specs.Prelude.{◌≡◌, [], ◌∷◌, ◌++◌, ◌+◌, ◌^◌, ◌≤◌, ◌<◌, length, nat_abs};
 ghost use Rattle.std.proofs.lemmas.List.Edits.{sets};
 ghost use Rattle.operations.specs.Text.{decimal, signed_decimal, spaces, right_set, left_set};

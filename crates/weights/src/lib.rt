@@ -1,4 +1,6 @@
 // Weights and occurrences of variables of whole terms. Only this crate and `measures` know how the sums are kept.
+#![tactic(auto)]
+
 mod digits;
 pub mod nodes;
 pub mod totals;

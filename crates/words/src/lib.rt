@@ -1,4 +1,6 @@
 // Reading from words: a field, and the term at an offset or at the front.
+#![tactic(auto)]
+
 ghost use Rattle.std.specs.Prelude.{◌≡◌, cond, ℕ, min, ◌+◌, ◌-◌, ◌*◌, ◌^◌, ◌≤◌, ◌<◌, eqb, length};
 ghost use Rattle.terms.specs.Signature.{Signature};
 ghost use Rattle.terms.specs.Words.{first_variable};

@@ -1,0 +1,44 @@
+-- The loop keeps: the first from x on is the first of all.
+use mathlib.Core.Path.{refl, ◌∙◌}
+use Prim.Native.Nat.{◌-◌}
+use native.Mathlib.Omega.{arith}
+use Rattle.scaling.proofs.CountLaws.{below-product, more-step, more-found, more-none}
+use Rattle.scaling.proofs.variables.first_more.Goals as goal
+
+pub loop-x-init : goal.loop-x-init
+loop-x-init c = (omega arith, refl)
+
+pub overflow_mul-left : goal.overflow_mul-left
+overflow_mul-left c = omega (
+  arith,
+  below-product (c.requires.by_index c.loop-x.x (omega arith)).0
+      c.requires.f_le_limit.1,
+)
+
+pub overflow_mul-right : goal.overflow_mul-right
+overflow_mul-right c = omega (
+  arith,
+  below-product (c.requires.by_index c.loop-x.x (omega arith)).1
+      c.requires.f_le_limit.0,
+)
+
+pub returns-then-left-x : goal.returns-then-left-x
+returns-then-left-x c =
+    let a = c.args in
+    let l = c.loop-x in
+    more-found a.left.now a.f a.right.now a.g l.x (omega arith) c.if-left-x.true ∙ l.invariant.1
+
+pub loop-x-preserved : goal.loop-x-preserved
+loop-x-preserved c =
+    let a = c.args in
+    let l = c.loop-x in (
+      omega arith,
+      more-step a.left.now a.f a.right.now a.g l.x (omega arith) c.if-left-x.false
+          ∙ l.invariant.1,
+    )
+
+pub returns : goal.returns
+returns c =
+    let a = c.args in
+    let l = c.loop-x in
+    more-none a.left.now a.f a.right.now a.g l.x (omega arith) ∙ l.invariant.1

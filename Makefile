@@ -5,7 +5,7 @@ DESTDIR ?=
 INSTALL ?= install
 CARGO ?= cargo
 
-archive := target/staticlib/libackbo.a
+archive := crates/ackbo/out/libackbo.a
 program := tools/bookkeeper/target/release/bookkeeper
 headers := include/ackbo.h include/ackbo_text.h include/ackbo_sheet.h
 version := $(shell sed -n 's/^.define ACKBO_VERSION "\(.*\)"$$/\1/p' include/ackbo_text.h)
@@ -36,6 +36,6 @@ install-bookkeeper: $(archive)
 uninstall:
 	cd '$(folder)' && rm -f $(headers) lib/libackbo.a lib/pkgconfig/ackbo.pc bin/bookkeeper
 
-# An archive that is there is taken as it is: rt staticlib ackbo makes a new one.
+# An archive that is there is taken as it is: rt lib in crates/ackbo makes a new one.
 $(archive):
-	rt staticlib ackbo
+	cd crates/ackbo && rt lib

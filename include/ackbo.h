@@ -24,9 +24,9 @@
    called for, 2 the word is missing, 14 it is above 271, 9 it is a symbol number too great for the book; or, at the
    first word after the term, 15 words are left over.
 
-   Each call reads its whole book, which takes about 0.1 ms for the longest (docs/BENCHMARKS.md has times), and keeps
-   nothing for the next one. The functions hold no state: any number of threads may call them at once, as long as what
-   one call writes to is used by no other.
+   Each call reads its whole book, which takes about 0.1 ms for the longest (docs/BENCHMARKS.md has times; all times,
+   also those below, were taken with the older kit), and keeps nothing for the next one. The functions hold no state:
+   any number of threads may call them at once, as long as what one call writes to is used by no other.
 
    ackbo_text.h has names and words for refusals and marks, and the limits; docs/MARKS.md says what each means.
    ackbo_sheet.h finds the terms of an opened book, and the margins of its rules.

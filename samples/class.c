@@ -2,7 +2,7 @@
    desk and the rule that it served with the mark, as number and in words, then the count of rules of each desk; for a
    refused turn the number of the refusal, its place, which is a desk, and its words. From the root of the repository:
 
-   cc -Wall -Wextra -Iinclude samples/class.c target/staticlib/libackbo.a -o target/class
+   cc -Wall -Wextra -Iinclude samples/class.c crates/ackbo/out/libackbo.a -o target/class
    target/class samples/sample.book samples/listing.book samples/wrapper.book | diff - samples/class.out
 
    and where the library is installed:

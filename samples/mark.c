@@ -1,7 +1,7 @@
 /* Prints the count of rules of a book on standard input, the mark of each rule, as number and in words, and the score;
    for a refused book the number of the refusal, its place and its words. From the root of the repository:
 
-   cc -Wall -Wextra -Iinclude samples/mark.c target/staticlib/libackbo.a -o target/mark
+   cc -Wall -Wextra -Iinclude samples/mark.c crates/ackbo/out/libackbo.a -o target/mark
    target/mark < samples/listing.book | diff - samples/mark.out
 
    and where the library is installed:

@@ -1,4 +1,6 @@
 // The operations for callers in C: each gives its code, 0 or that of the error, and stores the values of its reply.
+#![tactic(auto)]
+
 pub mod turn;
 
 ghost use Rattle.std.specs.Prelude.{◌≡◌};

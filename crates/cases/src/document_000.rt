@@ -1,6 +1,7 @@
 // The examples of the article 000.
 // A sheet has a line for the header, each symbol (arity, AC mark, weight, rank) and each rule (left side, right side).
-use crate::print::{print, show};
+use crate::print::show;
+use std::io;
 
 // 000, example 5.3: f > + > g > a > b > h.
 #[rattlefmt::skip]
@@ -91,7 +92,16 @@ const EXAMPLE_6_6: [u16; 96] = [
 
 // Shows example 6.6 with these ranks of p, q and r, and weights of d, e0, e1 and e2. The weight of symbol k is word
 // 4 * k + 6, its rank the next.
-fn show_clause(p: u16, q: u16, r: u16, d: u16, e0: u16, e1: u16, e2: u16) {
+fn show_clause(
+    rt: &impl Print,
+    p: u16,
+    q: u16,
+    r: u16,
+    d: u16,
+    e0: u16,
+    e1: u16,
+    e2: u16,
+) -> io::Result<()> {
     let mut sheet = EXAMPLE_6_6;
     sheet[10] = d;
     sheet[19] = p;
@@ -100,14 +110,14 @@ fn show_clause(p: u16, q: u16, r: u16, d: u16, e0: u16, e1: u16, e2: u16) {
     sheet[38] = e0;
     sheet[42] = e1;
     sheet[46] = e2;
-    crate::print::show_sheet(&sheet);
+    crate::print::show_sheet(rt, &sheet)
 }
 
 // Where x alone is false, so is the clause.
-fn show_false(e0: u16, e1: u16, e2: u16) {
-    print(b"document 000, example 6.6, x alone false, ");
-    crate::print::print_numbers(e0 as u64, e1 as u64, e2 as u64);
-    show_clause(3, 12, 13, 1, e0, e1, e2);
+fn show_false(rt: &impl Print, e0: u16, e1: u16, e2: u16) -> io::Result<()> {
+    print!(rt; "document 000, example 6.6, x alone false, ")?;
+    crate::print::print_numbers(rt, e0 as u64, e1 as u64, e2 as u64)?;
+    show_clause(rt, 3, 12, 13, 1, e0, e1, e2)
 }
 
 // 000, the base systems before lemma 6.5 and of section A.3, for two symbols p and q.
@@ -145,23 +155,23 @@ const CONTEXT_OF_C: [u16; 40] = [
     1, 3, 2, 0, 256, 0,  1, 3, 0, 2, 0, 0, // g(f(c),x)+c -> g(c,f(c))+c
 ];
 
-pub fn run() {
-    show(b"document 000, example 5.3\n", &EXAMPLE_5_3);
-    show(b"document 000, example 5.3, reversed\n", &REVERSED_5_3);
-    show(b"document 000, example 7.3\n", &EXAMPLE_7_3);
-    show(b"document 000, example 9.1\n", &EXAMPLE_9_1);
-    print(b"document 000, example 6.6, x, y and z true\n");
-    show_clause(11, 12, 13, 9, 1, 1, 1);
-    print(b"document 000, example 6.6, x and z false\n");
-    show_clause(3, 12, 4, 1, 1, 1, 9);
-    print(b"document 000, example 6.6, x, y and z false\n");
-    show_clause(3, 4, 5, 1, 1, 9, 1);
-    show_false(1, 1, 1);
-    show_false(1, 1, 9);
-    show_false(1, 9, 1);
-    show_false(9, 1, 1);
-    show_false(5, 7, 9);
-    show_false(9, 7, 5);
-    show(b"document 000, base systems of section 6\n", &BASE_SYSTEMS);
-    show(b"document 000, examples 4.6 and 4.9\n", &CONTEXT_OF_C);
+pub fn run(rt: &impl Print) -> io::Result<()> {
+    show(rt, "document 000, example 5.3", &EXAMPLE_5_3)?;
+    show(rt, "document 000, example 5.3, reversed", &REVERSED_5_3)?;
+    show(rt, "document 000, example 7.3", &EXAMPLE_7_3)?;
+    show(rt, "document 000, example 9.1", &EXAMPLE_9_1)?;
+    println!(rt; "document 000, example 6.6, x, y and z true")?;
+    show_clause(rt, 11, 12, 13, 9, 1, 1, 1)?;
+    println!(rt; "document 000, example 6.6, x and z false")?;
+    show_clause(rt, 3, 12, 4, 1, 1, 1, 9)?;
+    println!(rt; "document 000, example 6.6, x, y and z false")?;
+    show_clause(rt, 3, 4, 5, 1, 1, 9, 1)?;
+    show_false(rt, 1, 1, 1)?;
+    show_false(rt, 1, 1, 9)?;
+    show_false(rt, 1, 9, 1)?;
+    show_false(rt, 9, 1, 1)?;
+    show_false(rt, 5, 7, 9)?;
+    show_false(rt, 9, 7, 5)?;
+    show(rt, "document 000, base systems of section 6", &BASE_SYSTEMS)?;
+    show(rt, "document 000, examples 4.6 and 4.9", &CONTEXT_OF_C)
 }

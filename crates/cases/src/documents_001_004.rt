@@ -1,6 +1,7 @@
 // The examples of the articles 001 and 004, and those that 000 and 004 share.
 // A sheet has a line for the header, each symbol (arity, AC mark, weight, rank) and each rule (left side, right side).
-use crate::print::{print, show};
+use crate::print::show;
+use std::io;
 
 // 000, examples 4.5, 4.8 and 4.11, and 004, examples 3.7 and 3.9: f weighs 0.
 #[rattlefmt::skip]
@@ -27,14 +28,13 @@ const SYSTEM_R1: [u16; 45] = [
 ];
 
 // Shows the system under a title, with these ranks of a and +, and this weight of +.
-fn show_r1(case: &[u8], a: u16, plus: u16, weight: u16) {
-    print(b"documents 000 and 004, R1, ");
-    print(case);
+fn show_r1(rt: &impl Print, case: &str, a: u16, plus: u16, weight: u16) -> io::Result<()> {
+    println!(rt; "documents 000 and 004, R1, {case}")?;
     let mut sheet = SYSTEM_R1;
     sheet[7] = a;
     sheet[10] = weight;
     sheet[11] = plus;
-    crate::print::show_sheet(&sheet);
+    crate::print::show_sheet(rt, &sheet)
 }
 
 // 004, examples 3.1 and 3.2: the top-flattening of (a+b)+a, and the parts of one for f > + > g.
@@ -78,16 +78,17 @@ const SECTION_2_1: [u16; 29] = [
     1, 1, 2, 256, 2, 256, 0,  1, 2, 256, 1, 0, 0, // (h(x)+h(x))+o -> h(x)+(o+o)
 ];
 
-pub fn run() {
+pub fn run(rt: &impl Print) -> io::Result<()> {
     show(
-        b"documents 000 and 004, a symbol over a variable\n",
+        rt,
+        "documents 000 and 004, a symbol over a variable",
         &SYMBOL_OVER_VARIABLE,
-    );
-    show_r1(b"f > a > +, + weighs 0\n", 1, 0, 0);
-    show_r1(b"f > + > a, + weighs 0\n", 0, 1, 0);
-    show_r1(b"f > a > +, + weighs 1\n", 1, 0, 1);
-    show_r1(b"f > + > a, + weighs 1\n", 0, 1, 1);
-    show(b"document 004, examples 3.1 and 3.2\n", &FLATTENINGS);
-    show(b"document 001, section 5\n", &SECTION_5);
-    show(b"document 001, section 2.1\n", &SECTION_2_1);
+    )?;
+    show_r1(rt, "f > a > +, + weighs 0", 1, 0, 0)?;
+    show_r1(rt, "f > + > a, + weighs 0", 0, 1, 0)?;
+    show_r1(rt, "f > a > +, + weighs 1", 1, 0, 1)?;
+    show_r1(rt, "f > + > a, + weighs 1", 0, 1, 1)?;
+    show(rt, "document 004, examples 3.1 and 3.2", &FLATTENINGS)?;
+    show(rt, "document 001, section 5", &SECTION_5)?;
+    show(rt, "document 001, section 2.1", &SECTION_2_1)
 }

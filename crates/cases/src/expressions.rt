@@ -1,6 +1,7 @@
 // 02's small expressions: their numbers, a list of them, and what is refused.
-use crate::print::{close, print, print_count, print_number, print_numbers};
+use crate::print::{close, print_count, print_number, print_numbers};
 use enumerating::{count, list};
+use std::io;
 
 // 01's sample without rules.
 #[rattlefmt::skip]
@@ -46,65 +47,68 @@ const MORE: [u16; 44] = [
 ];
 
 // Counts the terms of 0 to 8 nodes.
-fn print_counts(book: &[u8]) {
+fn print_counts(rt: &impl Print, book: &[u8]) -> io::Result<()> {
     let mut n = 0;
     while n <= 8 {
-        print_count(count(book, n));
+        print_count(rt, count(book, n))?;
         n += 1;
     }
+    Ok(())
 }
 
 // Prints 21 terms of 3 nodes, and the words after them.
-fn print_terms(words: [u16; 66]) {
+fn print_terms(rt: &impl Print, words: [u16; 66]) -> io::Result<()> {
     let mut i = 0;
     while i < 22 {
         print_numbers(
+            rt,
             words[3 * i] as u64,
             words[3 * i + 1] as u64,
             words[3 * i + 2] as u64,
-        );
+        )?;
         i += 1;
     }
+    Ok(())
 }
 
-fn sample() {
+fn sample(rt: &impl Print) -> io::Result<()> {
     let mut book = [0u8; 26];
-    close(&SAMPLE, &mut book);
-    print(b"sample, numbers of small expressions\n");
-    print_counts(&book);
-    print(b"sample, expressions of 3 nodes\n");
+    close(rt, &SAMPLE, &mut book)?;
+    println!(rt; "sample, numbers of small expressions")?;
+    print_counts(rt, &book)?;
+    println!(rt; "sample, expressions of 3 nodes")?;
     let mut words = [77u16; 66];
-    print_number(list(&book, &mut words, 3));
-    print_terms(words);
-    print(b"sample, room for a word less, and also a size that is none\n");
+    print_number(rt, list(&book, &mut words, 3))?;
+    print_terms(rt, words)?;
+    println!(rt; "sample, room for a word less, and also a size that is none")?;
     let mut short = [0u16; 62];
-    print_number(list(&book, &mut short, 3));
-    print_number(list(&book, &mut short, 0));
-    print_number(list(&book, &mut short, 8));
+    print_number(rt, list(&book, &mut short, 3))?;
+    print_number(rt, list(&book, &mut short, 0))?;
+    print_number(rt, list(&book, &mut short, 8))
 }
 
-fn no_constant() {
-    print(b"no constant\n");
+fn no_constant(rt: &impl Print) -> io::Result<()> {
+    println!(rt; "no constant")?;
     let mut book = [0u8; 16];
-    close(&NO_CONSTANT, &mut book);
-    print_counts(&book);
+    close(rt, &NO_CONSTANT, &mut book)?;
+    print_counts(rt, &book)?;
     let mut words = [0u16; 1];
-    print_number(list(&book, &mut words, 7));
+    print_number(rt, list(&book, &mut words, 7))
 }
 
-fn most_terms() {
-    print(b"65,535 terms, and 65,536\n");
+fn most_terms(rt: &impl Print) -> io::Result<()> {
+    println!(rt; "65,535 terms, and 65,536")?;
     let mut book = [0u8; 128];
-    let end = close(&MOST, &mut book);
-    print_count(count(&book[..end], 4));
-    let count_of_bytes = close(&MORE, &mut book);
-    print_count(count(&book[..count_of_bytes], 6));
+    let end = close(rt, &MOST, &mut book)?;
+    print_count(rt, count(&book[..end], 4))?;
+    let count_of_bytes = close(rt, &MORE, &mut book)?;
+    print_count(rt, count(&book[..count_of_bytes], 6))?;
     let mut words = [0u16; 100];
-    print_number(list(&book[..count_of_bytes], &mut words, 6));
+    print_number(rt, list(&book[..count_of_bytes], &mut words, 6))
 }
 
-pub fn run() {
-    sample();
-    no_constant();
-    most_terms();
+pub fn run(rt: &impl Print) -> io::Result<()> {
+    sample(rt)?;
+    no_constant(rt)?;
+    most_terms(rt)
 }

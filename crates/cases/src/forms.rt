@@ -1,6 +1,7 @@
 // 02's form 2: a book of form 1 is refused and converted, and a variable out of turn is refused.
-use crate::print::{print, print_number, print_report};
+use crate::print::{print_number, print_report};
 use converter::convert;
+use std::io;
 
 // 01's sample in form 1, where two rules differ in their variables' numbers alone: sub(v,u)+z -> sub(v,u),
 // sub(s,w)+z -> sub(s,w), neg(w) -> w, u+y -> s, z -> o.
@@ -31,23 +32,23 @@ const OUT_OF_TURN_BOOK: [u8; 29] = [
 ];
 
 // Converts the book of form 1, then the converted one, and then the first one with a byte too little.
-fn convert_old() {
+fn convert_old(rt: &impl Print) -> io::Result<()> {
     let mut book = [0u8; 48];
-    print_number(convert(&OLD, &mut book));
-    print_report(&book);
+    print_number(rt, convert(&OLD, &mut book))?;
+    print_report(rt, &book)?;
     let mut again = [0u8; 48];
-    print_number(convert(&book, &mut again));
+    print_number(rt, convert(&book, &mut again))?;
     let mut short = [0u8; 47];
-    print_number(convert(&OLD, &mut short));
+    print_number(rt, convert(&OLD, &mut short))
 }
 
-pub fn run() {
-    print(b"a book of form 1\n");
-    print_report(&OLD);
-    print(b"the book converted\n");
-    convert_old();
-    print(b"a variable out of turn\n");
+pub fn run(rt: &impl Print) -> io::Result<()> {
+    println!(rt; "a book of form 1")?;
+    print_report(rt, &OLD)?;
+    println!(rt; "the book converted")?;
+    convert_old(rt)?;
+    println!(rt; "a variable out of turn")?;
     let mut book = [0u8; 29];
-    print_number(encoder::encode(&OUT_OF_TURN, &mut book));
-    print_report(&OUT_OF_TURN_BOOK);
+    print_number(rt, encoder::encode(&OUT_OF_TURN, &mut book))?;
+    print_report(rt, &OUT_OF_TURN_BOOK)
 }

@@ -1,8 +1,8 @@
 // 01's limits, each at the last input that is read and at the first that is refused.
-ghost use Rattle.std.specs.Prelude.{◌+◌, ◌*◌, ◌≤◌, length};
-ghost use Rattle.io.specs.Counts.{IsPrefixLen};
+ghost use Rattle.std.specs.Prelude.{◌+◌, ◌*◌, ◌≤◌, length, IfOk};
 
-use crate::print::{close, print, print_marking, print_report};
+use crate::print::{close, print_marking, print_report};
+use std::io;
 
 // The words of the longest sheet, of 251 rules f(..f(c)) -> c with 114 times f, whose book has 32,768 bytes.
 const MAX_WORDS: usize = 29128;
@@ -17,7 +17,7 @@ const WEIGHT_1: [u16; 8] = [2, 1, 2, 0, 0, 0, 1, 0];
 // index past them.
 fn put_rules(sheet: &mut [u16], rules: usize, height: usize) -> usize
     requires { 12 + rules * (height + 2) ≤ length sheet.old }
-    ensures { IsPrefixLen result sheet.new }
+    ensures { result ≤ length sheet.new }
 {
     let mut at = 12;
     let mut i = 0;
@@ -32,9 +32,9 @@ fn put_rules(sheet: &mut [u16], rules: usize, height: usize) -> usize
 }
 
 // Closes the sheet of that many rules f(..f(c)) -> c, each with that many f; w0 and the weights of f and c are 1.
-fn close_towers(rules: u16, height: usize, book: &mut [u8]) -> usize
+fn close_towers(rt: &impl Print, rules: u16, height: usize, book: &mut [u8]) -> io::Result<usize>
     requires { 12 + rules * (height + 2) ≤ 29128 }
-    ensures { IsPrefixLen result book.new }
+    ensures { IfOk result (λ n. n ≤ length book.new) }
 {
     let mut sheet = [0u16; MAX_WORDS];
     // Form, K, w0, N.
@@ -49,55 +49,55 @@ fn close_towers(rules: u16, height: usize, book: &mut [u8]) -> usize
     sheet[10] = 1;
     sheet[11] = 1;
     let end = put_rules(&mut sheet, rules as usize, height);
-    close(&sheet[..end], book)
+    close(rt, &sheet[..end], book)
 }
 
-fn bytes() {
-    print(b"32,768 bytes, and 32,769\n");
+fn bytes(rt: &impl Print) -> io::Result<()> {
+    println!(rt; "32,768 bytes, and 32,769")?;
     let mut book = [0u8; 32769];
-    let count = close_towers(251, 114, &mut book);
+    let count = close_towers(rt, 251, 114, &mut book)?;
     let mut marks = [0u8; 251];
-    print_marking(&book[..count], &mut marks);
-    print_marking(&book, &mut marks);
+    print_marking(rt, &book[..count], &mut marks)?;
+    print_marking(rt, &book, &mut marks)
 }
 
-fn nodes() {
-    print(b"128 nodes, and 129\n");
+fn nodes(rt: &impl Print) -> io::Result<()> {
+    println!(rt; "128 nodes, and 129")?;
     let mut book = [0u8; 157];
-    close_towers(1, 127, &mut book);
-    print_report(&book);
-    close_towers(1, 128, &mut book);
+    close_towers(rt, 1, 127, &mut book)?;
+    print_report(rt, &book)?;
+    close_towers(rt, 1, 128, &mut book)?;
     // Node 128 ends within byte 155, and becomes f in place of c.
     book[155] = 0;
-    print_report(&book);
+    print_report(rt, &book)
 }
 
-fn weights() {
-    print(b"a constant of weight w0, and of w0 - 1\n");
+fn weights(rt: &impl Print) -> io::Result<()> {
+    println!(rt; "a constant of weight w0, and of w0 - 1")?;
     let mut book = [0u8; 9];
-    close(&WEIGHT_2, &mut book);
-    print_report(&book);
-    close(&WEIGHT_1, &mut book);
+    close(rt, &WEIGHT_2, &mut book)?;
+    print_report(rt, &book)?;
+    close(rt, &WEIGHT_1, &mut book)?;
     // The weight ends within byte 7, and becomes 1 in place of 2.
     book[7] = 64;
-    print_report(&book);
+    print_report(rt, &book)
 }
 
-fn marks() {
-    print(b"1,023 marks for 1,023 rules, and 1,022\n");
+fn marks(rt: &impl Print) -> io::Result<()> {
+    println!(rt; "1,023 marks for 1,023 rules, and 1,022")?;
     let mut book = [0u8; 4096];
-    let count = close_towers(1023, 1, &mut book);
+    let count = close_towers(rt, 1023, 1, &mut book)?;
     let mut marks = [0u8; 1023];
-    print_marking(&book[..count], &mut marks);
+    print_marking(rt, &book[..count], &mut marks)?;
     let mut fewer = [0u8; 1022];
-    print_marking(&book[..count], &mut fewer);
+    print_marking(rt, &book[..count], &mut fewer)
 }
 
-pub fn run() {
-    print(b"no bytes\n");
-    print_report(b"");
-    bytes();
-    nodes();
-    weights();
-    marks();
+pub fn run(rt: &impl Print) -> io::Result<()> {
+    println!(rt; "no bytes")?;
+    print_report(rt, b"")?;
+    bytes(rt)?;
+    nodes(rt)?;
+    weights(rt)?;
+    marks(rt)
 }

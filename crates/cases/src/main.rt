@@ -1,5 +1,7 @@
 // Runs 01's sample cases, its limits, 02's forms, wrapper and small expressions and the articles' examples by the proved
 // operations, and prints what comes out.
+#![tactic(auto)]
+
 mod document_000;
 mod documents_001_004;
 mod expressions;
@@ -9,12 +11,14 @@ mod print;
 mod sample;
 mod wrapper;
 
-fn main() {
-    sample::run();
-    forms::run();
-    wrapper::run();
-    expressions::run();
-    document_000::run();
-    documents_001_004::run();
-    limits::run();
+use std::io;
+
+fn main(rt: HostRuntime) -> io::Result<()> {
+    sample::run(&rt)?;
+    forms::run(&rt)?;
+    wrapper::run(&rt)?;
+    expressions::run(&rt)?;
+    document_000::run(&rt)?;
+    documents_001_004::run(&rt)?;
+    limits::run(&rt)
 }

@@ -1,8 +1,9 @@
 // 01's sample, its traps and its listing.
 // A sheet has a line for the header, each symbol (arity, AC mark, weight, rank) and each rule (left side, right side).
-use crate::print::{print, print_comparison, print_number, print_pick, print_report, show};
+use crate::print::{print_comparison, print_number, print_pick, print_report, show};
 use comparing::oftener;
 use hashing::fingerprint;
+use std::io;
 
 // The sample; where 01 does not group a sum, each grouping is a rule.
 #[rattlefmt::skip]
@@ -109,66 +110,69 @@ const TRAPS: [u16; 287] = [
 ];
 
 // Compares terms under the book of the sample.
-fn compare_terms(book: &[u8]) {
-    print_comparison(book, &[3, 256, 1], &[256]); // u+z, u
-    print_comparison(book, &[256], &[3, 256, 1]); // u, u+z
-    print_comparison(book, &[0], &[4, 0]); // o, neg(o)
-    print_comparison(book, &[3, 0, 256], &[3, 1, 256]); // o+u, z+u
-    print_comparison(book, &[3, 4, 0, 3, 1, 0], &[3, 3, 0, 4, 0, 1]); // neg(o)+(z+o), (o+neg(o))+z
-    print_comparison(book, &[3, 4, 256, 0], &[3, 256, 4, 0]); // neg(u)+o, u+neg(o)
-    print_comparison(book, &[256], &[0]); // u, o
-    print_comparison(book, &[0], &[256]); // o, u
-    print_comparison(book, &[2], &[256]); // b, u
+fn compare_terms(rt: &impl Print, book: &[u8]) -> io::Result<()> {
+    print_comparison(rt, book, &[3, 256, 1], &[256])?; // u+z, u
+    print_comparison(rt, book, &[256], &[3, 256, 1])?; // u, u+z
+    print_comparison(rt, book, &[0], &[4, 0])?; // o, neg(o)
+    print_comparison(rt, book, &[3, 0, 256], &[3, 1, 256])?; // o+u, z+u
+    print_comparison(rt, book, &[3, 4, 0, 3, 1, 0], &[3, 3, 0, 4, 0, 1])?; // neg(o)+(z+o), (o+neg(o))+z
+    print_comparison(rt, book, &[3, 4, 256, 0], &[3, 256, 4, 0])?; // neg(u)+o, u+neg(o)
+    print_comparison(rt, book, &[256], &[0])?; // u, o
+    print_comparison(rt, book, &[0], &[256])?; // o, u
+    print_comparison(rt, book, &[2], &[256]) // b, u
 }
 
 // Picks terms under the book of the sample, with words after them.
-fn pick_terms(book: &[u8]) {
-    print_pick(book, &[3, 256, 1], &[256, 272]); // u+z, u
-    print_pick(book, &[256, 3], &[3, 256, 1, 0]); // u, u+z
-    print_pick(book, &[5, 256, 0], &[5, 256, 1]); // sub(u,o), sub(u,z)
-    print_pick(book, &[3, 1, 0], &[3, 0, 1, 9]); // z+o, o+z
-    print_pick(book, &[3, 4, 256, 0], &[3, 256, 4, 0]); // neg(u)+o, u+neg(o)
-    print_pick(book, &[0], &[3, 0]); // o, a term cut short
+fn pick_terms(rt: &impl Print, book: &[u8]) -> io::Result<()> {
+    print_pick(rt, book, &[3, 256, 1], &[256, 272])?; // u+z, u
+    print_pick(rt, book, &[256, 3], &[3, 256, 1, 0])?; // u, u+z
+    print_pick(rt, book, &[5, 256, 0], &[5, 256, 1])?; // sub(u,o), sub(u,z)
+    print_pick(rt, book, &[3, 1, 0], &[3, 0, 1, 9])?; // z+o, o+z
+    print_pick(rt, book, &[3, 4, 256, 0], &[3, 256, 4, 0])?; // neg(u)+o, u+neg(o)
+    print_pick(rt, book, &[0], &[3, 0]) // o, a term cut short
 }
 
 // Fingerprints under the book of the sample.
-fn hash_terms(book: &[u8]) {
-    print_number(fingerprint(book, &[3, 0, 1])); // o+z
-    print_number(fingerprint(book, &[5, 1, 0])); // sub(z,o)
-    print_number(fingerprint(book, &[3, 3, 0, 1, 3, 0, 256])); // (o+z)+(o+u)
-    print_number(fingerprint(book, &[5, 5, 5, 3, 1, 0, 0, 0, 0])); // sub(sub(sub(z+o,o),o),o)
-    print_number(fingerprint(book, &[0, 0])); // o, and a word after it
+fn hash_terms(rt: &impl Print, book: &[u8]) -> io::Result<()> {
+    print_number(rt, fingerprint(book, &[3, 0, 1]))?; // o+z
+    print_number(rt, fingerprint(book, &[5, 1, 0]))?; // sub(z,o)
+    print_number(rt, fingerprint(book, &[3, 3, 0, 1, 3, 0, 256]))?; // (o+z)+(o+u)
+    print_number(rt, fingerprint(book, &[5, 5, 5, 3, 1, 0, 0, 0, 0]))?; // sub(sub(sub(z+o,o),o),o)
+    print_number(rt, fingerprint(book, &[0, 0])) // o, and a word after it
 }
 
 // The variable test under the book of the sample.
-fn test_terms(book: &[u8]) {
-    print_number(oftener(book, &[3, 256, 1], &[256])); // u+z, u
-    print_number(oftener(book, &[3, 256, 1], &[3, 256, 256])); // u+z, u+u
-    print_number(oftener(book, &[256], &[3, 257, 271])); // u, v+ variable 15
-    print_number(oftener(book, &[0], &[271])); // o, variable 15
-    print_number(oftener(book, &[0], &[1, 1])); // o, z and a word after it
+fn test_terms(rt: &impl Print, book: &[u8]) -> io::Result<()> {
+    print_number(rt, oftener(book, &[3, 256, 1], &[256]))?; // u+z, u
+    print_number(rt, oftener(book, &[3, 256, 1], &[3, 256, 256]))?; // u+z, u+u
+    print_number(rt, oftener(book, &[256], &[3, 257, 271]))?; // u, v+ variable 15
+    print_number(rt, oftener(book, &[0], &[271]))?; // o, variable 15
+    print_number(rt, oftener(book, &[0], &[1, 1])) // o, z and a word after it
 }
 
-fn terms() {
+fn terms(rt: &impl Print) -> io::Result<()> {
     let mut book = [0u8; 256];
-    let count = crate::print::close(&SAMPLE, &mut book);
-    print(b"sample, comparisons\n");
-    compare_terms(&book[..count]);
-    print(b"sample, picks\n");
-    pick_terms(&book[..count]);
-    print(b"sample, fingerprints\n");
-    hash_terms(&book[..count]);
-    print(b"sample, variable tests\n");
-    test_terms(&book[..count]);
-    print(b"sample, page\n");
-    crate::print::print_page(&book[..count]);
+    let count = crate::print::close(rt, &SAMPLE, &mut book)?;
+    println!(rt; "sample, comparisons")?;
+    compare_terms(rt, &book[..count])?;
+    println!(rt; "sample, picks")?;
+    pick_terms(rt, &book[..count])?;
+    println!(rt; "sample, fingerprints")?;
+    hash_terms(rt, &book[..count])?;
+    println!(rt; "sample, variable tests")?;
+    test_terms(rt, &book[..count])?;
+    println!(rt; "sample, page")?;
+    crate::print::print_page(rt, &book[..count])
 }
 
-pub fn run() {
-    show(b"sample\n", &SAMPLE);
-    show(b"sample, traps\n", &SAMPLE_TRAPS);
-    show(b"traps\n", &TRAPS);
-    terms();
-    print(b"listing\n");
-    print_report(b"\x20\x20\x00\x10\x08\x00\x00\x40\x40\x00\x04\x00\x00\x01\x00\x80\x00");
+pub fn run(rt: &impl Print) -> io::Result<()> {
+    show(rt, "sample", &SAMPLE)?;
+    show(rt, "sample, traps", &SAMPLE_TRAPS)?;
+    show(rt, "traps", &TRAPS)?;
+    terms(rt)?;
+    println!(rt; "listing")?;
+    print_report(
+        rt,
+        b"\x20\x20\x00\x10\x08\x00\x00\x40\x40\x00\x04\x00\x00\x01\x00\x80\x00",
+    )
 }

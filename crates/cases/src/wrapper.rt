@@ -1,5 +1,6 @@
 // 02's wrapper: a book with a symbol of arity 1 that weighs 0, its page, and books in which that symbol is refused.
-use crate::print::{close, print, print_number, print_page, print_report};
+use crate::print::{close, print_number, print_page, print_report};
+use std::io;
 
 #[rattlefmt::skip]
 const WRAPPER: [u16; 64] = [
@@ -39,17 +40,17 @@ const LOW: [u16; 12] = [
 // The book of that sheet.
 const LOW_BOOK: [u8; 12] = [32, 32, 0, 16, 0, 128, 0, 0, 0, 0, 4, 4];
 
-pub fn run() {
-    print(b"a weightless wrapper\n");
+pub fn run(rt: &impl Print) -> io::Result<()> {
+    println!(rt; "a weightless wrapper")?;
     let mut book = [0u8; 59];
-    close(&WRAPPER, &mut book);
-    print_report(&book);
-    print_page(&book);
-    print(b"the same in form 1\n");
+    close(rt, &WRAPPER, &mut book)?;
+    print_report(rt, &book)?;
+    print_page(rt, &book)?;
+    println!(rt; "the same in form 1")?;
     let mut converted = [0u8; 59];
-    print_number(converter::convert(&OLD, &mut converted));
-    print(b"a wrapper ranked below another symbol\n");
+    print_number(rt, converter::convert(&OLD, &mut converted))?;
+    println!(rt; "a wrapper ranked below another symbol")?;
     let mut low = [0u8; 12];
-    print_number(encoder::encode(&LOW, &mut low));
-    print_report(&LOW_BOOK);
+    print_number(rt, encoder::encode(&LOW, &mut low))?;
+    print_report(rt, &LOW_BOOK)
 }

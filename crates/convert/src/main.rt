@@ -1,20 +1,24 @@
 // Reads a rule file of form 1 from standard input and prints it in form 2, or its refusal as `marker` does.
-use libc::{STDIN_FILENO, STDOUT_FILENO};
+#![tactic(auto)]
+
 use lines::{long, put_refusal};
 use operations::NumberReply;
+use std::io;
 
-fn main() {
-    let mut book = io::large_buffer();
-    let count = io::read_full(STDIN_FILENO, &mut book);
-    let mut converted = io::large_buffer();
+// Room for a file.
+const BYTES: usize = 65536;
+
+fn main(rt: HostRuntime) -> io::Result<()> {
+    let mut book = [0u8; BYTES];
+    // What a read that fails leaves unread is no part of the file.
+    let (count, _) = intake::read_full(&mut rt.stdin(), &mut book);
+    let mut converted = [0u8; BYTES];
     match converter::convert(&book[..count], &mut converted) {
-        NumberReply::Accepted(bytes) => {
-            io::write_all(STDOUT_FILENO, &converted[..bytes]);
-        }
+        NumberReply::Accepted(bytes) => rt.write_all(&converted[..bytes]),
         NumberReply::Refused(error) => {
             let mut line = [0u8; 28];
             let end = put_refusal(&mut line, long(error.code), error.offset as u64);
-            io::write_all(STDOUT_FILENO, &line[..end]);
+            rt.write_all(&line[..end])
         }
     }
 }

@@ -1,10 +1,16 @@
 // Reads a rule file from standard input and prints its marks, or its refusal.
-use libc::{STDIN_FILENO, STDOUT_FILENO};
+#![tactic(auto)]
 
-fn main() {
-    let mut book = io::large_buffer();
-    let count = io::read_full(STDIN_FILENO, &mut book);
-    let mut text = io::large_buffer();
+use std::io;
+
+// Room for a file, and for the report of any.
+const BYTES: usize = 65536;
+
+fn main(rt: HostRuntime) -> io::Result<()> {
+    let mut book = [0u8; BYTES];
+    // What a read that fails leaves unread is no part of the file.
+    let (count, _) = intake::read_full(&mut rt.stdin(), &mut book);
+    let mut text = [0u8; BYTES];
     let end = marking::report::report(&book[..count], &mut text);
-    io::write_all(STDOUT_FILENO, &text[..end]);
+    rt.write_all(&text[..end])
 }

@@ -1,4 +1,4 @@
-//! The programs `marker`, `board` and `convert`, which `rt check` builds, print what the twin's texts have, and what
+//! The programs `marker`, `board` and `convert`, which `rt ci` builds, print what the twin's texts have, and what
 //! the twin converts a book to.
 
 use std::io::Write;
@@ -13,12 +13,12 @@ const BOOKS: usize = 600;
 
 /// What a program prints for a book.
 fn printed(program: &str, book: &[u8]) -> Vec<u8> {
-    let path = Path::new(env!("CARGO_MANIFEST_DIR")).join("../../target/bin").join(program);
+    let path = Path::new(env!("CARGO_MANIFEST_DIR")).join("../../crates").join(program).join("out").join(program);
     let mut run = Command::new(path)
         .stdin(Stdio::piped())
         .stdout(Stdio::piped())
         .spawn()
-        .unwrap_or_else(|error| panic!("target/bin/{program}, which `rt check {program}` builds: {error}"));
+        .unwrap_or_else(|error| panic!("crates/{program}/out/{program}, which `rt ci` builds: {error}"));
     run.stdin.take().expect("its input is a pipe").write_all(book).expect("it reads its input to the end");
     run.wait_with_output().expect("it ends").stdout
 }

@@ -2,7 +2,7 @@
 //! that is found.
 
 use crate::contracts::{believed, FOR_C, TURN};
-use crate::source::Tree;
+use crate::source::{closing, Tree};
 use crate::{contracts, definitions, statements};
 
 /// A file, what stands there, and what takes its place, where `~` is what stood there; a new file where nothing did.
@@ -10,24 +10,24 @@ type Edit = (&'static str, &'static str, &'static str);
 
 const PICKING: &str = "crates/picking/src/lib.rt";
 const SCORES: &str = "crates/guarantees/specs/Scores.antt";
-const SCORE: &str = "use Rattle·operations.specs.Score";
+const SCORE: &str = "use Rattle.operations.specs.Score";
 const THEOREMS: &str = "crates/guarantees/proofs/Theorems.antt";
 const THEOREM: &str = "pub full-scores : FullScore\nfull-scores = full-score\n";
-const DECODE: &str = "#[no_mangle]\npub extern \"C\" fn ackbo_decode";
+const DECODE: &str = "#[unsafe(no_mangle)]\npub extern \"C\" fn ackbo_decode";
 
 /// Definitions that are not on the list.
 const UNLISTED: [(&[Edit], &str); 5] = [
-    (&[(SCORES, SCORE, "use Rattle·operations.proofs.EntryLaws.{margin-fits}\n~")], "has no definitions to believe"),
-    (&[(SCORES, SCORE, "use lib.Dec; use Rattle·picking.specs.Part\n~")], "picking/specs/Part.antt: reached"),
+    (&[(SCORES, SCORE, "use Rattle.operations.proofs.EntryLaws.{margin-fits}\n~")], "has no definitions to believe"),
+    (&[(SCORES, SCORE, "use lib.Dec; use Rattle.picking.specs.Part\n~")], "picking/specs/Part.antt: reached"),
     (
         &[(
             "crates/operations/specs/Page.antt",
-            "use lib.IntN",
-            "pub use Rattle·operations.specs.Hidden.{\n  columns}\n~",
+            "use Prim.Native.String",
+            "pub use Rattle.operations.specs.Hidden.{\n  columns}\n~",
         )],
         "operations/specs/Hidden.antt: reached",
     ),
-    (&[(SCORES, "scoreOf falling", "Rattle·operations.specs.Hidden.~")], "a module outside of `use`"),
+    (&[(SCORES, "score_of falling", "Rattle.operations.specs.Hidden.~")], "a module outside of `use`"),
     (&[("believed.txt", "crates/operations/specs/Turns.antt\n", "")], "operations/specs/Turns.antt: reached"),
 ];
 
@@ -35,18 +35,18 @@ const UNLISTED: [(&[Edit], &str); 5] = [
 const RENAMED: [(&[Edit], &str); 6] = [
     (
         &[
-            (PICKING, "now r ≡ greaterPart (", "now r ≡ greater-part ("),
-            (PICKING, "ghost use", "ghost use Rattle·picking·specs.specs.Part.{greater-part};\n~"),
+            (PICKING, "result.now ≡ greater_part ", "result.now ≡ chosen_part "),
+            (PICKING, "ghost use", "ghost use Rattle.picking.specs.Part.{chosen_part};\n~"),
         ],
         "picking/specs/Part.antt: stands in a crate with functions",
     ),
     (
-        &[(PICKING, "mathlib.Core.Path.{_≡_}", "Rattle·picking·specs.specs.Same.{_≡_}")],
+        &[(PICKING, "Rattle.std.specs.Prelude.{◌≡◌}", "Rattle.picking.specs.Same.{◌≡◌}")],
         "picking/specs/Same.antt: reached",
     ),
-    (&[("crates/operations/specs/Same.antt", "", "abbrev pub _≡_ : ℕ → ℕ → Type 0\n")], "_≡_ is the kit's"),
-    (&[(SCORES, "_≤_, _<_}", "_≤_, _≤_ as _<_}")], "_<_ means several things"),
-    (&[(PICKING, "greaterPart (", "Rattle·picking.specs.Part.~")], "greater_part names a module"),
+    (&[("crates/operations/specs/Same.antt", "", "abbrev pub ◌≡◌ : ℕ → ℕ → Type 0\n")], "◌≡◌ is the kit's"),
+    (&[(SCORES, "◌≤◌, ◌<◌}", "◌≤◌, ◌≤◌ as ◌<◌}")], "◌<◌ means several things"),
+    (&[(PICKING, "greater_part book.now", "Rattle.picking.specs.Part.~")], "greater_part names a module"),
     (
         &[("crates/operations/src/lib.rt", "pub struct Error", "pub fn zero() -> u8 {\n    0\n}\n\n~")],
         "operations/src/lib.rt: stands in a crate with functions",
@@ -56,13 +56,16 @@ const RENAMED: [(&[Edit], &str); 6] = [
 /// Functions without a contract, or with less than one.
 const UNBOUND: [(&[Edit], &str); 5] = [
     (
-        &[(FOR_C, DECODE, "#[no_mangle]\npub extern \"C\" fn zero(reply: &mut Values) -> u8 {\n    0\n}\n\n~")],
+        &[(FOR_C, DECODE, "#[unsafe(no_mangle)]\npub extern \"C\" fn zero(reply: &mut Values) -> u8 {\n    0\n}\n\n~")],
         "zero does not say what reply is afterwards",
     ),
-    (&[(PICKING, "pub fn greater_side", "#[no_mangle]\npub fn zero() -> u8 {\n    0\n}\n\n~")], "exported elsewhere"),
-    (&[(PICKING, "-> PickReply\n", "~    requires { ⌜ 1 ≡ 2 ⌝ }\n")], "greater_side asks something of its callers"),
-    (&[(TURN, "(r ≡ codeOf (turned ", "(0 ≡ codeOf (turned ")], "ackbo_turn does not say what its result is"),
-    (&[(TURN, "× (now (jobs .exit) ≡", "× (now (jobs .entry) ≡")], "ackbo_turn does not say what jobs is afterwards"),
+    (
+        &[(PICKING, "pub fn greater_side", "#[unsafe(no_mangle)]\npub fn zero() -> u8 {\n    0\n}\n\n~")],
+        "exported elsewhere",
+    ),
+    (&[(PICKING, "-> PickReply\n", "~    requires { 1 ≡ 2 }\n")], "greater_side asks something of its callers"),
+    (&[(TURN, "(result ≡ code_of (turned ", "(0 ≡ code_of (turned ")], "ackbo_turn does not say what its result is"),
+    (&[(TURN, "× (jobs.new ≡", "× (jobs.old ≡")], "ackbo_turn does not say what jobs is afterwards"),
 ];
 
 /// Statements without a proof, and proofs of something else.
@@ -110,8 +113,9 @@ fn struck_clauses_are_noticed() {
             let text = less.0.get_mut(&file).unwrap();
             let starts = [format!("fn {}(", function.name), format!("fn {}<", function.name)];
             let start = starts.iter().find_map(|start| text.find(start)).unwrap();
-            let clause = start + text[start..].match_indices("    ensures {").nth(struck).unwrap().0;
-            let end = clause + text[clause..].find("⌝ }\n").unwrap() + "⌝ }\n".len();
+            let clause = start + text[start..].match_indices("    ensures ").nth(struck).unwrap().0;
+            let open = clause + text[clause..].find('{').unwrap();
+            let end = open + closing(&text[open..]) + "}\n".len();
             text.replace_range(clause..end, "");
             let found = contracts::faults(&less);
             assert!(!found.is_empty(), "{file}: clause {struck} of {} may be struck", function.name);

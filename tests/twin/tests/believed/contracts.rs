@@ -66,16 +66,17 @@ fn contract(file: &str, f: &Function) -> Vec<String> {
         lacks.push("asks something of its callers".to_string());
     }
     let says = |what: &str| f.clauses.iter().any(|clause| equates(clause, what));
-    if f.result.contains('&') && !says("r .ptr") {
+    let is_lent = f.result.contains('&');
+    if is_lent && !says("result.ref_ptr") {
         lacks.push("does not say where its result begins".to_string());
     }
-    if !f.result.is_empty() && !says("r") {
+    if !f.result.is_empty() && !says(if is_lent { "result.now" } else { "result" }) {
         lacks.push("does not say what its result is".to_string());
     }
     for (name, of) in &f.parameters {
         if of.starts_with('&')
             && of.split_whitespace().any(|word| word.ends_with("mut"))
-            && !says(&format!("({name} .exit)"))
+            && !says(&format!("{name}.new"))
         {
             lacks.push(format!("does not say what {name} is afterwards"));
         }
@@ -85,21 +86,22 @@ fn contract(file: &str, f: &Function) -> Vec<String> {
 
 /// Whether a clause has an equation whose left side is that, or one function of it, as a fact of its own.
 fn equates(clause: &Clause, what: &str) -> bool {
-    let Some((_, facts)) = clause.says.split_once('⌜') else { return false };
-    facts.split(" × ").any(|fact| {
+    clause.says.split(" × ").any(|fact| {
         let Some((left, _)) = fact.split_once(" ≡ ") else { return false };
         let left = left.trim();
         let left = left.strip_prefix('(').filter(|_| !left.starts_with(what)).unwrap_or(left);
         left == what
-            || left.split_once(' ').is_some_and(|(of, rest)| rest == what && of.chars().all(char::is_alphanumeric))
+            || left
+                .split_once(' ')
+                .is_some_and(|(of, rest)| rest == what && of.chars().all(|c| c.is_alphanumeric() || c == '_'))
     })
 }
 
 /// The modules that the names in a contract are of. An operator is there if all of its parts are.
 pub fn cited(tree: &Tree, file: &str, f: &Function) -> Vec<String> {
-    let apart = |c: char| c.is_whitespace() || "(){}[]⌜⌝,;.".contains(c);
+    let apart = |c: char| c.is_whitespace() || "(){}[],;.".contains(c);
     let words: BTreeSet<&str> = f.clauses.iter().flat_map(|clause| clause.says.split(apart)).collect();
-    let parts = |name: &str| name.split('_').filter(|part| !part.is_empty()).all(|part| words.contains(part));
-    let there = |name: &str| words.contains(name) || parts(name);
+    let parts = |name: &str| name.split('◌').filter(|part| !part.is_empty()).all(|part| words.contains(part));
+    let there = |name: &str| words.contains(name) || name.contains('◌') && parts(name);
     uses(&tree.text(file)).into_iter().filter(|item| there(&item.name)).map(|item| item.module).collect()
 }

@@ -1,12 +1,26 @@
 //! The definition files that the contracts and the statements reach, and what may stand in them.
 
 use crate::contracts::{believed, cited};
-use crate::source::{crate_of, uses, Tree};
+use crate::source::{crate_of, uses, Tree, Use};
 use crate::statements::{self, declarations};
 use std::collections::{BTreeMap, BTreeSet};
 
 /// The kit's own modules begin with these.
-const KIT: [&str; 4] = ["Prim.", "lib.", "mathlib.", "native."];
+const KIT: [&str; 6] = ["Prim.", "lib.", "mathlib.", "native.", "Rattle.core.", "Rattle.std."];
+
+/// The names of `mathlib.Core.List` that the prelude passes on.
+const PRELUDE: &str = "Rattle.std.specs.Prelude";
+const PASSED_ON: [&str; 5] = ["List", "[]", "◌∷◌", "◌++◌", "map"];
+
+/// The module that a name of the kit's is of, the prelude for what it passes on.
+fn meant(item: &Use) -> &str {
+    let is_passed_on = item.module == "mathlib.Core.List" && PASSED_ON.contains(&item.original.as_str());
+    if is_passed_on {
+        PRELUDE
+    } else {
+        &item.module
+    }
+}
 
 fn of_the_kit(module: &str) -> bool {
     KIT.iter().any(|start| module.starts_with(start))
@@ -18,7 +32,7 @@ pub fn faults(tree: &Tree) -> Vec<String> {
     let mut open = statements::files(tree);
     for (file, f) in believed(tree) {
         found.extend(reach(tree, &file, cited(tree, &file, &f), &mut open));
-        if f.clauses.iter().any(|clause| clause.says.contains('·')) {
+        if f.clauses.iter().any(|clause| clause.says.contains("Rattle.")) {
             found.push(format!("{file}: {} names a module", f.name));
         }
     }
@@ -58,7 +72,7 @@ fn hidden(tree: &Tree, file: &str) -> Option<String> {
     let text = tree.text(file);
     let used: BTreeSet<String> = uses(&text).into_iter().map(|item| item.module).collect();
     let rest = used.iter().rev().fold(text, |text, module| text.replace(module.as_str(), ""));
-    (rest.contains("Rattle·") || rest.contains("{-"))
+    (rest.contains("Rattle.") || rest.contains("{-"))
         .then(|| format!("{file}: a module outside of `use`, or a block comment"))
 }
 
@@ -67,7 +81,8 @@ fn kit_names(tree: &Tree, using: &BTreeSet<String>) -> Vec<String> {
     let items = using.iter().flat_map(|file| uses(&tree.text(file))).filter(|item| of_the_kit(&item.module));
     let mut meanings: BTreeMap<String, BTreeSet<String>> = BTreeMap::new();
     for item in items {
-        meanings.entry(item.name).or_default().insert(format!("{}.{}", item.module, item.original));
+        let meaning = format!("{}.{}", meant(&item), item.original);
+        meanings.entry(item.name).or_default().insert(meaning);
     }
     let several = meanings.iter().filter(|(_, of)| of.len() > 1);
     let mut found: Vec<String> = several.map(|(name, of)| format!("{name} means several things: {of:?}")).collect();

@@ -24,7 +24,10 @@ impl Tree {
             let entry = entry.unwrap();
             let path = format!("{folder}/{}", entry.file_name().to_str().unwrap());
             if entry.file_type().unwrap().is_dir() {
-                self.add_folder(&path);
+                // What a check or a build left is no text of the repository.
+                if entry.file_name() != "out" {
+                    self.add_folder(&path);
+                }
             } else if path.ends_with(".rt") || path.ends_with(".antt") {
                 self.0.insert(path, fs::read_to_string(entry.path()).unwrap());
             }
@@ -51,11 +54,13 @@ impl Tree {
         self.files(&format!("crates/{krate}/src"), ".rt").iter().any(|file| !functions(&self.text(file)).is_empty())
     }
 
-    /// The file that a module path names: `Rattle·format.specs.Reading.Reading` is `crates/format/specs/Reading.antt`,
-    /// and what is `declared` stands in the code. None where the path names no definitions.
+    /// The file that a module path names: `Rattle.format.specs.Reading.Reading` is `crates/format/specs/Reading.antt`,
+    /// and what is `declared` stands in the code. None where the path names no definitions of the repository.
     pub fn file_of(&self, module: &str) -> Option<String> {
-        let (krate, path) = module.strip_prefix("Rattle·")?.split_once(".specs.")?;
-        let krate = krate.trim_end_matches("·specs");
+        let (krate, path) = module.strip_prefix("Rattle.")?.split_once(".specs.")?;
+        if self.files(&format!("crates/{krate}/src"), ".rt").is_empty() {
+            return None;
+        }
         let parts: Vec<&str> = path.split('.').collect();
         if parts[0] == "declared" {
             let own = format!("crates/{krate}/src/{}.rt", parts[1]);
@@ -100,7 +105,7 @@ pub fn uses(text: &str) -> Vec<Use> {
 
 /// What follows each place where that word stands.
 fn after_word<'a>(text: &'a str, word: &str) -> Vec<&'a str> {
-    let named = |c: char| c.is_alphanumeric() || "_-.·'".contains(c);
+    let named = |c: char| c.is_alphanumeric() || "_-.'".contains(c);
     let places = text.match_indices(word).filter(|(at, _)| !text[..*at].ends_with(named));
     places.map(|(at, _)| &text[at + word.len()..]).filter(|rest| rest.starts_with(char::is_whitespace)).collect()
 }
@@ -156,7 +161,7 @@ fn trimmed((name, of): (&str, &str)) -> (String, String) {
 }
 
 /// Where the bracket that opens a text is closed.
-fn closing(text: &str) -> usize {
+pub fn closing(text: &str) -> usize {
     let mut depth = 0;
     for (at, c) in text.char_indices() {
         depth += i32::from("({[".contains(c)) - i32::from(")}]".contains(c));

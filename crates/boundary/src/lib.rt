@@ -1,4 +1,6 @@
 // What crosses to C: each function stores the three values of a reply, and gives its code, 0 or that of the error.
+#![tactic(auto)]
+
 pub mod turn;
 
 ghost use Rattle.std.specs.Prelude.{◌≡◌, [], ◌∷◌, ◌<◌, pos};

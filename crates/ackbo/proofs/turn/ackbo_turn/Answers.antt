@@ -6,20 +6,20 @@
 use mathlib.Core.Path.{◌≡◌, refl, sym, ◌∙◌, ap, subst}
 use Prim.Native.Nat.{ℕ, suc, ◌+◌, ◌-◌, ◌*◌, ◌<◌, ◌≤◌, ◌^◌, zero-le}
 use native.Mathlib.Omega.{arith}
-use mathlib.Core.Bool.{Bool, true, false, cond}
+use mathlib.Core.Bool.{Bool, true, false}
 use native.Mathlib.Decide.{dec_lt}
 use mathlib.Core.List.{[], ◌∷◌, List}
 use mathlib.Core.WellFounded.InvImage
 use mathlib.Core.WellFounded.{WellFounded}
 use lib.WfN.{lt-wf_rel}
 use lib.IntN.{ℤ}
-use lib.Dec.{T as Holds, ltb, ltb→lt, lit<, nltb→le}
+use lib.Dec.{ltb, ltb→lt, lit<, nltb→le}
 use borrow.Author.Tests.{lt-ltb, le-ltb}
 use lib.ListN.{length, length-set}
 use seplogic.Ra.Ura.{Ura}
 use seplogic.Ra.TreeShare.{full_share}
 use mir.Syntax.{Ty, named, erased, imm, mut, w8, w64, ty_int, ty_bool, ty_ptr, ty_ref, ty_array}
-use mir.Val.{Val, vbool, vint, vptr, vstruct, vnil, vcons}
+use mir.Val.{Val, vbool, vint, vptr}
 use base.Logic.{SProp, ent, sep, emp, via, fst∗, snd∗, ex_e, id⊢}
 use base.Fml.{Lft, Share, GName, Fml, ftrue, fat, froom, fdies, flft, fobs, fauth, fbor, fobor, fres}
 use prog.Memory.{Memory}
@@ -27,7 +27,6 @@ use prog.Routine.{Routine}
 use prog.Wp.{Env, Out, Calls, Loops, Wp, WpFn, Tables, after_seq, after_block, after_turn, at_return}
 use types.Logic.{Logic, sem}
 use contract.Monad.{Fun, fact}
-use contract.Running.{tables, tables_of}
 use types.Kit.{Item, Sq, runs, any_q, at_ret, ‵, raw, ◌⊛◌, some, later, ⋆, ◌$◌, ◌∵◌, !, qed, by, move, keep, drop, use0, use1, split, join, pick, rewrite, use2, use3, feq_l, fsplit, fjoin, suffices, frame, await, done}
 use types.Run.{look, look_raw, addr, init, store, forget, stop, hop, fld, from, load, lit, of_opd, bin, assigns, assigns_last, and_then, no_more, land, first, blocks, branches, skips, stays, leaves_loop, loops, again, Below, exec, returns, enter, alloc1, alloc0, params1, pass1, pass0, free1, free0}
 use types.Part.{whole, sub, look_in, store_in, agg}
@@ -49,7 +48,6 @@ use denote.Triple.Statement.{Contract, Triple}
 use denote.Triple.Call.{calls_at}
 use denote.Triple.Entry.{Vals, on_entry}
 use denote.Triple.Spec.{Meets, triple_of}
-use denote.Triple.Table.{entered, cited}
 use denote.Triple.Walked.{says, Stays, stay_slice, stay_none_slice, gave_slice, gave_ref, stay_none, walk_of, Goes-slice, Goes-none_slice, Goes-gave_slice, Goes-gave_ref, Goes-none, Walks, ends_at, walked, walk_Meets}
 use denote.Triple.Clauses.{ensured, lasts}
 use denote.Exit.{yes as kept}
@@ -72,22 +70,15 @@ use Rattle.scheduling.proofs.Search.TheLaws as S'
 use Rattle.boundary.specs.contracts.turn.Stored as R
 use Rattle.boundary.proofs.turn.Stored.TheLaws as R'
 use Rattle.scheduling.specs.contracts.begin as begin
-use Rattle.scheduling.proofs.begin.Symbol as begin-def
 use Rattle.scheduling.proofs.begin.Symbol.{name as #begin}
-use Rattle.scheduling.proofs.begin.Met as begin-thm
 use Rattle.scheduling.specs.contracts.look as look'
-use Rattle.scheduling.proofs.look.Symbol as look-def
 use Rattle.scheduling.proofs.look.Symbol.{name as #look}
-use Rattle.scheduling.proofs.look.Met as look-thm
 use Rattle.boundary.specs.contracts.turn.put_turn as put
-use Rattle.boundary.proofs.turn.put_turn.Symbol as put-def
 use Rattle.boundary.proofs.turn.put_turn.Symbol.{name as #put}
-use Rattle.boundary.proofs.turn.put_turn.Met as put-thm
-use Rattle.ackbo.specs.contracts.turn.ackbo_turn.Key.{name as #turn}
 use Rattle.ackbo.specs.contracts.turn.ackbo_turn as f
-use Rattle.ackbo.proofs.turn.ackbo_turn.Statement as stated
 use Rattle.ackbo.proofs.turn.ackbo_turn.Code as code
 use Rattle.ackbo.proofs.turn.ackbo_turn.Code.Mir as piece
+use Rattle.ackbo.proofs.turn.ackbo_turn.Goals as goal
 
 -- what is read past the end of the list; no step reads there
 abbrev blank : Job
@@ -511,13 +502,3 @@ turn-meets : {M : Type 1} {𝓤 : Ura M} (𝓛 : Logic 𝓤) (mem : Memory → S
 turn-meets {𝓤 = 𝓤} 𝓛 mem run 𝓣 known-begin known_look known-put =
     walk_Meets 𝓛 f.ended stayed (Goes-slice 𝓛 4 0 tt (plain (λ _. T.the_row)), (Goes-none_slice 𝓛 4 (1 ∷ []) tt (plain (λ _. u8)) kept, (Goes-gave_slice 𝓛 4 2 tt (plain (λ _. u8)), (Goes-none 𝓛 4 (λ _. usize) kept (λ κs x f. refl), (Goes-gave_ref 𝓛 4 3 tt (ArrayOf (plain (λ _. i64)) (λ _. tt) 3), tt)))))
     (f.clauses 𝓛 mem run) (WpFn 𝓤 𝓛.H 𝓣.C 𝓣.Λ code.function) (WpFn-mono 𝓤 𝓛.H 𝓛.laws 𝓣 code.function) (turn-walks 𝓛 mem run 𝓣 known-begin known_look known-put)
-
-pub ackbo-turn-spec : {M : Type 1} → stated.statement M
-unfolding code.routine tables_of
-ackbo-turn-spec 𝓤 𝓛 𝓜 𝓡 =
-    entered 𝓤 𝓛.H (triple_of 𝓛 f.signature (f.spec 𝓛 𝓜.mem 𝓡.run))
-    (tables 𝓤 𝓛.H 𝓜 𝓡 code.env).C (tables 𝓤 𝓛.H 𝓜 𝓡 code.env).Λ #turn code.function (code.unfolded 𝓤 𝓛.H 𝓜 𝓡)
-    (turn-meets 𝓛 𝓜.mem 𝓡.run (tables_of 𝓤 𝓛.H 𝓜 (tables 𝓤 𝓛.H 𝓜 𝓡 code.env))
-    (cited 𝓤 𝓛.H (Begin 𝓛 𝓜.mem 𝓡.run) 𝓜 𝓡 code.env #begin begin-def.routine code.calls-scheduling::begin (begin-thm.met 𝓤 𝓛 𝓜 𝓡))
-    (cited 𝓤 𝓛.H (Look 𝓛 𝓜.mem 𝓡.run) 𝓜 𝓡 code.env #look look-def.routine code.calls-scheduling::look (look-thm.met 𝓤 𝓛 𝓜 𝓡))
-    (cited 𝓤 𝓛.H (Put 𝓛 𝓜.mem 𝓡.run) 𝓜 𝓡 code.env #put put-def.routine code.calls-boundary::turn::put-turn (put-thm.met 𝓤 𝓛 𝓜 𝓡)))

@@ -6,4 +6,4 @@ use Rattle.cases.proofs.print.close.Goals as goal
 pub returns-in-Accepted : goal.returns-in-Accepted
 returns-in-Accepted g c =
     let e = encoded-reply _ _ _ (sym c.in-Accepted.ensures.result_value) in
-    omega (arith, c.encode.auto.out)
+    omega (arith, c.encode.auto.bytes)

@@ -14,8 +14,10 @@ put_number-requires c =
 
 pub returns : goal.returns
 returns c =
-    let code = c.put_number.ensures.value in let values = c.put_number.ensures.reply_after in record {
+    let code = c.put_number.ensures.value in
+    let values = c.put_number.ensures.reply_after in record {
       value = code ∙ ap code_of c.encode.ensures.result_value;
-      reply_after = values ∙ ap (λ r. sets c.args.reply.now 0 (values_of number_values r)) c.encode.ensures.result_value;
+      reply_after = values ∙ ap (λ r. sets c.args.reply.now 0
+          (values_of number_values r)) c.encode.ensures.result_value;
       book_after = c.encode.ensures.bytes_after;
     }

@@ -15,7 +15,8 @@ put_number-requires c =
 
 pub returns : goal.returns
 returns c =
-    let code = c.put_number.ensures.value in let values = c.put_number.ensures.reply_after in
+    let code = c.put_number.ensures.value in
+    let values = c.put_number.ensures.reply_after in
     let gave = c.fingerprint.ensures in
     record {
       value = code ∙ ap code_of gave;

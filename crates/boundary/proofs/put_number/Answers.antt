@@ -17,7 +17,8 @@ put_error-requires c =
 pub returns-in-Accepted : goal.returns-in-Accepted
 returns-in-Accepted c =
     let both =
-    accepts number_values _ _ c.args.reply.now _ _ (ap number_reply (sym c.in-Accepted.is)) c.put_counts.ensures.value c.put_counts.ensures.reply_after
+    accepts number_values _ _ c.args.reply.now _ _ (ap number_reply
+        (sym c.in-Accepted.is)) c.put_counts.ensures.value c.put_counts.ensures.reply_after
     in record {
       value = both.0;
       reply_after = both.1;
@@ -26,7 +27,8 @@ returns-in-Accepted c =
 pub returns-in-Refused : goal.returns-in-Refused
 returns-in-Refused c =
     let both =
-    refuses number_values _ _ c.args.reply.now _ _ _ _ (ap number_reply (sym c.in-Refused.is)) c.put_error.ensures.value c.put_error.ensures.reply_after
+    refuses number_values _ _ c.args.reply.now _ _ _ _ (ap number_reply
+        (sym c.in-Refused.is)) c.put_error.ensures.value c.put_error.ensures.reply_after
     in record {
       value = both.0;
       reply_after = both.1;

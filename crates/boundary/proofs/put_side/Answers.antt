@@ -15,7 +15,8 @@ put_counts-requires-in-Right c =
 
 pub returns-in-Left : goal.returns-in-Left
 returns-in-Left c =
-    let code = c.put_counts.ensures.value in let values = c.put_counts.ensures.reply_after in
+    let code = c.put_counts.ensures.value in
+    let values = c.put_counts.ensures.reply_after in
     record {
       value = code;
       reply_after = values ∙ ap (λ s. sets c.args.reply.now 0 (side_values s)) (sym c.in-Left.is);
@@ -23,7 +24,8 @@ returns-in-Left c =
 
 pub returns-in-Right : goal.returns-in-Right
 returns-in-Right c =
-    let code = c.put_counts-in-Right.ensures.value in let values = c.put_counts-in-Right.ensures.reply_after in
+    let code = c.put_counts-in-Right.ensures.value in
+    let values = c.put_counts-in-Right.ensures.reply_after in
     record {
       value = code;
       reply_after = values ∙ ap (λ s. sets c.args.reply.now 0 (side_values s)) (sym c.in-Right.is);
@@ -31,14 +33,16 @@ returns-in-Right c =
 
 pub returns-in-Equivalent : goal.returns-in-Equivalent
 returns-in-Equivalent c =
-    let code = c.put_counts-in-Equivalent.ensures.value in let values = c.put_counts-in-Equivalent.ensures.reply_after in record {
+    let code = c.put_counts-in-Equivalent.ensures.value in
+    let values = c.put_counts-in-Equivalent.ensures.reply_after in record {
       value = code;
       reply_after = values ∙ ap (λ s. sets c.args.reply.now 0 (side_values s)) (sym c.in-Equivalent.is);
     }
 
 pub returns-in-Unrelated : goal.returns-in-Unrelated
 returns-in-Unrelated c =
-    let code = c.put_counts-in-Unrelated.ensures.value in let values = c.put_counts-in-Unrelated.ensures.reply_after in record {
+    let code = c.put_counts-in-Unrelated.ensures.value in
+    let values = c.put_counts-in-Unrelated.ensures.reply_after in record {
       value = code;
       reply_after = values ∙ ap (λ s. sets c.args.reply.now 0 (side_values s)) (sym c.in-Unrelated.is);
     }

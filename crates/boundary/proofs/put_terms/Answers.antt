@@ -11,7 +11,8 @@ put_counts-requires c =
 
 pub returns-in-Exactly : goal.returns-in-Exactly
 returns-in-Exactly c =
-    let code = c.put_counts.ensures.value in let values = c.put_counts.ensures.reply_after in
+    let code = c.put_counts.ensures.value in
+    let values = c.put_counts.ensures.reply_after in
     record {
       value = code;
       reply_after = values ∙ ap (λ s. sets c.args.reply.now 0 (count_values s)) (sym c.in-Exactly.is);
@@ -19,7 +20,8 @@ returns-in-Exactly c =
 
 pub returns-in-More : goal.returns-in-More
 returns-in-More c =
-    let code = c.put_counts-in-More.ensures.value in let values = c.put_counts-in-More.ensures.reply_after in record {
+    let code = c.put_counts-in-More.ensures.value in
+    let values = c.put_counts-in-More.ensures.reply_after in record {
       value = code;
       reply_after = values ∙ ap (λ s. sets c.args.reply.now 0 (count_values s)) (sym c.in-More.is);
     }

@@ -15,8 +15,10 @@ sum_up-t-requires c =
 
 pub relation-requires : goal.relation-requires
 relation-requires c =
-    let S = c.sum_up-s.ensures.summed_up in let A = c.sum_up-s.ensures.totalled in
-    let T = c.sum_up-t.ensures.summed_up in let B = c.sum_up-t.ensures.totalled in
+    let S = c.sum_up-s.ensures.summed_up in
+    let A = c.sum_up-s.ensures.totalled in
+    let T = c.sum_up-t.ensures.summed_up in
+    let B = c.sum_up-t.ensures.totalled in
     record {
       decoded = c.requires;
       totalled = (A, B, c.put_node_sums.ensures);

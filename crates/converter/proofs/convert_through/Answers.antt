@@ -3,8 +3,7 @@ use mathlib.Core.Path.{sym, ◌∙◌}
 use native.Mathlib.Omega.{arith}
 use lib.ListN.{length}
 use lib.Seq.{length-take-le}
-use Rattle.converter.proofs.ConvertLaws.{convert-fault, convert-short, convert-written, sheet-short}
-use Rattle.converter.proofs.ConvertLaws.{sheet-begin, sheet-packed, sheet-bits}
+use Rattle.converter.proofs.ConvertLaws.{convert-fault, convert-short, convert-written, sheet-short, sheet-begin, sheet-packed, sheet-bits}
 use Rattle.converter.proofs.convert_through.Goals as goal
 
 pub returns-then-out-book : goal.returns-then-out-book

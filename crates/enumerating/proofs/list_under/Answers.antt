@@ -3,8 +3,7 @@ use mathlib.Core.Path.{◌∙◌, ap, sym}
 use native.Mathlib.Omega.{arith}
 use Rattle.symbols.specs.Table.{signature_of}
 use Rattle.operations.specs.Replies.Reply.{refused}
-use Rattle.enumerating.proofs.ReplyLaws.{size-range, list-outside, list-more, list-short, list-none}
-use Rattle.enumerating.proofs.ReplyLaws.{list-ready, list_done}
+use Rattle.enumerating.proofs.ReplyLaws.{size-range, list-outside, list-more, list-short, list-none, list-ready, list_done}
 use Rattle.enumerating.proofs.list_under.Goals as goal
 
 pub returns-then-not-is_size : goal.returns-then-not-is_size
@@ -74,7 +73,8 @@ walk-requires c =
           c.args.n size).1,
     )) in record {
       table_len_bound = c.requires;
-      ready = list-ready σ c.args.n c.args.words.now size c.cell_at-number.result cell (omega (arith, c.if-number-gt-MAX_TERMS.false))
+      ready = list-ready σ c.args.n c.args.words.now size c.cell_at-number.result cell (omega (arith,
+          c.if-number-gt-MAX_TERMS.false))
           (omega (arith, c.words_of.ensures, c.if-words-words_of.false)) _ c.row_counts-cells.ensures;
     }
 
@@ -88,7 +88,8 @@ returns c =
           c.args.n size).1,
     )) in
     let both =
-    list_done σ c.args.n c.args.words.now size c.cell_at-number.result cell (omega (arith, c.if-number-gt-MAX_TERMS.false))
+    list_done σ c.args.n c.args.words.now size c.cell_at-number.result cell (omega (arith,
+        c.if-number-gt-MAX_TERMS.false))
     (omega (arith, c.words_of.ensures, c.if-words-words_of.false)) _ _ _ _ c.walk.ensures
     in record {
       result_value = both.0;

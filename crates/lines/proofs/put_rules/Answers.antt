@@ -28,7 +28,8 @@ loop-i-preserved c =
       lines_next a.out.now a.at l.i a.marks.now a.margins.now _ _ _ _ _ _ c.loop-i-test.true
           c.requires.2
           c.long.ensures.0
-          (to_z-of_z w64 (get_or a.margins.now l.i (pos 0)) (record { sfits = c.put_rule-arg-in-loop-i-1.given })) l.invariant.3 c.put_rule-end.ensures.put,
+          (to_z-of_z w64 (get_or a.margins.now l.i (pos 0)) (record { sfits = c.put_rule-arg-in-loop-i-1.given }))
+              l.invariant.3 c.put_rule-end.ensures.put,
     )
 
 pub shape_of-out : goal.shape_of-out

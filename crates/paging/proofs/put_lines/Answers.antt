@@ -4,11 +4,10 @@ use Prim.Native.Nat.{◌-◌}
 use native.Mathlib.Omega.{arith}
 use native.Mathlib.Nat.{zero-add}
 use lib.IntN.{ℤ, pos}
-use lib.ListN.{get_or}
+use lib.ListN.{get_or, take}
 use mir.Syntax.{w64}
 use mir.ValLaws.{to_z-of_z}
 use Rattle.operations.specs.Page.{page}
-use lib.ListN.{take}
 use Rattle.text.proofs.TextLaws.{put-length}
 use Rattle.paging.specs.Entries.{entries}
 use Rattle.paging.proofs.LineLaws.{entry-fits, lines_next, lines-all}

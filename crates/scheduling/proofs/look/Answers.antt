@@ -1,7 +1,6 @@
 -- What is found is what the definition says, by how the job stands.
 use mathlib.Core.Path.{sym, ◌∙◌}
-use Rattle.scheduling.proofs.RunLaws.{looked-barred, looked-stuck, looked-bad, looked-done, looked-first}
-use Rattle.scheduling.proofs.RunLaws.{looked-later}
+use Rattle.scheduling.proofs.RunLaws.{looked-barred, looked-stuck, looked-bad, looked-done, looked-first, looked-later}
 use Rattle.scheduling.proofs.look.Goals as goal
 
 pub returns-then-not-is_allowed : goal.returns-then-not-is_allowed

@@ -3,8 +3,7 @@ use mathlib.Core.Path.{sym, ◌∙◌}
 use Prim.Native.Nat.{◌-◌}
 use native.Mathlib.Omega.{arith}
 use Rattle.symbols.specs.Table.{signature_of}
-use Rattle.seeking.proofs.FindLaws.{standing-few, standing-unread, standing-cut, standing-unended}
-use Rattle.seeking.proofs.FindLaws.{standing-left, standing-done}
+use Rattle.seeking.proofs.FindLaws.{standing-few, standing-unread, standing-cut, standing-unended, standing-left, standing-done}
 use Rattle.seeking.proofs.find_after.Goals as goal
 
 pub returns-then-count-marked : goal.returns-then-count-marked

@@ -7,7 +7,8 @@ use Rattle.text.proofs.+put_decimal.Goals as goal
 
 pub returns-then-n-lt10 : goal.returns-then-n-lt10
 returns-then-n-lt10 t c =
-    let a = c.args in let both =
+    let a = c.args in
+    let both =
     put_small a.out.now a.at a.n _ _
     c.if-n-lt10.true (c.put_byte.ensures.value, c.put_byte.ensures.out_after)
     in record {

@@ -5,8 +5,7 @@ use Prim.Native.Nat.{ℕ, ◌+◌, ◌-◌}
 use lib.ListN.{length, get_or}
 use borrow.Author.Tests.{ne_eqb}
 use Rattle.answers.proofs.CellLaws.{owed-fits}
-use Rattle.words.proofs.TermLaws.{terms-none, terms-ended, terms-node, node-faulty, node-good, before-stop}
-use Rattle.words.proofs.TermLaws.{fewer-left, some-owed}
+use Rattle.words.proofs.TermLaws.{terms-none, terms-ended, terms-node, node-faulty, node-good, before-stop, fewer-left, some-owed}
 use Rattle.words.proofs.+terms.Goals as goal
 
 pub returns-then-owed-eq0 : goal.returns-then-owed-eq0
@@ -23,7 +22,8 @@ returns-then-stop-here t c =
     let a = c.args in
     rw (ne_eqb c.end_error.result 0 (omega arith)) (record {
       at_after = λ σ table unused e. terms-ended a.words.now.now unused σ a.limit a.owed a.at.now a.stop
-          c.requires.at_le_limit.2 c.if-stop-here.true c.requires.at_le_limit.0 (omega arith) _ c.end_error.ensures.value;
+          c.requires.at_le_limit.2 c.if-stop-here.true c.requires.at_le_limit.0
+              (omega arith) _ c.end_error.ensures.value;
       below = c.end_error.ensures.result_nonzero;
       le_lowest = (c.requires.at_bound.1, c.requires.at_bound.2);
     })

@@ -16,7 +16,8 @@ returns c =
     let a = c.args in
     let v = c.node_value in
     let e = ap (λ (k : ℕ). bits_of k v.result) c.node_width.ensures.0 ∙ v.ensures.0 in
-    let state = c.push.ensures.stored_value in let written = c.push.ensures.by_index in record {
+    let state = c.push.ensures.stored_value in
+    let written = c.push.ensures.by_index in record {
       count_bound = omega (arith, state.1, c.node_width.ensures.1);
       by_index = λ nodes h bytes w. rw (node-more a.words.now nodes a.i h, ← e) (written _ bytes w);
     }

@@ -17,7 +17,8 @@ write_fields-writer-requires c =
 
 pub loop-i-init : goal.loop-i-init
 loop-i-init c =
-    let few = c.write_fields-writer.ensures.count_bound in let written = c.write_fields-writer.ensures.writes in
+    let few = c.write_fields-writer.ensures.count_bound in
+    let written = c.write_fields-writer.ensures.writes in
     (omega arith, c.requires.by_index.1, refl, few, written)
 
 pub push_three-half-requires : goal.push_three-half-requires
@@ -58,7 +59,8 @@ push_rest-requires c = (c.loop-i.invariant.1, omega arith, c.loop-i.invariant.3)
 pub finish-requires : goal.finish-requires
 finish-requires c =
     let v = c.loop-i.invariant in
-    let few = c.push_rest.ensures.count_bound in let written = c.push_rest.ensures.by_index in
+    let few = c.push_rest.ensures.count_bound in
+    let written = c.push_rest.ensures.by_index in
     let h = written c.args.nodes v.0 _ v.4 in
     (omega (arith, few), omega (arith, h.total, c.requires.bytes_len, v.2, c.write_fields-writer.auto.bytes))
 

@@ -5,8 +5,7 @@ use native.Mathlib.Omega.{arith}
 use Rattle.terms.specs.Signature.{symbol_of}
 use Rattle.symbols.specs.Table.{signature_of}
 use Rattle.enumerating.proofs.RowLaws.{next-least}
-use Rattle.enumerating.proofs.WalkLaws.{leaf_room, leaf-done, some-terms, few-terms, copy-ready}
-use Rattle.enumerating.proofs.WalkLaws.{copy_done, walks-begun, ready_call, walks_more, walks-end}
+use Rattle.enumerating.proofs.WalkLaws.{leaf_room, leaf-done, some-terms, few-terms, copy-ready, copy_done, walks-begun, ready_call, walks_more, walks-end}
 use Prim.Native.Nat.{◌+◌, ◌-◌, ◌<◌}
 use Rattle.enumerating.proofs.walk.+walk.Goals as goal
 

@@ -1,29 +1,17 @@
 -- The cycle of the AC-equivalence test: what each member needs is shown in a file of its own.
 use native.Mathlib.Omega.{arith}
-use mathlib.Core.Path.{refl, ◌∙◌}
+use mathlib.Core.Path.{refl, ◌∙◌, sym, ap}
 use Prim.Native.Nat.{◌-◌}
 use Rattle.equivalence.proofs.StepLaws.{step-some, step-next, step-own}
 use Rattle.equivalence.proofs.RemovalLaws.{removed-offsets}
-use Rattle.equivalence.proofs.AlikeLaws.{cancelled-none, cancelled-own, cancelled-absent, cancelled-more}
-use mathlib.Core.Path.{sym, ◌∙◌}
+use Rattle.equivalence.proofs.AlikeLaws.{cancelled-none, cancelled-own, cancelled-absent, cancelled-more, equivalent-keys, keys-roots, equivalent-elements, inner-left, inner-right, equivalent-rows, ac-small, equivalent-leaves, rows_none, rows-unlike, rows_more, rows-one}
 use Rattle.equivalence.proofs.ElementLaws.{elements-few}
-use Rattle.equivalence.proofs.AlikeLaws.{equivalent-keys, keys-roots, equivalent-elements}
-use Rattle.equivalence.proofs.AlikeLaws.{inner-left, inner-right}
-use Rattle.equivalence.proofs.AlikeLaws.{equivalent-rows, ac-small}
-use mathlib.Core.Path.{refl, ap, ◌∙◌}
 use Rattle.symbols.specs.Table.{signature_of}
 use Rattle.equivalence.specs.Offsets.{elements_alike}
 use Rattle.equivalence.proofs.OffsetLaws.{offsets-own}
-use Prim.Native.Nat.{◌-◌}
 use mathlib.Core.Bool.{false}
-use mathlib.Core.Path.{sym, ◌∙◌}
-use Prim.Native.Nat.{◌-◌}
 use borrow.Author.Count.{below_more}
 use borrow.Author.Tests.{eqb-true}
-use Rattle.equivalence.proofs.AlikeLaws.{equivalent-keys, equivalent-leaves}
-use mathlib.Core.Path.{refl, sym, ◌∙◌}
-use Rattle.equivalence.proofs.StepLaws.{step-next}
-use Rattle.equivalence.proofs.AlikeLaws.{rows_none, rows-unlike, rows_more, rows-one}
 use Rattle.equivalence.proofs.equivalence.+cancels_equivalent_flattenings_equivalent_partner_rows_equivalent.Goals as goal
 
 pub cancels-loop-owed-init : goal.cancels-loop-owed-init
@@ -40,7 +28,8 @@ cancels-loop-owed-preserved-then-s-at t c =
       ahead = omega arith;
       terms = step-own c.requires.both_prepared.left g.terms (omega arith) f own c.requires.f_bound n;
       rest = g.rest;
-      same = cancelled-own c.requires.both_prepared f g.terms g.rest (omega arith) own c.requires.f_bound n refl ∙ g.same;
+      same = cancelled-own c.requires.both_prepared f g.terms g.rest (omega arith) own c.requires.f_bound n refl
+          ∙ g.same;
     }
 
 pub cancels-partner-k-requires : goal.cancels-partner-k-requires
@@ -79,7 +68,8 @@ cancels-loop-owed-preserved t c =
     record {
       ahead = omega arith;
       terms = step-next c.requires.both_prepared.left g.terms (omega arith) w;
-      rest = removed-offsets a.table.now.now _ g.rest p c.if-k-left.false _ c.delete.ensures.offsets_after c.delete.ensures.offsets_len_unchanged;
+      rest = removed-offsets a.table.now.now _ g.rest p c.if-k-left.false _ c.delete.ensures.offsets_after
+          c.delete.ensures.offsets_len_unchanged;
       same = cancelled-more c.requires.both_prepared a.f g.terms g.rest (omega arith)
           c.if-s-at.false p c.if-k-left.false _ c.delete.ensures.offsets_after w
           refl ∙ g.same;
@@ -112,7 +102,8 @@ equivalent-flattenings_equivalent-requires t c =
 pub equivalent-returns-then-is_ac : goal.equivalent-returns-then-is_ac
 equivalent-returns-then-is_ac t c =
     let a = c.args in
-    let e = keys-roots c.requires.both_prepared a.i a.j c.requires.i_in_bounds.0 c.requires.i_in_bounds.1 c.if-skeys-i.false in
+    let e = keys-roots c.requires.both_prepared a.i a.j c.requires.i_in_bounds.0 c.requires.i_in_bounds.1
+        c.if-skeys-i.false in
     equivalent-elements c.requires.both_prepared a.i a.j c.requires.i_in_bounds.0 c.requires.i_in_bounds.1 e
     c.arity-n.ensures.0
     (sym c.is_ac.ensures ∙ c.if-is_ac.true) c.flattenings_equivalent.ensures
@@ -121,15 +112,19 @@ pub equivalent-rows_equivalent-requires : goal.equivalent-rows_equivalent-requir
 equivalent-rows_equivalent-requires t c =
     let a = c.args in
     let n = c.arity-n.ensures.0 in
-    let e = keys-roots c.requires.both_prepared a.i a.j c.requires.i_in_bounds.0 c.requires.i_in_bounds.1 c.if-skeys-i.false in
+    let e = keys-roots c.requires.both_prepared a.i a.j c.requires.i_in_bounds.0 c.requires.i_in_bounds.1
+        c.if-skeys-i.false in
     let left = inner-left c.requires.both_prepared a.i a.j c.requires.i_in_bounds.0 c.requires.i_in_bounds.1 e n in
-    (omega arith, (c.requires.both_prepared, (left, inner-right c.requires.both_prepared a.i a.j c.requires.i_in_bounds.0 c.requires.i_in_bounds.1 e n)))
+    (omega arith, (c.requires.both_prepared, (left, inner-right c.requires.both_prepared a.i a.j
+        c.requires.i_in_bounds.0 c.requires.i_in_bounds.1 e n)))
 
 pub equivalent-returns : goal.equivalent-returns
 equivalent-returns t c =
     let a = c.args in
-    let e = keys-roots c.requires.both_prepared a.i a.j c.requires.i_in_bounds.0 c.requires.i_in_bounds.1 c.if-skeys-i.false in
-    equivalent-rows c.requires.both_prepared a.i a.j c.requires.i_in_bounds.0 c.requires.i_in_bounds.1 e c.arity-n.ensures.0
+    let e = keys-roots c.requires.both_prepared a.i a.j c.requires.i_in_bounds.0 c.requires.i_in_bounds.1
+        c.if-skeys-i.false in
+    equivalent-rows c.requires.both_prepared a.i a.j c.requires.i_in_bounds.0 c.requires.i_in_bounds.1 e
+        c.arity-n.ensures.0
     (sym c.is_ac.ensures ∙ c.if-is_ac.false) c.rows_equivalent.ensures
 
 -- The elements of the right flattening are listed, and those of the left one cancel against them.
@@ -182,7 +177,8 @@ partner-returns-then-leaf t c =
 
 pub partner-equivalent-requires : goal.partner-equivalent-requires
 partner-equivalent-requires t c =
-    (omega arith, (c.requires.both_prepared, (c.requires.i_in_bounds, rw c.wide_byte-j.ensures.0 (c.requires.offsets_in.inside _ (omega arith)))))
+    (omega arith, (c.requires.both_prepared, (c.requires.i_in_bounds,
+        rw c.wide_byte-j.ensures.0 (c.requires.offsets_in.inside _ (omega arith)))))
 
 pub partner-returns-then-equivalent : goal.partner-returns-then-equivalent
 partner-returns-then-equivalent t c =

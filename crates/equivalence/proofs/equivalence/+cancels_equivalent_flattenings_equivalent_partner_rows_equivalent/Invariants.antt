@@ -1,16 +1,10 @@
 -- The cycle of the AC-equivalence test: what each member needs is shown in a file of its own.
-use Prim.Native.Nat.{ℕ}
-use Prim.Native.Nat.{◌-◌}
-use lib.ListN.{length}
-use Rattle.equivalence.proofs.AlikeLaws.{Going}
-use Prim.Native.Nat.{ℕ, ◌<◌}
-use Prim.Native.Nat.{◌+◌, ◌-◌, ◌*◌}
+use Prim.Native.Nat.{ℕ, ◌-◌, ◌<◌, ◌+◌, ◌*◌, ◌≤◌}
+use lib.ListN.{length, get_or}
+use Rattle.equivalence.proofs.AlikeLaws.{Going, RowGoing}
 use mathlib.Core.Bool.{false}
 use mathlib.Core.Path.{◌≡◌}
-use Prim.Native.Nat.{◌-◌, ◌≤◌}
-use lib.ListN.{get_or}
 use Rattle.equivalence.specs.Offsets.{alike_at}
-use Rattle.equivalence.proofs.AlikeLaws.{RowGoing}
 use Rattle.equivalence.proofs.equivalence.+cancels_equivalent_flattenings_equivalent_partner_rows_equivalent.Given as goal
 
 -- its first partner out, as the definition does.

@@ -3,8 +3,7 @@
 use native.Mathlib.Omega.{arith}
 use Prim.Native.Nat.{◌-◌}
 use Rattle.equivalence.proofs.StepLaws.{step-some}
-use Rattle.equivalence.proofs.ElementLaws.{listing_start, listing-own, listing-room, listing-other}
-use Rattle.equivalence.proofs.ElementLaws.{listing-done}
+use Rattle.equivalence.proofs.ElementLaws.{listing_start, listing-own, listing-room, listing-other, listing-done}
 use Rattle.equivalence.proofs.flatten.elements.Goals as goal
 
 pub loop-owed-init : goal.loop-owed-init

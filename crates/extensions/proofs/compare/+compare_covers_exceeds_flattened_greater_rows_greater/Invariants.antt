@@ -1,14 +1,10 @@
 -- The cycle of the comparison: what each member needs is shown in a file of its own.
-use Prim.Native.Nat.{ℕ}
-use Prim.Native.Nat.{ℕ, ◌<◌}
+use Prim.Native.Nat.{ℕ, ◌<◌, ◌+◌, ◌-◌, ◌≤◌, ◌*◌}
 use mathlib.Core.Bool.{true}
 use mathlib.Core.Path.{◌≡◌}
-use Prim.Native.Nat.{◌+◌, ◌-◌, ◌≤◌}
 use lib.ListN.{get_or}
 use Rattle.extensions.specs.Compared.{greater_at}
-use Rattle.extensions.proofs.CoverLaws.{some_above}
-use Rattle.extensions.proofs.CoverLaws.{Search}
-use Prim.Native.Nat.{◌+◌, ◌*◌}
+use Rattle.extensions.proofs.CoverLaws.{some_above, Search}
 use Rattle.extensions.proofs.MeasureLaws.{part_nodes, row_nodes, offset_nodes}
 use Rattle.extensions.proofs.RootLaws.{RowsGoing}
 use Rattle.extensions.proofs.compare.+compare_covers_exceeds_flattened_greater_rows_greater.Given as goal
@@ -28,7 +24,8 @@ decreases-covers-left l = l.n + 1 - l.next
 
 abbrev pub invariant-covers-right : goal.invariant-covers-right
 invariant-covers-right l =
-    (l.k ≤ l.m) × (l.x < l.n) × ((y : ℕ) → y < l.k → some_above l.table.now l.s.now l.ps l.n l.t.now (get_or l.qs y 0) ≡ true)
+    (l.k ≤ l.m) × (l.x < l.n) × ((y : ℕ) → y < l.k → some_above l.table.now l.s.now l.ps l.n l.t.now
+        (get_or l.qs y 0) ≡ true)
 
 abbrev pub decreases-covers-right : goal.decreases-covers-right
 decreases-covers-right l = l.m - l.k

@@ -26,7 +26,8 @@ returns-in-Got c =
     let σ = signature_of a.table.now in
     let (e, u) = rw c.in-Got.is at (c.read_side.ensures.side_read σ c.requires.table.1) in
     let within = rw c.in-Got.is at c.read_side.ensures.within in
-    let x = c.mark_sides.ensures.marks in let same = c.mark_sides.ensures.cursor_value in
+    let x = c.mark_sides.ensures.marks in
+    let same = c.mark_sides.ensures.cursor_value in
     record {
       marks_read = right-marked σ _ a.left.now _ _ c.mark_sides.result e same x;
       marked_within = rw same within.1;

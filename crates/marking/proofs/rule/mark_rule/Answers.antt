@@ -35,7 +35,8 @@ returns-in-Fault c =
     let e = rw (c.in-Fault.is, c.unused_at_start-unused.ensures.0)
     at (c.read_side.ensures.side_read σ c.requires.table.1) in
     record {
-      marks_read = left-unread σ c.requires.table.0.unscaled (bit_source a.book.now) (unused_of form_number) a.cursor.at _ _ e;
+      marks_read = left-unread σ c.requires.table.0.unscaled (bit_source a.book.now)
+          (unused_of form_number) a.cursor.at _ _ e;
       marked_within = tt;
     }
 
@@ -45,7 +46,8 @@ returns-in-Got c =
     let σ = signature_of a.table.now in
     let (e, u) = rw (c.in-Got.is, c.unused_at_start-unused.ensures.0)
     at (c.read_side.ensures.side_read σ c.requires.table.1) in record {
-      marks_read = rule-marked σ c.requires.table.0.unscaled (bit_source a.book.now) (unused_of form_number) a.cursor.at _ _ _
+      marks_read = rule-marked σ c.requires.table.0.unscaled (bit_source a.book.now)
+          (unused_of form_number) a.cursor.at _ _ _
           e u c.mark_right.result
           c.mark_right.ensures.marks_read;
       marked_within = c.mark_right.ensures.marked_within;

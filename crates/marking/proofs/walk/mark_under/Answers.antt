@@ -15,7 +15,8 @@ use Rattle.marking.proofs.walk.mark_under.Goals as goal
 
 pub mark_rules-requires : goal.mark_rules-requires
 mark_rules-requires c =
-    let book = c.requires.book_len_bound in let table = c.requires.table in
+    let book = c.requires.book_len_bound in
+    let table = c.requires.table in
     record {
       book_len_bound = book;
       table = (table.0, c.arities-arities.ensures, c.put_node_sums.ensures);

@@ -4,14 +4,9 @@ use native.Mathlib.Omega.{arith}
 use mathlib.Core.Path.{sym, ◌∙◌}
 use Prim.Native.Nat.{◌-◌}
 use Rattle.matching.proofs.AgendaLaws.{same_nodes, nodes-then, in-keys}
-use Rattle.matching.proofs.FollowLaws.{searched-end, searched-clash, searched-arguments, searched-divided}
-use Rattle.matching.proofs.FollowLaws.{taken-all, taken_own, dividing}
+use Rattle.matching.proofs.FollowLaws.{searched-end, searched-clash, searched-arguments, searched-divided, taken-all, taken_own, dividing}
 use Rattle.matching.proofs.DividingLaws.{dividing-piece, dividing-next, divided-none, divided-found, divided-next}
-use Rattle.matching.proofs.SearchingLaws.{first_of, first_piece, searched-first, searched-variable}
-use Rattle.matching.proofs.SearchingLaws.{searched-refused, word-inside, searching-rest, searching-variable}
-use Rattle.matching.proofs.SearchingLaws.{searching-more, searched-empty, searching-again, pending-again}
-use Rattle.matching.proofs.SearchingLaws.{owed-few, arguments-fit, two-arguments, two-fit, root-small}
-use Rattle.matching.proofs.SearchingLaws.{inner-stands, few-elements, all-some, mask-small}
+use Rattle.matching.proofs.SearchingLaws.{first_of, first_piece, searched-first, searched-variable, searched-refused, word-inside, searching-rest, searching-variable, searching-more, searched-empty, searching-again, pending-again, owed-few, arguments-fit, two-arguments, two-fit, root-small, inner-stands, few-elements, all-some, mask-small}
 use Rattle.matching.proofs.search.+divide_follow_follow_symbol.Goals as goal
 
 pub divide-returns-then-a-eq0 : goal.divide-returns-then-a-eq0

@@ -44,7 +44,8 @@ loop-i-preserved c =
     let σ = signature_of a.table.now in
     let ws = a.words.now in
     let l = c.loop-i in
-    let added = c.with_node-here.ensures.added in let within = c.with_node-here.ensures.by_index in
+    let added = c.with_node-here.ensures.added in
+    let within = c.with_node-here.ensures.by_index in
     let more = totals-more N p l.i (omega arith) l.invariant.0 l.invariant.2 added in (
       omega arith,
       rw c.put_sums-in-loop-i.ensures (stored-room l.sums (l.i - 1) _ (omega (arith, p.short)) l.invariant.1),
@@ -59,6 +60,7 @@ returns c =
     let l = c.loop-i in
     let z : l.i ≡ 0 = omega arith in
     let (N, p, room) = c.requires in record {
-      summed_up = record { room = l.invariant.1; ones = N.ones; sum = λ kind k m q. l.invariant.4 kind k m (omega arith) q };
+      summed_up = record { room = l.invariant.1; ones = N.ones; sum = λ kind k m q. l.invariant.4 kind k m
+          (omega arith) q };
       totalled = totalled N p (rw z at l.invariant.2) (sums-within-more (omega arith) l.invariant.3);
     }

@@ -9,7 +9,8 @@ use Rattle.order.proofs.mark.arguments_mark.Goals as goal
 
 pub flattened-requires : goal.flattened-requires
 flattened-requires c =
-    let W = c.requires.scale in let (p, q, e) = c.requires.s_nonzero in
+    let W = c.requires.scale in
+    let (p, q, e) = c.requires.s_nonzero in
     let n = c.arity-n.ensures.0 in record {
       scale = W;
       both_stand = inner-rows W.sides 0 0 p q e n;
@@ -19,7 +20,8 @@ flattened-requires c =
 
 pub rows_greater-requires : goal.rows_greater-requires
 rows_greater-requires c =
-    let W = c.requires.scale in let (p, q, e) = c.requires.s_nonzero in record {
+    let W = c.requires.scale in
+    let (p, q, e) = c.requires.s_nonzero in record {
       scale = W;
       both_stand = inner-rows W.sides 0 0 p q e c.arity-n.ensures.0;
     }
@@ -27,7 +29,8 @@ rows_greater-requires c =
 pub returns-then-is_ac : goal.returns-then-is_ac
 returns-then-is_ac c =
     let a = c.args in
-    let W = c.requires.scale in let (p, q, e) = c.requires.s_nonzero in
+    let W = c.requires.scale in
+    let (p, q, e) = c.requires.s_nonzero in
     let ac = sym c.is_ac.ensures ∙ c.if-is_ac.true in
     root-elements a.table.now a.s.now 0 a.t.now 0 p q e (ac-small a.table.now W.sides.small _ ac)
     c.arity-n.ensures.0 ac c.flattened.ensures
@@ -35,7 +38,8 @@ returns-then-is_ac c =
 pub returns-then-rows_greater : goal.returns-then-rows_greater
 returns-then-rows_greater c =
     let a = c.args in
-    let W = c.requires.scale in let (p, q, e) = c.requires.s_nonzero in
+    let W = c.requires.scale in
+    let (p, q, e) = c.requires.s_nonzero in
     root-row a.table.now a.s.now 0 a.t.now 0 p q e (few-at a.table.now W.sides.small)
     (sym c.is_ac.ensures ∙ c.if-is_ac.false) c.arity-n.ensures.0
     (sym c.if-rows_greater.true ∙ c.rows_greater.ensures)
@@ -43,7 +47,8 @@ returns-then-rows_greater c =
 pub returns : goal.returns
 returns c =
     let a = c.args in
-    let W = c.requires.scale in let (p, q, e) = c.requires.s_nonzero in
+    let W = c.requires.scale in
+    let (p, q, e) = c.requires.s_nonzero in
     root-row a.table.now a.s.now 0 a.t.now 0 p q e (few-at a.table.now W.sides.small)
     (sym c.is_ac.ensures ∙ c.if-is_ac.false) c.arity-n.ensures.0
     (sym c.if-rows_greater.false ∙ c.rows_greater.ensures)

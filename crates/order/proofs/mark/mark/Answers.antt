@@ -25,23 +25,27 @@ differing {table} {s} {t} S none l d e =
 
 pub first_oftener-requires : goal.first_oftener-requires
 first_oftener-requires c =
-    let S = c.requires.decoded in let (A, B, N) = c.requires.totalled in ((_, A.counted), (_, B.counted))
+    let S = c.requires.decoded in
+    let (A, B, N) = c.requires.totalled in ((_, A.counted), (_, B.counted))
 
 pub returns-then-first_oftener-lt-VARIABLES : goal.returns-then-first_oftener-lt-VARIABLES
 returns-then-first_oftener-lt-VARIABLES c =
-    let S = c.requires.decoded in let (A, B, N) = c.requires.totalled in
+    let S = c.requires.decoded in
+    let (A, B, N) = c.requires.totalled in
     whole-seven _ _ _ (c.first_oftener.ensures _ N.ones _ _ A.counted B.counted) c.if-first_oftener-lt-VARIABLES.true
 
 pub returns-then-y-x : goal.returns-then-y-x
 returns-then-y-x c =
-    let S = c.requires.decoded in let (A, B, N) = c.requires.totalled in
+    let S = c.requires.decoded in
+    let (A, B, N) = c.requires.totalled in
     let none = oftener-none _ _ _ (c.first_oftener.ensures _ N.ones _ _ A.counted B.counted)
     c.if-first_oftener-lt-VARIABLES.false in
     whole-one _ _ _ none A.weight B.weight c.if-y-x.true
 
 pub returns-then-x-y : goal.returns-then-x-y
 returns-then-x-y c =
-    let S = c.requires.decoded in let (A, B, N) = c.requires.totalled in
+    let S = c.requires.decoded in
+    let (A, B, N) = c.requires.totalled in
     let none = oftener-none _ _ _ (c.first_oftener.ensures _ N.ones _ _ A.counted B.counted)
     c.if-first_oftener-lt-VARIABLES.false in
     whole-eight _ _ _ none A.weight B.weight c.if-x-y.true
@@ -56,15 +60,19 @@ bounds-t-0 c =
 
 pub mark_prepared-requires : goal.mark_prepared-requires
 mark_prepared-requires c =
-    let S = c.requires.decoded in let (A, B, N) = c.requires.totalled in
-    let none = oftener-none _ _ _ (c.first_oftener.ensures _ N.ones _ _ A.counted B.counted) c.if-first_oftener-lt-VARIABLES.false in
+    let S = c.requires.decoded in
+    let (A, B, N) = c.requires.totalled in
+    let none = oftener-none _ _ _ (c.first_oftener.ensures _ N.ones _ _ A.counted B.counted)
+        c.if-first_oftener-lt-VARIABLES.false in
     (S, record { root = c.if-f-g.true; few = none; level = omega (arith, A.weight, B.weight) }, N)
 
 pub returns-then-higher : goal.returns-then-higher
 returns-then-higher c =
     let a = c.args in
-    let S = c.requires.decoded in let (A, B, N) = c.requires.totalled in
-    let none = oftener-none _ _ _ (c.first_oftener.ensures _ N.ones _ _ A.counted B.counted) c.if-first_oftener-lt-VARIABLES.false in
+    let S = c.requires.decoded in
+    let (A, B, N) = c.requires.totalled in
+    let none = oftener-none _ _ _ (c.first_oftener.ensures _ N.ones _ _ A.counted B.counted)
+        c.if-first_oftener-lt-VARIABLES.false in
     let root = differing S none (omega (arith, c.if-y-x.false, c.if-x-y.false, A.weight, B.weight))
     c.if-f-g.false
     (sym c.if-higher.true ∙ c.higher.ensures) in
@@ -76,8 +84,10 @@ returns-then-higher c =
 pub returns : goal.returns
 returns c =
     let a = c.args in
-    let S = c.requires.decoded in let (A, B, N) = c.requires.totalled in
-    let none = oftener-none _ _ _ (c.first_oftener.ensures _ N.ones _ _ A.counted B.counted) c.if-first_oftener-lt-VARIABLES.false in
+    let S = c.requires.decoded in
+    let (A, B, N) = c.requires.totalled in
+    let none = oftener-none _ _ _ (c.first_oftener.ensures _ N.ones _ _ A.counted B.counted)
+        c.if-first_oftener-lt-VARIABLES.false in
     let zero = differing S none (omega (arith, c.if-y-x.false, c.if-x-y.false, A.weight, B.weight))
     c.if-f-g.false
     (sym c.if-higher.false ∙ c.higher.ensures) in

@@ -30,7 +30,8 @@ sum_up-requires-2 c =
 pub arguments_mark-m-requires : goal.arguments_mark-m-requires
 arguments_mark-m-requires c =
     let (S, R, N) = c.requires in record {
-      scale = whole-scale S c.prepare_both.ensures.both_prepared c.sum_up.ensures.summed_up c.sum_up-2.ensures.summed_up;
+      scale = whole-scale S c.prepare_both.ensures.both_prepared c.sum_up.ensures.summed_up
+          c.sum_up-2.ensures.summed_up;
       s_nonzero = (left-some S, right-some S, R.root);
     }
 

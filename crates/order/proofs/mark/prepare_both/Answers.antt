@@ -4,14 +4,16 @@ use Rattle.order.proofs.mark.prepare_both.Goals as goal
 
 pub prepare-requires : goal.prepare-requires
 prepare-requires c =
-    let S = c.requires.decoded in let (p, q) = c.requires.skeys_len in record {
+    let S = c.requires.decoded in
+    let (p, q) = c.requires.skeys_len in record {
       complete = left-complete S;
       table_len_bound = (table-small S, S.left.short, p);
     }
 
 pub prepare-requires-2 : goal.prepare-requires-2
 prepare-requires-2 c =
-    let S = c.requires.decoded in let (p, q) = c.requires.skeys_len in record {
+    let S = c.requires.decoded in
+    let (p, q) = c.requires.skeys_len in record {
       complete = right-complete S;
       table_len_bound = (table-small S, S.right.short, q);
     }

@@ -19,7 +19,8 @@ returns-then-first_oftener-lt-VARIABLES c =
 
 pub arguments_mark-requires : goal.arguments_mark-requires
 arguments_mark-requires c =
-    let L = c.requires.level in let W = c.requires.scale in record {
+    let L = c.requires.level in
+    let W = c.requires.scale in record {
       scale = W;
       s_nonzero = (left-some L.decoded, right-some L.decoded, L.root);
     }

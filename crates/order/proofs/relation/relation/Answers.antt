@@ -13,7 +13,9 @@ bounds-t-0 c =
 
 pub relation_level-requires : goal.relation_level-requires
 relation_level-requires c =
-    let S = c.requires.decoded in let (A, B, N) = c.requires.totalled in let h = c.requires.summed_up in
+    let S = c.requires.decoded in
+    let (A, B, N) = c.requires.totalled in
+    let h = c.requires.summed_up in
     record {
       level = record { decoded = S; left = A; right = B; level = c.if-stotal-ttotal.true; root = c.if-s-t.true };
       summed_up = h;
@@ -32,7 +34,9 @@ returns-then-m-eq9 c =
 
 pub mark-n-requires : goal.mark-n-requires
 mark-n-requires c =
-    let S = c.requires.decoded in let (A, B, N) = c.requires.totalled in let h = c.requires.summed_up in record {
+    let S = c.requires.decoded in
+    let (A, B, N) = c.requires.totalled in
+    let h = c.requires.summed_up in record {
       decoded = turned S;
       totalled = (B, A, N);
     }

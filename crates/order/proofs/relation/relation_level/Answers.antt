@@ -21,7 +21,8 @@ returns-then-prepare_both c =
 
 pub greater_level-requires : goal.greater_level-requires
 greater_level-requires c =
-    let L = c.requires.level in let (x, y) = c.requires.summed_up in
+    let L = c.requires.level in
+    let (x, y) = c.requires.summed_up in
     record {
       level = L;
       scale = whole-scale L.decoded c.prepare_both.ensures.both_prepared x y;
@@ -33,7 +34,8 @@ returns-then-greater_level c =
 
 pub greater_level-requires-2 : goal.greater_level-requires-2
 greater_level-requires-2 c =
-    let L = c.requires.level in let (x, y) = c.requires.summed_up in
+    let L = c.requires.level in
+    let (x, y) = c.requires.summed_up in
     record {
       level = level-turned L;
       scale = scales-turned (whole-scale L.decoded c.prepare_both.ensures.both_prepared x y);

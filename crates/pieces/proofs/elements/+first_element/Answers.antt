@@ -2,8 +2,7 @@
 use native.Mathlib.Omega.{arith}
 use mathlib.Core.Path.{refl}
 use Prim.Native.Nat.{◌-◌}
-use Rattle.pieces.proofs.PutLaws.{owed-some, masked-own, first-own, masked-next, first-here, first-later}
-use Rattle.pieces.proofs.PutLaws.{part-some}
+use Rattle.pieces.proofs.PutLaws.{owed-some, masked-own, first-own, masked-next, first-here, first-later, part-some}
 use Rattle.pieces.proofs.elements.+first_element.Goals as goal
 
 pub offset_bounds-words-i : goal.offset_bounds-words-i

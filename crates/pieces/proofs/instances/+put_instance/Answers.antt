@@ -2,8 +2,7 @@
 use native.Mathlib.Omega.{arith}
 use Prim.Native.Nat.{◌-◌}
 use lib.ListN.{length-set}
-use Rattle.pieces.proofs.PieceLaws.{instance-none, word-inside, instance-next, instance-symbol, variable-small}
-use Rattle.pieces.proofs.PieceLaws.{is-piece, piece-room, instance-after, instance-variable}
+use Rattle.pieces.proofs.PieceLaws.{instance-none, word-inside, instance-next, instance-symbol, variable-small, is-piece, piece-room, instance-after, instance-variable}
 use Rattle.pieces.proofs.instances.+put_instance.Goals as goal
 
 pub returns-then-from-pattern : goal.returns-then-from-pattern

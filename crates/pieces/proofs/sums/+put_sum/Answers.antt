@@ -2,8 +2,7 @@
 use native.Mathlib.Omega.{arith}
 use Prim.Native.Nat.{◌-◌}
 use lib.ListN.{length-set}
-use Rattle.pieces.proofs.PutLaws.{owed-some, masked-own, sum-own, masked-next, sum-off, part-fits, part-some}
-use Rattle.pieces.proofs.PutLaws.{one-fits, on_fits, put_one, put_on, put_same, put-none}
+use Rattle.pieces.proofs.PutLaws.{owed-some, masked-own, sum-own, masked-next, sum-off, part-fits, part-some, one-fits, on_fits, put_one, put_on, put_same, put-none}
 use Rattle.pieces.proofs.sums.+put_sum.Goals as goal
 
 pub returns-then-mask-eq0 : goal.returns-then-mask-eq0

@@ -6,8 +6,7 @@ use Prim.Native.Nat.{◌-◌, ◌+◌}
 use Rattle.format.specs.Reading.{word_source}
 use Rattle.format.specs.Format.{Sides, rule_reader}
 use Rattle.answers.specs.Answer.{end_of}
-use Rattle.reader.proofs.RuleLaws.{done_none, done-fault, done_more, done_all, rule_end, end-fault}
-use Rattle.reader.proofs.RuleLaws.{end-got}
+use Rattle.reader.proofs.RuleLaws.{done_none, done-fault, done_more, done_all, rule_end, end-fault, end-got}
 use Rattle.reader.proofs.rule.read_word_rules.Goals as goal
 
 pub loop-number-init : goal.loop-number-init

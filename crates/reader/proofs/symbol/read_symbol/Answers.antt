@@ -13,8 +13,7 @@ use Rattle.format.specs.Layout.{weight_width, rank_width}
 use Rattle.reader.specs.Source.{source_of, table_of}
 use Rattle.reader.specs.Symbol.{has_zero_weight_unary}
 use Rattle.reader.proofs.SourceLaws.{tested-field, entry-stands, reached-entry}
-use Rattle.reader.proofs.SymbolLaws.{symbol-parts, taken-put, stored_same}
-use Rattle.reader.proofs.SymbolLaws.{arity-unread, mark-unread, mark-refused, weight-unread, rank-unread}
+use Rattle.reader.proofs.SymbolLaws.{symbol-parts, taken-put, stored_same, arity-unread, mark-unread, mark-refused, weight-unread, rank-unread}
 use Rattle.reader.proofs.WeightLaws.{has_more}
 use borrow.Author.Rules.{rules}
 use Rattle.reader.proofs.symbol.read_symbol.Goals as goal

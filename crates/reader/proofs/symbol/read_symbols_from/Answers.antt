@@ -14,8 +14,7 @@ use Rattle.symbols.proofs.EntryLaws.{table_more, table-start}
 use Rattle.reader.specs.Source.{source_of, table_of}
 use Rattle.reader.specs.Symbol.{has_zero_weight_unary}
 use Rattle.reader.proofs.SourceLaws.{room-le, room-same}
-use Rattle.reader.proofs.SymbolLaws.{taken_none, symbols-fault, symbols-past, symbols-done, stored_more}
-use Rattle.reader.proofs.SymbolLaws.{stored-none}
+use Rattle.reader.proofs.SymbolLaws.{taken_none, symbols-fault, symbols-past, symbols-done, stored_more, stored-none}
 use Rattle.reader.proofs.WeightLaws.{weightless-told}
 use Rattle.reader.proofs.symbol.read_symbols_from.Goals as goal
 

@@ -10,7 +10,8 @@ use Rattle.scaling.proofs.stack.advance.Goals as goal
 pub returns-then-count-le2 : goal.returns-then-count-le2
 returns-then-count-le2 c =
     let a = c.args in
-    let (N, h) = c.requires.node_rows in let (p, q, r, s, l) = c.requires.top_nonzero in
+    let (N, h) = c.requires.node_rows in
+    let (p, q, r, s, l) = c.requires.top_nonzero in
     let e = c.put_two.ensures in
     let w = c.wide-at.ensures.0 in record {
       result_after = rw (e, w)
@@ -21,7 +22,8 @@ returns-then-count-le2 c =
 
 pub push-requires : goal.push-requires
 push-requires c =
-    let (N, h) = c.requires.node_rows in let (p, q, r, s, l) = c.requires.top_nonzero in
+    let (N, h) = c.requires.node_rows in
+    let (p, q, r, s, l) = c.requires.top_nonzero in
     let n = (N.node c.args.word h).arity in
     let w = c.wide-at.ensures.0 in (
       s,
@@ -33,8 +35,10 @@ push-requires c =
 pub returns : goal.returns
 returns c =
     let a = c.args in
-    let (N, h) = c.requires.node_rows in let (p, q, r, s, l) = c.requires.top_nonzero in
-    let (_, e) = c.push.ensures.value in let n = c.push.ensures.stack_len in
+    let (N, h) = c.requires.node_rows in
+    let (p, q, r, s, l) = c.requires.top_nonzero in
+    let (_, e) = c.push.ensures.value in
+    let n = c.push.ensures.stack_len in
     let w = c.wide-at.ensures.0 in record {
       result_after = more-advanced (signature_of a.table.now) a.adds.now N a.word h a.stack.now a.top p (omega arith)
           (rw w at c.if-count-le2.false) (rw (c.put_two.ensures, w) at e);

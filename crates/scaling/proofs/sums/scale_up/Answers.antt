@@ -87,7 +87,8 @@ loop-k-preserved c =
     let σ = signature_of a.table.now in
     let ws = a.words.now in
     let h : l.k < 128 = omega (arith, p.short) in
-    let e = c.advance-top.ensures.result_after in let n = c.advance-top.ensures.stack_len in (
+    let e = c.advance-top.ensures.result_after in
+    let n = c.advance-top.ensures.stack_len in (
       omega arith,
       n,
       stage-next N p l.k (omega arith) l.stack l.top l.invariant.2 e,

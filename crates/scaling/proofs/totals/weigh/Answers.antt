@@ -76,7 +76,8 @@ loop-k-preserved c =
     let l = c.loop-k in
     let (N, p) = c.requires in
     let S = stage N p l.k (omega arith) l.stack l.top l.invariant.2 in
-    let e = c.advance-top.ensures.result_after in let n = c.advance-top.ensures.stack_len in (
+    let e = c.advance-top.ensures.result_after in
+    let n = c.advance-top.ensures.stack_len in (
       omega arith,
       n,
       stage-next N p l.k (omega arith) l.stack l.top l.invariant.2 e,

@@ -10,7 +10,8 @@ pub returns : goal.returns
 returns c =
     let a = c.args in
     let σ = signature_of a.table.now in
-    let (S, P) = c.requires.side in let (T, Q) = c.requires.side_2 in
+    let (S, P) = c.requires.side in
+    let (T, Q) = c.requires.side_2 in
     let m = c.count in
     let n = c.count-2 in
     c.first_more.ensures

@@ -25,7 +25,8 @@ pub loop-i-preserved : goal.loop-i-preserved
 loop-i-preserved c =
     let (N, p) = c.requires in
     let l = c.loop-i in
-    let added = c.with_node-here.ensures.added in let within = c.with_node-here.ensures.by_index in (
+    let added = c.with_node-here.ensures.added in
+    let within = c.with_node-here.ensures.by_index in (
       omega arith,
       totals-more N p l.i (omega arith) l.invariant.0 l.invariant.1 added,
       sums-within-more (omega arith) (within (length c.args.words.now - l.i) l.invariant.2),

@@ -12,6 +12,7 @@ push-requires c = (omega arith, pow_pos _, omega arith)
 pub returns : goal.returns
 returns c =
     let zeros = (8 - c.args.self.count % 8) % 8 in
-    let state = c.flush.ensures.count_bound in let written = c.flush.ensures.by_index in
+    let state = c.flush.ensures.count_bound in
+    let written = c.flush.ensures.by_index in
     λ bits h size. writes_end bits zeros _ _ (written _ (c.push.ensures.by_index bits _ h)) (omega arith)
     (omega (arith, h.total)) state.0 (c.flush.auto.bytes ∙ size)

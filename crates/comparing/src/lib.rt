@@ -18,9 +18,9 @@ use operations::{CompareReply, Comparison};
 use order::relation::relation;
 use weights::totals::margin;
 
-mod variables;
+mod oftenness;
 
-pub use crate::variables::oftener;
+pub use crate::oftenness::oftener;
 
 // How two terms compare, and how many words they have; or the error.
 #[derive(Clone, Copy)]

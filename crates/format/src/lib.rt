@@ -1,5 +1,6 @@
 // The numbers of the file format, one name each: widths, limits and the errors' codes, as specs/Layout and specs/Errors
 // have them. No function stands here.
+#![tactic(auto)]
 
 pub const FORM: u16 = 2;
 

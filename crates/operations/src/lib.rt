@@ -1,4 +1,5 @@
 // What the operations reply, as types. What each gives back is defined in specs/; no function stands here.
+#![tactic(auto)]
 
 // An error's code, the input at fault, and the offset in it.
 #[derive(Clone, Copy)]

@@ -31,7 +31,7 @@ pub returns-in-Accepted : goal.returns-in-Accepted
 returns-in-Accepted c =
     let both =
     accepts side_values _ _ c.args.reply.now _ _ (rw c.in-Accepted.is at c.greater_side.ensures)
-        c.put_side.ensures.value c.put_side.ensures.reply_after
+    c.put_side.ensures.value c.put_side.ensures.reply_after
     in record {
       value = both.0;
       reply_after = both.1;
@@ -41,7 +41,7 @@ pub returns-in-Refused : goal.returns-in-Refused
 returns-in-Refused c =
     let both =
     refuses side_values _ _ c.args.reply.now _ _ _ _ (rw c.in-Refused.is at c.greater_side.ensures)
-        c.put_error.ensures.value c.put_error.ensures.reply_after
+    c.put_error.ensures.value c.put_error.ensures.reply_after
     in record {
       value = both.0;
       reply_after = both.1;

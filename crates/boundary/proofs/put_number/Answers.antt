@@ -18,7 +18,7 @@ pub returns-in-Accepted : goal.returns-in-Accepted
 returns-in-Accepted c =
     let both =
     accepts number_values _ _ c.args.reply.now _ _ (ap number_reply
-        (sym c.in-Accepted.is)) c.put_counts.ensures.value c.put_counts.ensures.reply_after
+    (sym c.in-Accepted.is)) c.put_counts.ensures.value c.put_counts.ensures.reply_after
     in record {
       value = both.0;
       reply_after = both.1;
@@ -28,7 +28,7 @@ pub returns-in-Refused : goal.returns-in-Refused
 returns-in-Refused c =
     let both =
     refuses number_values _ _ c.args.reply.now _ _ _ _ (ap number_reply
-        (sym c.in-Refused.is)) c.put_error.ensures.value c.put_error.ensures.reply_after
+    (sym c.in-Refused.is)) c.put_error.ensures.value c.put_error.ensures.reply_after
     in record {
       value = both.0;
       reply_after = both.1;

@@ -24,4 +24,3 @@ relation-requires c =
       totalled = (A, B, c.put_node_sums.ensures);
       summed_up = (S, T);
     }
-

@@ -20,5 +20,7 @@ returns c =
     let σ = signature_of c.args.table.now in
     let size = sym c.is_size.ensures ∙ c.if-not-is_size.false in
     count-done σ c.args.n size c.cell_at.result
-    (c.cell_at.ensures σ 64 c.row_counts-cells.ensures (omega (arith,
-        (size-range c.args.n size).1))) _ c.term_count.ensures
+    (c.cell_at.ensures σ 64 c.row_counts-cells.ensures (omega (
+      arith,
+      (size-range c.args.n size).1,
+    ))) _ c.term_count.ensures

@@ -73,8 +73,10 @@ walk-requires c =
           c.args.n size).1,
     )) in record {
       table_len_bound = c.requires;
-      ready = list-ready σ c.args.n c.args.words.now size c.cell_at-number.result cell (omega (arith,
-          c.if-number-gt-MAX_TERMS.false))
+      ready = list-ready σ c.args.n c.args.words.now size c.cell_at-number.result cell (omega (
+        arith,
+        c.if-number-gt-MAX_TERMS.false,
+      ))
           (omega (arith, c.words_of.ensures, c.if-words-words_of.false)) _ c.row_counts-cells.ensures;
     }
 
@@ -88,8 +90,10 @@ returns c =
           c.args.n size).1,
     )) in
     let both =
-    list_done σ c.args.n c.args.words.now size c.cell_at-number.result cell (omega (arith,
-        c.if-number-gt-MAX_TERMS.false))
+    list_done σ c.args.n c.args.words.now size c.cell_at-number.result cell (omega (
+      arith,
+      c.if-number-gt-MAX_TERMS.false,
+    ))
     (omega (arith, c.words_of.ensures, c.if-words-words_of.false)) _ _ _ _ c.walk.ensures
     in record {
       result_value = both.0;

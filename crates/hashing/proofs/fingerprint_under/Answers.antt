@@ -19,11 +19,11 @@ returns-in-Fault c =
     let a = c.args in
     let σ = signature_of a.table.now in
     ap refused c.refusal.ensures ∙ term-fault σ a.term.now _ _ (sym c.in-Fault.is
-        ∙ c.front_term.ensures σ c.arities-arities.ensures c.requires.unscaled)
+    ∙ c.front_term.ensures σ c.arities-arities.ensures c.requires.unscaled)
 
 pub returns-in-Got : goal.returns-in-Got
 returns-in-Got c =
     let a = c.args in
     let σ = signature_of a.table.now in
     term-hashed σ a.term.now _ _ (sym c.in-Got.is ∙ c.front_term.ensures σ c.arities-arities.ensures
-        c.requires.unscaled) _ c.hash.ensures
+    c.requires.unscaled) _ c.hash.ensures

@@ -13,8 +13,10 @@ returns c =
     let first = put-append a.out.now a.at w (32 ∷ []) _ _ _ _
     (c.put_bytes-end.ensures.value, c.put_bytes-end.ensures.out_after)
     (c.put_byte-next.ensures.value, c.put_byte-next.ensures.out_after) in
-    let p = put-line2 a.out.now a.at w (decimal a.n) _ _ _ _ first (c.put_number.ensures.value,
-        c.put_number.ensures.out_after) in record {
+    let p = put-line2 a.out.now a.at w (decimal a.n) _ _ _ _ first (
+      c.put_number.ensures.value,
+      c.put_number.ensures.out_after,
+    ) in record {
       value = p.0;
       out_after = p.1;
       upper_bound = omega (

@@ -29,7 +29,7 @@ loop-i-preserved c =
           c.requires.2
           c.long.ensures.0
           (to_z-of_z w64 (get_or a.margins.now l.i (pos 0)) (record { sfits = c.put_rule-arg-in-loop-i-1.given }))
-              l.invariant.3 c.put_rule-end.ensures.put,
+          l.invariant.3 c.put_rule-end.ensures.put,
     )
 
 pub shape_of-out : goal.shape_of-out

@@ -14,8 +14,10 @@ returns-then-decreasing-rules c =
       put = put-verdict a.out.now a.at a.rules a.decreasing c.score.result _ _ _ _ "accepted"
           c.score.ensures.value
           (rw (eq-eqb a.decreasing a.rules c.if-decreasing-rules.true))
-          (c.put_count-next.ensures.value, c.put_count-next.ensures.out_after) (c.put_bytes.ensures.value,
-              c.put_bytes.ensures.out_after);
+          (c.put_count-next.ensures.value, c.put_count-next.ensures.out_after) (
+            c.put_bytes.ensures.value,
+            c.put_bytes.ensures.out_after,
+          );
       upper_bound = omega (arith, c.put_count-next.ensures.upper_bound, c.put_bytes.ensures.value);
     }
 
@@ -28,7 +30,9 @@ returns c =
       put = put-verdict a.out.now a.at a.rules a.decreasing c.score.result _ _ _ _ "returned"
           c.score.ensures.value
           (rw (ne_eqb a.decreasing a.rules c.if-decreasing-rules.false))
-          (c.put_count-next.ensures.value, c.put_count-next.ensures.out_after) (c.put_bytes-2.ensures.value,
-              c.put_bytes-2.ensures.out_after);
+          (c.put_count-next.ensures.value, c.put_count-next.ensures.out_after) (
+            c.put_bytes-2.ensures.value,
+            c.put_bytes-2.ensures.out_after,
+          );
       upper_bound = omega (arith, c.put_count-next.ensures.upper_bound, c.put_bytes-2.ensures.value);
     }

@@ -26,5 +26,5 @@ returns c =
     let m = rw (to_z-of_z w64 a.margin c.ranges.margin) at c.put_right_set-column_59.ensures.put in
     put-parts a.out.now a.at a.number (record { mark = a.mark; margin = a.margin }) _ _ _ _ _ _ _ _ _ _ _ _
     p (c.put_byte-column_6.ensures.value, c.put_byte-column_6.ensures.out_after) c.put_words-column_46.ensures.put
-        (c.put_byte-column_47.ensures.value, c.put_byte-column_47.ensures.out_after) m
+    (c.put_byte-column_47.ensures.value, c.put_byte-column_47.ensures.out_after) m
     (c.put_bytes.ensures.value, c.put_bytes.ensures.out_after)

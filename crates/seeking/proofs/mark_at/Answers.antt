@@ -42,4 +42,4 @@ returns-in-Got c marked h =
     let head = rw c.in-Got.is at c.read_head.ensures in
     mark-found a.book.now marked a.at h head.form head.taken _ _ _ _
     (sym (read-packed form_number a.book.now []) ∙ head.whole) head.within
-        (rw c.front-front.ensures.0 at c.mark_there.ensures)
+    (rw c.front-front.ensures.0 at c.mark_there.ensures)

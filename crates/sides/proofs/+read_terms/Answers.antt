@@ -51,8 +51,10 @@ returns-then-cell-eq0 t c =
     let source = bit_source a.book.now.now in record {
       forest_read = λ σ k unused e. terms-fault source unused σ a.count.now a.owed a.from.at a.words.now _ _ _ _ _
           (node-unknown source unused σ a.arities.now k (128 - a.count.now) a.owed a.from.at
-          (omega (arith, c.if-count-eq-MAX_NODES.false, c.requires.count_le_max_nodes.0)) (omega (arith,
-              c.if-owed-eq0.false)) _ _ node fits
+          (omega (arith, c.if-count-eq-MAX_NODES.false, c.requires.count_le_max_nodes.0)) (omega (
+            arith,
+            c.if-owed-eq0.false,
+          )) _ _ node fits
           (sym c.cell_at-cell.ensures.0 ∙ c.if-cell-eq0.true)) refl;
       within = tt;
       words_len = (simp length-set c.requires.count_le_max_nodes.2, c.requires.le_lowest.0, c.requires.le_lowest.1);
@@ -65,8 +67,10 @@ returns-then-lowest-word t c =
     let source = bit_source a.book.now.now in record {
       forest_read = λ σ k unused e. terms-fault source unused σ a.count.now a.owed a.from.at a.words.now _ _ _ _ _
           (out-of-turn source unused σ (128 - a.count.now) a.owed a.from.at
-          (omega (arith, c.if-count-eq-MAX_NODES.false, c.requires.count_le_max_nodes.0)) (omega (arith,
-              c.if-owed-eq0.false)) _ _ node
+          (omega (arith, c.if-count-eq-MAX_NODES.false, c.requires.count_le_max_nodes.0)) (omega (
+            arith,
+            c.if-owed-eq0.false,
+          )) _ _ node
           (omega (arith, c.if-lowest-word.true, e))) refl;
       within = tt;
       words_len = (simp length-set c.requires.count_le_max_nodes.2, c.requires.le_lowest.0, c.requires.le_lowest.1);
@@ -82,8 +86,11 @@ overflow_add-cell t c =
     let counts = c.requires.count_le_max_nodes in
     let cell = c.cell_at-cell in
     let owed = owed-fits cell.result a.owed (128 - a.count.now) (omega (arith, c.if-cell-eq0.false))
-    cell.ensures.1 (omega (arith, c.if-owed-eq0.false)) (omega (arith, c.if-count-eq-MAX_NODES.false,
-        counts.0)) counts.1 in
+    cell.ensures.1 (omega (arith, c.if-owed-eq0.false)) (omega (
+      arith,
+      c.if-count-eq-MAX_NODES.false,
+      counts.0,
+    )) counts.1 in
     record { fits = owed.0 }
 
 pub read_terms-requires : goal.read_terms-requires
@@ -91,11 +98,14 @@ read_terms-requires t c =
     let a = c.args in
     let cell = c.cell_at-cell in
     let owed = (owed-fits cell.result a.owed (128 - a.count.now) (omega (arith, c.if-cell-eq0.false))
-    cell.ensures.1 (omega (arith, c.if-owed-eq0.false)) (omega (arith, c.if-count-eq-MAX_NODES.false,
-        c.requires.count_le_max_nodes.0)) c.requires.count_le_max_nodes.1).1 in
+    cell.ensures.1 (omega (arith, c.if-owed-eq0.false)) (omega (
+      arith,
+      c.if-count-eq-MAX_NODES.false,
+      c.requires.count_le_max_nodes.0,
+    )) c.requires.count_le_max_nodes.1).1 in
     let (rises, most) = c.unused_after.ensures.lower_bound in
     let fewer = fewer-allowed a.count.now t c.requires.count_le_max_nodes.0 c.if-count-eq-MAX_NODES.false c.decreases
-        in (
+    in (
       fewer.0,
       (
         (c.requires.book_len_bound.0, (rw c.in-Got.is at c.node.ensures.node_moved).1),
@@ -115,8 +125,10 @@ returns-in-Fault t c =
     rw (ne_eqb c.in-Fault.code 0 (omega arith)) (record {
       forest_read = λ σ k unused e. terms-fault source unused σ a.count.now a.owed a.from.at a.words.now _ _ _ _ _
           (node-fault source unused σ (128 - a.count.now) a.owed a.from.at
-          (omega (arith, c.if-count-eq-MAX_NODES.false, c.requires.count_le_max_nodes.0)) (omega (arith,
-              c.if-owed-eq0.false)) _ _ node) refl;
+          (omega (arith, c.if-count-eq-MAX_NODES.false, c.requires.count_le_max_nodes.0)) (omega (
+            arith,
+            c.if-owed-eq0.false,
+          )) _ _ node) refl;
       within = tt;
       words_len = (c.requires.count_le_max_nodes.2, c.requires.le_lowest.0, c.requires.le_lowest.1);
     })
@@ -131,8 +143,10 @@ returns-else-lowest-word t c =
     let some : 0 < get_or a.arities.now c.in-Got.word 0 = omega (arith, cell, c.if-cell-eq0.false) in record {
       forest_read = λ σ k unused e. terms-before source unused σ a.count.now a.owed a.from.at a.words.now _ _ _ _ _ _
           (node-read source unused σ a.arities.now k (128 - a.count.now) a.owed a.from.at
-          (omega (arith, c.if-count-eq-MAX_NODES.false, c.requires.count_le_max_nodes.0)) (omega (arith,
-              c.if-owed-eq0.false)) _ _ node fits some
+          (omega (arith, c.if-count-eq-MAX_NODES.false, c.requires.count_le_max_nodes.0)) (omega (
+            arith,
+            c.if-owed-eq0.false,
+          )) _ _ node fits some
           (omega (arith, c.if-lowest-word.false, e))) _
           (ap (λ (m : ℕ). m - 1 + (a.owed - 1)) cell)
           (c.read_terms.ensures.forest_read σ k _ (c.unused_after.ensures.by_index unused e));

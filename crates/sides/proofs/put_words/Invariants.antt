@@ -8,7 +8,7 @@ use Rattle.sides.proofs.put_words.Given as goal
 abbrev pub invariant-loop-i : goal.invariant-loop-i
 invariant-loop-i l =
     (l.i ≤ length l.nodes) × (length l.words ≡ length l.initial.words) ×
-        (l.words ≡ sets l.initial.words l.index (take l.i l.nodes))
+    (l.words ≡ sets l.initial.words l.index (take l.i l.nodes))
 
 abbrev pub decreases-loop-i : goal.decreases-loop-i
 decreases-loop-i l = length l.nodes - l.i

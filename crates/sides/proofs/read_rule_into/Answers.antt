@@ -24,9 +24,9 @@ returns c =
       words_read = λ σ k plain. right-stored (bit_source a.book.now) a.unused σ plain a.cursor.at a.index
           a.words.now _ _
           c.read_side_into-read.new.words c.read_side_into-read.new.unused
-              (rw read at (c.read_side_into-read.ensures.side_stored σ k))
+          (rw read at (c.read_side_into-read.ensures.side_stored σ k))
           c.read_side_into-read.auto.words (told c.read_side_into.result) c.read_side_into.new.words
-              c.read_side_into.new.unused
+          c.read_side_into.new.unused
           (c.read_side_into.ensures.side_stored σ k);
       within = within_wider _ _ _ (omega (arith, within.0)) (told c.read_side_into.result)
           c.read_side_into.ensures.within;

@@ -15,8 +15,11 @@ pub read_terms-code-requires : goal.read_terms-code-requires
 read_terms-code-requires c =
     let a = c.args in
     record {
-      book_len_bound = (c.requires.book_len_bound.0, c.empty.ensures a.book.now a.cursor.at
-          c.requires.book_len_bound.1);
+      book_len_bound = (
+        c.requires.book_len_bound.0,
+        c.empty.ensures a.book.now a.cursor.at
+            c.requires.book_len_bound.1,
+      );
       count_le_max_nodes = (omega arith, omega arith, c.requires.words_len.0);
       le_lowest = (omega arith, omega (arith, c.requires.words_len.1));
     }

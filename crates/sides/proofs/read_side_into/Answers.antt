@@ -17,8 +17,11 @@ returns-in_default c =
 pub put_words-requires : goal.put_words-requires
 put_words-requires c =
     let within = rw c.in-Got.is at c.read_side-read.ensures.within in
-    let some = length-take-le c.in-Got.value c.read_side-read.new.words (omega (arith, within,
-        c.read_side-read.ensures.words_len_2)) in
+    let some = length-take-le c.in-Got.value c.read_side-read.new.words (omega (
+      arith,
+      within,
+      c.read_side-read.ensures.words_len_2,
+    )) in
     omega (arith, within, some)
 
 pub overflow_add-end : goal.overflow_add-end
@@ -33,8 +36,10 @@ returns c =
     let within = rw c.in-Got.is at c.read_side-read.ensures.within in
     let long = length-take-le n words (omega (arith, within, c.read_side-read.ensures.words_len_2)) in record {
       side_stored = λ σ k. side-stored a.unused.now _ a.index a.words.now (take n words) _ _ _ _
-          (rw c.in-Got.is at (c.read_side-read.ensures.side_read σ k)) (omega (arith,
-              long)) c.put_words.ensures.words_after;
+          (rw c.in-Got.is at (c.read_side-read.ensures.side_read σ k)) (omega (
+            arith,
+            long,
+          )) c.put_words.ensures.words_after;
       within = (omega (arith, within), within.1);
       unused_bound_2 = c.read_side-read.ensures.words_len_2.1;
     }

@@ -15,7 +15,7 @@ returns-then-has_coefficients c =
     c.long.ensures.0 ∙ ap (λ (n : ℕ). n / 8) (c.word_at.ensures ∙ rw c.wide.ensures.0) in
     let low : c.long-then-has_coefficients.result ≡ get_or t (4 * f + 5) 0 / 2 =
     c.long-then-has_coefficients.ensures.0 ∙ ap (λ (n : ℕ). n / 2) (c.word_at-then-has_coefficients.ensures
-        ∙ rw (c.wide.ensures.0, next)) in (
+    ∙ rw (c.wide.ensures.0, next)) in (
       rw (sym c.has_coefficients.ensures ∙ c.if-has_coefficients.true)
           (ap₂ (λ (m n : ℕ). 32768 * m + n) high low),
       omega (arith, c.long.ensures.0, c.long-then-has_coefficients.ensures.0),

@@ -9,7 +9,7 @@ use Rattle.symbols.proofs.put_variable_cells.Given as goal
 abbrev pub invariant-loop-word : goal.invariant-loop-word
 invariant-loop-word l =
     (256 ≤ l.word) × (l.word ≤ 272) × (length l.cells ≡ 272) ×
-        ((σ : Signature) → Between σ 256 l.word l.initial.cells l.cells)
+    ((σ : Signature) → Between σ 256 l.word l.initial.cells l.cells)
 
 abbrev pub decreases-loop-word : goal.decreases-loop-word
 decreases-loop-word l = 272 - l.word

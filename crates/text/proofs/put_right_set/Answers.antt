@@ -32,5 +32,7 @@ returns-clause-put c =
     let n : s.result ≡ 0 + length d = rw z at s.ensures.value in
     let e : s.new.out ≡ sets (replicate 20 0) 0 d = rw z at s.ensures.out_after in
     let few : s.result ≤ 20 = s.ensures.upper_bound in
-    put-at-end a.out.now a.at a.width d (replicate 20 0) s.new.out s.result _ _ (n,
-        e) (omega arith) c.put_spaced.ensures
+    put-at-end a.out.now a.at a.width d (replicate 20 0) s.new.out s.result _ _ (
+      n,
+      e,
+    ) (omega arith) c.put_spaced.ensures

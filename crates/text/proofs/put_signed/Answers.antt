@@ -14,8 +14,10 @@ returns-then-n-lt0 c =
     let m : c.magnitude.result ≡ nat_abs a.n = c.magnitude.ensures ∙ ap nat_abs (to_z-of_z w64 a.n c.ranges.n) in
     let few = decimal-few 18 c.magnitude.result (omega (arith, m, magnitude-le a.n c.ranges.n)) in
     let p = put-negative a.out.now a.at a.n c.ranges.n c.if-n-lt0.true _ m _ _ _ _
-    (c.put_byte-next.ensures.value, c.put_byte-next.ensures.out_after) (c.put_decimal.ensures.value,
-        c.put_decimal.ensures.out_after) in
+    (c.put_byte-next.ensures.value, c.put_byte-next.ensures.out_after) (
+      c.put_decimal.ensures.value,
+      c.put_decimal.ensures.out_after,
+    ) in
     record {
       value = p.0;
       out_after = p.1;
@@ -27,8 +29,10 @@ returns c =
     let a = c.args in
     let m : c.magnitude-2.result ≡ nat_abs a.n = c.magnitude-2.ensures ∙ ap nat_abs (to_z-of_z w64 a.n c.ranges.n) in
     let few = decimal-few 18 c.magnitude-2.result (omega (arith, m, magnitude-le a.n c.ranges.n)) in
-    let p = put_rest a.out.now a.at a.n c.ranges.n c.if-n-lt0.false _ m _ _ (c.put_decimal-2.ensures.value,
-        c.put_decimal-2.ensures.out_after) in
+    let p = put_rest a.out.now a.at a.n c.ranges.n c.if-n-lt0.false _ m _ _ (
+      c.put_decimal-2.ensures.value,
+      c.put_decimal-2.ensures.out_after,
+    ) in
     record {
       value = p.0;
       out_after = p.1;

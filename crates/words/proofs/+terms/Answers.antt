@@ -23,7 +23,7 @@ returns-then-stop-here t c =
     rw (ne_eqb c.end_error.result 0 (omega arith)) (record {
       at_after = λ σ table unused e. terms-ended a.words.now.now unused σ a.limit a.owed a.at.now a.stop
           c.requires.at_le_limit.2 c.if-stop-here.true c.requires.at_le_limit.0
-              (omega arith) _ c.end_error.ensures.value;
+          (omega arith) _ c.end_error.ensures.value;
       below = c.end_error.ensures.result_nonzero;
       le_lowest = (c.requires.at_bound.1, c.requires.at_bound.2);
     })

@@ -9,8 +9,12 @@ returns c =
     let i = c.args.i in
     let e₁ : i + 1 + 1 ≡ i + 2 = omega arith in
     let e₂ : i + 2 + 1 ≡ i + 3 = omega arith in record {
-      count_bound = omega (arith, c.push_node-first.ensures.count_bound, c.push_node.ensures.count_bound,
-          c.push_node-2.ensures.count_bound);
+      count_bound = omega (
+        arith,
+        c.push_node-first.ensures.count_bound,
+        c.push_node.ensures.count_bound,
+        c.push_node-2.ensures.count_bound,
+      );
       by_index = λ nodes h bytes w. rw e₂ at (c.push_node-2.ensures.by_index nodes (omega arith) bytes
           (rw e₁ at (c.push_node.ensures.by_index nodes (omega arith) bytes
           (c.push_node-first.ensures.by_index nodes h bytes w))));

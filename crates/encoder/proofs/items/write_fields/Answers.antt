@@ -18,8 +18,12 @@ pub push_pair-half-requires : goal.push_pair-half-requires
 push_pair-half-requires c = (omega arith, omega arith, omega arith, omega arith)
 
 pub push_pair-header-requires : goal.push_pair-header-requires
-push_pair-header-requires c = (omega arith, omega arith, omega arith,
-    omega (arith, c.push_pair-half.ensures.count_value))
+push_pair-header-requires c = (
+  omega arith,
+  omega arith,
+  omega arith,
+  omega (arith, c.push_pair-half.ensures.count_value),
+)
 
 pub flush-writer-requires : goal.flush-writer-requires
 flush-writer-requires c =
@@ -56,9 +60,12 @@ pub push_pair-symbol-requires : goal.push_pair-symbol-requires
 push_pair-symbol-requires c =
     let v = c.loop-i.invariant in
     let more : c.loop-i.i + 4 ≤ c.args.nodes =
-    omega (arith, c.requires.by_index.0.1, v.0, c.loop-i-test.true) in
-    (omega (arith, more, c.requires.by_index.1), omega arith, omega arith,
-        omega (arith, v.4, c.push_pair-front.ensures.count_value))
+    omega (arith, c.requires.by_index.0.1, v.0, c.loop-i-test.true) in (
+      omega (arith, more, c.requires.by_index.1),
+      omega arith,
+      omega arith,
+      omega (arith, v.4, c.push_pair-front.ensures.count_value),
+    )
 
 pub flush-writer-requires-in-loop-i : goal.flush-writer-requires-in-loop-i
 flush-writer-requires-in-loop-i c =
@@ -99,8 +106,10 @@ loop-i-preserved c =
       more,
       c.flush-writer-in-loop-i.auto.bytes ∙ v.3,
       c.flush-writer-in-loop-i.ensures.count_bound.0,
-      rw e (c.flush-writer-in-loop-i.ensures.by_index _ (c.push_pair-symbol.ensures.by_index n (omega (arith,
-          more)) wide.2 wide.3 _
+      rw e (c.flush-writer-in-loop-i.ensures.by_index _ (c.push_pair-symbol.ensures.by_index n (omega (
+        arith,
+        more,
+      )) wide.2 wide.3 _
           (c.push_pair-front.ensures.by_index n (omega (arith, more)) wide.0 wide.1 _ v.5))),
     )
 

@@ -12,7 +12,7 @@ abbrev pub invariant-loop-i : goal.invariant-loop-i
 invariant-loop-i l =
     (l.i ≤ l.count) × (l.column ≡ l.i % l.size) × (length l.out ≡ length l.initial.out)
     × ((words : List ℕ) → Refronted l.row l.front l.size l.initial.out l.from l.count words → l.out ≡ sets
-        l.initial.out l.to (take l.i words))
+    l.initial.out l.to (take l.i words))
 
 abbrev pub decreases-loop-i : goal.decreases-loop-i
 decreases-loop-i l = l.count - l.i

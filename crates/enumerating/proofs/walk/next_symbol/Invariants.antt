@@ -8,7 +8,7 @@ use Rattle.enumerating.proofs.walk.next_symbol.Given as goal
 abbrev pub invariant-loop-f : goal.invariant-loop-f
 invariant-loop-f l =
     (l.f ≤ l.count) × (next_from (signature_of l.table) l.nodes l.others l.from
-        (count_of (signature_of l.table) - l.from)
+    (count_of (signature_of l.table) - l.from)
     ≡ next_from (signature_of l.table) l.nodes l.others l.f (count_of (signature_of l.table) - l.f))
 
 abbrev pub decreases-loop-f : goal.decreases-loop-f

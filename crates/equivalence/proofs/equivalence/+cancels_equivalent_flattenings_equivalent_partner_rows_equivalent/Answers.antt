@@ -103,7 +103,7 @@ pub equivalent-returns-then-is_ac : goal.equivalent-returns-then-is_ac
 equivalent-returns-then-is_ac t c =
     let a = c.args in
     let e = keys-roots c.requires.both_prepared a.i a.j c.requires.i_in_bounds.0 c.requires.i_in_bounds.1
-        c.if-skeys-i.false in
+    c.if-skeys-i.false in
     equivalent-elements c.requires.both_prepared a.i a.j c.requires.i_in_bounds.0 c.requires.i_in_bounds.1 e
     c.arity-n.ensures.0
     (sym c.is_ac.ensures ∙ c.if-is_ac.true) c.flattenings_equivalent.ensures
@@ -113,18 +113,26 @@ equivalent-rows_equivalent-requires t c =
     let a = c.args in
     let n = c.arity-n.ensures.0 in
     let e = keys-roots c.requires.both_prepared a.i a.j c.requires.i_in_bounds.0 c.requires.i_in_bounds.1
-        c.if-skeys-i.false in
-    let left = inner-left c.requires.both_prepared a.i a.j c.requires.i_in_bounds.0 c.requires.i_in_bounds.1 e n in
-    (omega arith, (c.requires.both_prepared, (left, inner-right c.requires.both_prepared a.i a.j
-        c.requires.i_in_bounds.0 c.requires.i_in_bounds.1 e n)))
+    c.if-skeys-i.false in
+    let left = inner-left c.requires.both_prepared a.i a.j c.requires.i_in_bounds.0 c.requires.i_in_bounds.1 e n in (
+      omega arith,
+      (
+        c.requires.both_prepared,
+        (
+          left,
+          inner-right c.requires.both_prepared a.i a.j
+              c.requires.i_in_bounds.0 c.requires.i_in_bounds.1 e n,
+        ),
+      ),
+    )
 
 pub equivalent-returns : goal.equivalent-returns
 equivalent-returns t c =
     let a = c.args in
     let e = keys-roots c.requires.both_prepared a.i a.j c.requires.i_in_bounds.0 c.requires.i_in_bounds.1
-        c.if-skeys-i.false in
+    c.if-skeys-i.false in
     equivalent-rows c.requires.both_prepared a.i a.j c.requires.i_in_bounds.0 c.requires.i_in_bounds.1 e
-        c.arity-n.ensures.0
+    c.arity-n.ensures.0
     (sym c.is_ac.ensures ∙ c.if-is_ac.false) c.rows_equivalent.ensures
 
 -- The elements of the right flattening are listed, and those of the left one cancel against them.
@@ -176,9 +184,16 @@ partner-returns-then-leaf t c =
     }
 
 pub partner-equivalent-requires : goal.partner-equivalent-requires
-partner-equivalent-requires t c =
-    (omega arith, (c.requires.both_prepared, (c.requires.i_in_bounds,
-        rw c.wide_byte-j.ensures.0 (c.requires.offsets_in.inside _ (omega arith)))))
+partner-equivalent-requires t c = (
+  omega arith,
+  (
+    c.requires.both_prepared,
+    (
+      c.requires.i_in_bounds,
+      rw c.wide_byte-j.ensures.0 (c.requires.offsets_in.inside _ (omega arith)),
+    ),
+  ),
+)
 
 pub partner-returns-then-equivalent : goal.partner-returns-then-equivalent
 partner-returns-then-equivalent t c =

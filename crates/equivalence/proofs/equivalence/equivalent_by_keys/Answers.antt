@@ -6,4 +6,4 @@ pub returns : goal.returns
 returns c =
     let a = c.args in
     equivalent-keys c.requires.both_prepared a.i a.j c.requires.i_in_bounds.0 c.requires.i_in_bounds.1
-        c.if-skeys-i.false
+    c.if-skeys-i.false

@@ -10,7 +10,7 @@ use Rattle.equivalence.proofs.keys.prepare.Given as goal
 abbrev pub invariant-loop-i : goal.invariant-loop-i
 invariant-loop-i l =
     (l.i ≤ length l.words) × (length l.keys ≡ length l.initial.keys) × KeyedFrom
-        (signature_of l.table) l.words l.keys l.i
+    (signature_of l.table) l.words l.keys l.i
 
 abbrev pub decreases-loop-i : goal.decreases-loop-i
 decreases-loop-i l = l.i

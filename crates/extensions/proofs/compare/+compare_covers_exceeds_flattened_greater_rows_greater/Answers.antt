@@ -48,10 +48,17 @@ compare-covers-requires t c =
     let S = a.s.now.now in
     let R = a.t.now.now in
     let l = left-sum T (terms_at T S a.ps.now a.n) (terms_at T R a.qs.now a.m) c.cancel-rest.ensures.offsets
-        c.cancel-rest.ensures.offsets_2 in
-    let σ = signature_of T in
-    (omega (arith, m), (c.requires.scale, ((offsets-own σ S _ _ _ c.cancel-rest.ensures.offsets, omega arith),
-        offsets-own σ R _ _ _ c.cancel-rest.ensures.offsets_2)))
+    c.cancel-rest.ensures.offsets_2 in
+    let σ = signature_of T in (
+      omega (arith, m),
+      (
+        c.requires.scale,
+        (
+          (offsets-own σ S _ _ _ c.cancel-rest.ensures.offsets, omega arith),
+          offsets-own σ R _ _ _ c.cancel-rest.ensures.offsets_2,
+        ),
+      ),
+    )
 
 pub compare-returns-then-covers : goal.compare-returns-then-covers
 compare-returns-then-covers t c =
@@ -59,7 +66,7 @@ compare-returns-then-covers t c =
     let T = a.table.now.now in
     multiset_outcome-above T (terms_at T a.s.now.now a.ps.now a.n) (terms_at T a.t.now.now a.qs.now a.m)
     c.cancel-rest.ensures.offsets c.cancel-rest.ensures.offsets_2 c.if-a-eq0.false (sym c.if-covers.true
-        ∙ c.covers.ensures)
+    ∙ c.covers.ensures)
 
 pub compare-returns : goal.compare-returns
 compare-returns t c =
@@ -67,7 +74,7 @@ compare-returns t c =
     let T = a.table.now.now in
     multiset_outcome-not T (terms_at T a.s.now.now a.ps.now a.n) (terms_at T a.t.now.now a.qs.now a.m)
     c.cancel-rest.ensures.offsets c.cancel-rest.ensures.offsets_2 c.if-a-eq0.false (sym c.if-covers.false
-        ∙ c.covers.ensures)
+    ∙ c.covers.ensures)
 
 pub covers-right-init : goal.covers-right-init
 covers-right-init t c = (omega arith, omega arith, λ y h. absurd (omega arith))
@@ -156,14 +163,14 @@ pub exceeds-returns-then-x-y : goal.exceeds-returns-then-x-y
 exceeds-returns-then-x-y t c =
     let a = c.args in
     at-weight c.requires.scale a.i a.j c.requires.i_in_bounds.2 c.total_at-x.ensures.weight_value
-        c.total_at-y.ensures.weight_value
+    c.total_at-y.ensures.weight_value
     c.if-x-y.true
 
 pub exceeds-returns-then-f-g : goal.exceeds-returns-then-f-g
 exceeds-returns-then-f-g t c =
     let a = c.args in
     at-differing c.requires.scale a.i a.j c.requires.i_in_bounds.2 c.total_at-x.ensures.weight_value
-        c.total_at-y.ensures.weight_value
+    c.total_at-y.ensures.weight_value
     c.if-x-y.false
     c.requires.i_in_bounds.0 c.requires.i_in_bounds.1 c.if-f-g.true c.higher.ensures
 
@@ -171,7 +178,7 @@ pub exceeds-returns-then-f-ge-FIRST_VARIABLE : goal.exceeds-returns-then-f-ge-FI
 exceeds-returns-then-f-ge-FIRST_VARIABLE t c =
     let a = c.args in
     at-variable c.requires.scale a.i a.j c.requires.i_in_bounds.2 c.total_at-x.ensures.weight_value
-        c.total_at-y.ensures.weight_value
+    c.total_at-y.ensures.weight_value
     c.if-x-y.false
     c.requires.i_in_bounds.0 c.requires.i_in_bounds.1 c.if-f-ge-FIRST_VARIABLE.true
 
@@ -190,18 +197,18 @@ exceeds-flattened-requires t c =
     let e = c.if-f-g.false in
     let n = c.arity-n.ensures.0 in
     let nodes = inner-nodes c.requires.scale.sides a.i a.j c.requires.i_in_bounds.0 c.requires.i_in_bounds.1 e n
-        c.if-f-ge-FIRST_VARIABLE.false in
+    c.if-f-ge-FIRST_VARIABLE.false in
     let rows = inner-rows c.requires.scale.sides a.i a.j c.requires.i_in_bounds.0 c.requires.i_in_bounds.1 e n in
     let ac = sym c.is_ac.ensures ∙ c.if-is_ac.true in
     let elements = inner-elements c.requires.scale.sides a.i a.j c.requires.i_in_bounds.0 c.requires.i_in_bounds.1 e n
-        ac in
+    ac in
     (omega (arith, m, nodes), (c.requires.scale, (rows, elements)))
 
 pub exceeds-returns-then-is_ac : goal.exceeds-returns-then-is_ac
 exceeds-returns-then-is_ac t c =
     let a = c.args in
     at-elements c.requires.scale a.i a.j c.requires.i_in_bounds.2 c.total_at-x.ensures.weight_value
-        c.total_at-y.ensures.weight_value
+    c.total_at-y.ensures.weight_value
     c.if-x-y.false
     c.requires.i_in_bounds.0 c.requires.i_in_bounds.1 c.if-f-g.false c.if-f-ge-FIRST_VARIABLE.false c.arity-n.ensures.0
     (sym c.is_ac.ensures ∙ c.if-is_ac.true) c.flattened.ensures
@@ -221,15 +228,20 @@ exceeds-rows_greater-requires t c =
     let e = c.if-f-g.false in
     let n = c.arity-n.ensures.0 in
     let nodes = inner-nodes c.requires.scale.sides a.i a.j c.requires.i_in_bounds.0 c.requires.i_in_bounds.1 e n
-        c.if-f-ge-FIRST_VARIABLE.false in
-    (omega (arith, m, nodes), (c.requires.scale, inner-rows c.requires.scale.sides a.i a.j c.requires.i_in_bounds.0
-        c.requires.i_in_bounds.1 e n))
+    c.if-f-ge-FIRST_VARIABLE.false in (
+      omega (arith, m, nodes),
+      (
+        c.requires.scale,
+        inner-rows c.requires.scale.sides a.i a.j c.requires.i_in_bounds.0
+            c.requires.i_in_bounds.1 e n,
+      ),
+    )
 
 pub exceeds-returns : goal.exceeds-returns
 exceeds-returns t c =
     let a = c.args in
     at_rows c.requires.scale a.i a.j c.requires.i_in_bounds.2 c.total_at-x.ensures.weight_value
-        c.total_at-y.ensures.weight_value
+    c.total_at-y.ensures.weight_value
     c.if-x-y.false c.requires.i_in_bounds.0 c.requires.i_in_bounds.1
     c.if-f-g.false c.if-f-ge-FIRST_VARIABLE.false c.arity-n.ensures.0
     (sym c.is_ac.ensures ∙ c.if-is_ac.false) c.rows_greater.ensures
@@ -277,9 +289,13 @@ flattened-compare-high-requires t c =
     let B = c.parts-right.ensures in
     let J = joined-offsets T A B c.join_surplus-m.ensures in
     let p = elements-sum σ a.f S a.i a.n in
-    let q = elements-sum σ a.f R a.j a.n in
-    (omega (arith, m, high-nodes T A B J, p, q), (c.requires.scale,
-        (offsets-own σ S _ _ _ A.high, offsets-own σ R _ _ _ J)))
+    let q = elements-sum σ a.f R a.j a.n in (
+      omega (arith, m, high-nodes T A B J, p, q),
+      (
+        c.requires.scale,
+        (offsets-own σ S _ _ _ A.high, offsets-own σ R _ _ _ J),
+      ),
+    )
 
 pub flattened-returns-then-high-eq2 : goal.flattened-returns-then-high-eq2
 flattened-returns-then-high-eq2 t c =
@@ -317,9 +333,13 @@ flattened-compare-low-requires t c =
     let A = c.parts-left.ensures in
     let B = c.parts-right.ensures in
     let p = elements-sum σ a.f S a.i a.n in
-    let q = elements-sum σ a.f R a.j a.n in
-    (omega (arith, m, low-nodes T A B, p, q), (c.requires.scale,
-        (offsets-own σ S _ _ _ A.low, offsets-own σ R _ _ _ B.low)))
+    let q = elements-sum σ a.f R a.j a.n in (
+      omega (arith, m, low-nodes T A B, p, q),
+      (
+        c.requires.scale,
+        (offsets-own σ S _ _ _ A.low, offsets-own σ R _ _ _ B.low),
+      ),
+    )
 
 pub flattened-returns-then-low-eq2 : goal.flattened-returns-then-low-eq2
 flattened-returns-then-low-eq2 t c =
@@ -370,9 +390,17 @@ greater-exceeds-requires t c =
     let m = c.decreases in
     let right = c.total_at-right.ensures.counted in
     let σ = signature_of c.args.table.now.now in
-    let first = c.first_oftener.ensures σ c.requires.scale.left.ones _ _ c.total_at-left.ensures.counted right in
-    (omega (arith, m), (c.requires.scale, (c.requires.i_in_bounds.0, c.requires.i_in_bounds.1,
-        oftener-none σ _ _ first c.if-first_oftener-lt-VARIABLES.false)))
+    let first = c.first_oftener.ensures σ c.requires.scale.left.ones _ _ c.total_at-left.ensures.counted right in (
+      omega (arith, m),
+      (
+        c.requires.scale,
+        (
+          c.requires.i_in_bounds.0,
+          c.requires.i_in_bounds.1,
+          oftener-none σ _ _ first c.if-first_oftener-lt-VARIABLES.false,
+        ),
+      ),
+    )
 
 pub greater-returns : goal.greater-returns
 greater-returns t c = c.exceeds.ensures

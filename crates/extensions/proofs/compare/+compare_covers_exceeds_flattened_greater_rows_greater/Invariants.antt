@@ -25,7 +25,7 @@ decreases-covers-left l = l.n + 1 - l.next
 abbrev pub invariant-covers-right : goal.invariant-covers-right
 invariant-covers-right l =
     (l.k ≤ l.m) × (l.x < l.n) × ((y : ℕ) → y < l.k → some_above l.table.now l.s.now l.ps l.n l.t.now
-        (get_or l.qs y 0) ≡ true)
+    (get_or l.qs y 0) ≡ true)
 
 abbrev pub decreases-covers-right : goal.decreases-covers-right
 decreases-covers-right l = l.m - l.k

@@ -24,7 +24,7 @@ returns-in-Fault c =
     let l = c.args.out.now in
     let (r, out) = report-refusal _ l _ _ _ _ _ c.mark_file.ensures _ _
     c.in-Fault.is _ _ (c.put_refusal.ensures.value ∙ rw c.long.ensures.0) (c.put_refusal.ensures.out_after
-        ∙ rw c.long.ensures.0) in
+    ∙ rw c.long.ensures.0) in
     record {
       value = (r, omega (arith, c.put_refusal.ensures.upper_bound));
       out_after = out;
@@ -36,7 +36,7 @@ returns-in-Marked c =
     let n = front_below _ _ _ _ _ _ w _ _ c.in-Marked.is 1024 (omega arith) (omega arith) in
     let (r, out) = report-marks _ _ _ _ _ _ _ w _ _ c.in-Marked.is (omega arith) (omega arith)
     _ _ _ _ _ _ (c.put_count-start.ensures.value, c.put_count-start.ensures.out_after) c.put_rules-end.ensures.put
-        c.put_summary.ensures.put in
+    c.put_summary.ensures.put in
     record {
       value = (r, omega arith);
       out_after = out;

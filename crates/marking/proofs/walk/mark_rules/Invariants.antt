@@ -12,10 +12,10 @@ use Rattle.marking.proofs.walk.mark_rules.Given as goal
 abbrev pub invariant-loop-i : goal.invariant-loop-i
 invariant-loop-i l =
     (l.i ≤ l.count) × (l.decreasing ≤ l.i) × (length l.marks ≡ length l.initial.marks) ×
-        (length l.margins ≡ length l.initial.margins)
+    (length l.margins ≡ length l.initial.margins)
     × (l.here.at ≤ 8 * length l.book)
     × ListedSoFar (bit_source l.book) (unused_of form_number)
-        (signature_of l.table) l.count l.initial.here.at l.initial.marks l.initial.margins l.i
+    (signature_of l.table) l.count l.initial.here.at l.initial.marks l.initial.margins l.i
     l.here.at
     l.decreasing l.marks l.margins
 

@@ -60,7 +60,11 @@ returns c =
     let l = c.loop-i in
     let z : l.i ≡ 0 = omega arith in
     let (N, p, room) = c.requires in record {
-      summed_up = record { room = l.invariant.1; ones = N.ones; sum = λ kind k m q. l.invariant.4 kind k m
-          (omega arith) q };
+      summed_up = record {
+        room = l.invariant.1;
+        ones = N.ones;
+        sum = λ kind k m q. l.invariant.4 kind k m
+            (omega arith) q;
+      };
       totalled = totalled N p (rw z at l.invariant.2) (sums-within-more (omega arith) l.invariant.3);
     }

@@ -63,7 +63,7 @@ mark_prepared-requires c =
     let S = c.requires.decoded in
     let (A, B, N) = c.requires.totalled in
     let none = oftener-none _ _ _ (c.first_oftener.ensures _ N.ones _ _ A.counted B.counted)
-        c.if-first_oftener-lt-VARIABLES.false in
+    c.if-first_oftener-lt-VARIABLES.false in
     (S, record { root = c.if-f-g.true; few = none; level = omega (arith, A.weight, B.weight) }, N)
 
 pub returns-then-higher : goal.returns-then-higher
@@ -72,7 +72,7 @@ returns-then-higher c =
     let S = c.requires.decoded in
     let (A, B, N) = c.requires.totalled in
     let none = oftener-none _ _ _ (c.first_oftener.ensures _ N.ones _ _ A.counted B.counted)
-        c.if-first_oftener-lt-VARIABLES.false in
+    c.if-first_oftener-lt-VARIABLES.false in
     let root = differing S none (omega (arith, c.if-y-x.false, c.if-x-y.false, A.weight, B.weight))
     c.if-f-g.false
     (sym c.if-higher.true ∙ c.higher.ensures) in
@@ -87,7 +87,7 @@ returns c =
     let S = c.requires.decoded in
     let (A, B, N) = c.requires.totalled in
     let none = oftener-none _ _ _ (c.first_oftener.ensures _ N.ones _ _ A.counted B.counted)
-        c.if-first_oftener-lt-VARIABLES.false in
+    c.if-first_oftener-lt-VARIABLES.false in
     let zero = differing S none (omega (arith, c.if-y-x.false, c.if-x-y.false, A.weight, B.weight))
     c.if-f-g.false
     (sym c.if-higher.false ∙ c.higher.ensures) in

@@ -50,8 +50,12 @@ read_table-requires c =
     let reach = reached-field a.packed a.book.now a.sheet.now in
     let second = reach 1 8 _ _ _ c.requires.book_len_bound.1 count.0 in
     let few = rw c.in-Got.is at c.field_at_least-read.ensures.below in record {
-      book_len_bound = (c.requires.book_len_bound.0, few, room-le a.packed _ _ a.table.now
-          (table-le _ few) c.requires.room.0);
+      book_len_bound = (
+        c.requires.book_len_bound.0,
+        few,
+        room-le a.packed _ _ a.table.now
+            (table-le _ few) c.requires.room.0,
+      );
       reached = (
         reach 3 10 _ _ _ (reach 2 16 _ _ _ second w0.0) rules,
         rw c.in-Got-read-2.is at c.field-read.ensures.below,

@@ -45,8 +45,11 @@ read_counts-requires c =
     let form = sym (rw c.in-Got.is at c.field-read.ensures.result_value) in
     let start = reached-start a.packed a.book.now a.sheet.now in
     let taken = sym c.is_taken.ensures ∙ c.if-not-is_taken.false in record {
-      book_len_bound = (c.if-book-gt-MAX_BYTES.false, reached-field a.packed a.book.now a.sheet.now 0 4 _ _ _ start
-          form);
+      book_len_bound = (
+        c.if-book-gt-MAX_BYTES.false,
+        reached-field a.packed a.book.now a.sheet.now 0 4 _ _ _ start
+            form,
+      );
       room = (c.requires.0, taken-coefficients a.form _ taken ∙ c.requires.1);
       sheet_value = form-stands a.packed a.book.now a.sheet.now 4 _ _ form;
     }

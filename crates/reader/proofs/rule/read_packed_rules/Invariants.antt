@@ -12,9 +12,9 @@ use Rattle.reader.proofs.rule.read_packed_rules.Given as goal
 abbrev pub invariant-loop-number : goal.invariant-loop-number
 invariant-loop-number l =
     (l.number ≤ l.count) × (length l.words ≡ length l.initial.words) × (l.end ≤ 256 * l.number) ×
-        (l.here.at ≤ 8 * length l.book)
+    (l.here.at ≤ 8 * length l.book)
     × ((σ : Signature) → Arities σ l.arities → Unscaled σ → SoFar l.form
-        (bit_source l.book) σ l.count l.number l.initial.here.at
+    (bit_source l.book) σ l.count l.number l.initial.here.at
     l.here.at
     0 l.end l.initial.words l.words)
 

@@ -15,8 +15,11 @@ pub read_symbols_from-requires : goal.read_symbols_from-requires
 read_symbols_from-requires c =
     let packed = c.if-packed.true in
     let room = rw packed at c.requires.book_len_bound.2 in record {
-      book_len_bound = (c.requires.book_len_bound.0, c.requires.book_len_bound.1,
-          omega (arith, room, c.put_header.auto.table));
+      book_len_bound = (
+        c.requires.book_len_bound.0,
+        c.requires.book_len_bound.1,
+        omega (arith, room, c.put_header.auto.table),
+      );
       reached = (rw packed at c.requires.reached.0, c.requires.reached.2);
     }
 

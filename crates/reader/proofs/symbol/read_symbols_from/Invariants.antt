@@ -20,9 +20,9 @@ invariant-loop-number l =
     (symbols_in false (table_of l.packed l.sheet l.table) 0 l.number) l.here.at) ×
     Reached l.packed l.book l.sheet (table_words l.number) l.here.at ×
     Stored l.packed 4 (symbols_words (symbols_in false (table_of l.packed l.sheet l.table) 0 l.number)) l.initial.table
-        l.table ×
+    l.table ×
     LeastKept l.form l.w0 (has_zero_weight_unary (symbols_in false
-        (table_of l.packed l.sheet l.table) 0 l.number)) l.least
+    (table_of l.packed l.sheet l.table) 0 l.number)) l.least
 
 abbrev pub decreases-loop-number : goal.decreases-loop-number
 decreases-loop-number l =

@@ -9,7 +9,7 @@ use Rattle.scaling.proofs.rows.put_range.Given as goal
 abbrev pub invariant-loop-u : goal.invariant-loop-u
 invariant-loop-u l =
     (l.from ≤ l.u) × (l.u ≤ l.to) × (length l.adds ≡ 816) × Ranged
-        (signature_of l.table) l.from l.u l.initial.adds l.adds
+    (signature_of l.table) l.from l.u l.initial.adds l.adds
 
 abbrev pub decreases-loop-u : goal.decreases-loop-u
 decreases-loop-u l = l.to - l.u

@@ -11,7 +11,7 @@ use Rattle.scaling.proofs.sums.scale_up.Given as goal
 abbrev pub invariant-loop-k : goal.invariant-loop-k
 invariant-loop-k l =
     (l.k ≤ length l.words) × (length l.stack ≡ 129) × (listed l.stack l.top ≡ pending_at
-        (signature_of l.table) l.words l.k)
+    (signature_of l.table) l.words l.k)
     × (l.sum ≡ weight_to (signature_of l.table) l.words l.k) × (l.sum ≤ 281474976710656 * l.k)
     × (length l.sums ≡ 387) × StoredTo (signature_of l.table) l.words l.sums l.k
 

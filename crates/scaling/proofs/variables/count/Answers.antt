@@ -92,9 +92,13 @@ loop-k-preserved c =
     let (S, P, z) = c.requires in
     let l = c.loop-k in
     let a = c.args in
-    let h : l.k < length a.words.now = omega (arith, part_end S P) in
-    (omega arith, omega arith, l.invariant.2, counted_same S a.i l.k l.counts h l.invariant.3
-        c.if-word-ge-FIRST_VARIABLE.false)
+    let h : l.k < length a.words.now = omega (arith, part_end S P) in (
+      omega arith,
+      omega arith,
+      l.invariant.2,
+      counted_same S a.i l.k l.counts h l.invariant.3
+          c.if-word-ge-FIRST_VARIABLE.false,
+    )
 
 pub returns : goal.returns
 returns c =

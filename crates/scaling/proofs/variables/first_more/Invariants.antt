@@ -8,7 +8,7 @@ use Rattle.scaling.proofs.variables.first_more.Given as goal
 abbrev pub invariant-loop-x : goal.invariant-loop-x
 invariant-loop-x l =
     (l.x ≤ 16) × (more_from l.left l.f l.right l.g l.x (variable_count - l.x) ≡ more_from l.left l.f l.right l.g 0
-        variable_count)
+    variable_count)
 
 abbrev pub decreases-loop-x : goal.decreases-loop-x
 decreases-loop-x l = 16 - l.x

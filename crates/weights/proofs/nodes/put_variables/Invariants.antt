@@ -9,7 +9,7 @@ use Rattle.weights.proofs.nodes.put_variables.Given as goal
 abbrev pub invariant-loop-word : goal.invariant-loop-word
 invariant-loop-word l =
     (256 ≤ l.word) × (l.word ≤ 272) × (length l.adds ≡ 816) × Occurring
-        (signature_of l.table) l.word l.initial.adds l.adds
+    (signature_of l.table) l.word l.initial.adds l.adds
 
 abbrev pub decreases-loop-word : goal.decreases-loop-word
 decreases-loop-word l = 272 - l.word

@@ -8,7 +8,7 @@ use Rattle.weights.proofs.totals.total.Given as goal
 abbrev pub invariant-loop-i : goal.invariant-loop-i
 invariant-loop-i l =
     (l.i ≤ length l.words) × WordTotals (signature_of l.table) (drop l.i l.words) l.here × SumsWithin
-        (length l.words - l.i) l.here
+    (length l.words - l.i) l.here
 
 abbrev pub decreases-loop-i : goal.decreases-loop-i
 decreases-loop-i l = l.i

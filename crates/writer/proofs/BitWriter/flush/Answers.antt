@@ -18,12 +18,12 @@ put c =
     let a = c.args in
     elim c.if-bytes-self.branch [
       | then-bytes-self w ↦ (
-            a.self.count / 8,
-            omega arith,
-            omega arith,
-            omega (arith, c.requires.1),
-            w.bytes-is ∙ w.put_first.ensures,
-          )
+        a.self.count / 8,
+        omega arith,
+        omega arith,
+        omega (arith, c.requires.1),
+        w.bytes-is ∙ w.put_first.ensures,
+      )
       | else-bytes-self w ↦ (8, omega arith, omega arith, w.if-bytes-self.false, w.bytes-is ∙ w.put_eight.ensures)
     ]
 

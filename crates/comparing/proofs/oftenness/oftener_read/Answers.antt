@@ -1,5 +1,5 @@
 -- Both terms are summed up, and the test is over their counts.
-use Rattle.comparing.proofs.variables.oftener_read.Goals as goal
+use Rattle.comparing.proofs.oftenness.oftener_read.Goals as goal
 
 pub returns : goal.returns
 returns c =

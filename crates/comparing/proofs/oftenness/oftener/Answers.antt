@@ -1,7 +1,7 @@
 -- The inputs are read, and the terms up to their ends are tested under the table's front.
 use Rattle.comparing.proofs.SliceLaws.{slices}
 use Rattle.comparing.proofs.OftenerLaws.{test-refused, tested}
-use Rattle.comparing.proofs.variables.oftener.Goals as goal
+use Rattle.comparing.proofs.oftenness.oftener.Goals as goal
 
 ruleset tests = (slices, test-refused, tested)
 

@@ -3,9 +3,8 @@
 --     turn_small                                       the numbers of its reply are below 2^63
 --     put-served, put-idle, put_refused                the ends of the turn after a search
 use mathlib.Core.List.{List, [], ◌∷◌}
-use mathlib.Core.Path.{◌≡◌, refl, sym, ap, ◌∙◌}
-use mathlib.Core.Bool.{true, false}
-use Prim.Native.Nat.{ℕ, suc, ◌+◌, ◌*◌, ◌≤◌, ◌<◌}
+use mathlib.Core.Path.{◌≡◌, refl, sym, ap}
+use Prim.Native.Nat.{ℕ, suc, ◌*◌, ◌≤◌, ◌<◌}
 use native.Mathlib.Omega.{arith}
 use lib.IntN.{ℤ, pos}
 use lib.Dec.{leb}
@@ -24,12 +23,12 @@ use Rattle.operations.specs.Jobs.{job_marks}
 use Rattle.operations.specs.Turns.{turned}
 use Rattle.scheduling.specs.declared.Search.{Search}
 use Rattle.scheduling.specs.Search.{is_allowed, scanned, Ready}
-use Rattle.scheduling.specs.Run.{reply_of, marks_after, index_by, count_by, recounted}
+use Rattle.scheduling.specs.Run.{reply_of, marks_after, recounted}
 use Rattle.scheduling.proofs.StandingLaws.{allowed-numbers, left-few}
 use Rattle.scheduling.proofs.ReplyLaws.{reply-served, scanned-replied, scanned-jobs, scanned-marks}
 use Rattle.boundary.specs.declared.turn.Stored.{Stored}
 use Rattle.boundary.specs.Numbers.{Small, number_of}
-use Rattle.boundary.specs.Turn.{index_of, stored_by, stored_of, values_after}
+use Rattle.boundary.specs.Turn.{index_of, stored_of, values_after}
 
 -- ---- after the search over all jobs
 

@@ -27,7 +27,7 @@ use Rattle.format.specs.Symbols.{symbol_reader, symbols_reader, weight_offset, s
 use Rattle.format.specs.Format.{Sides, RuleFile, is_light, nodes_reader, side_reader}
 use Rattle.format.specs.Format.{forest_reader, rule_reader, rules_reader, body_reader, file_reader}
 use Rattle.format.specs.Packing.{symbol_items, rule_items, items}
-use Rattle.format.specs.Packing.Item.{field, node}
+use Rattle.format.specs.Packing.Item.{node}
 use Rattle.format.proofs.ReadingLaws.{HoldsOf, holds-got, holds-map, holds_then, holds-require}
 use Rattle.format.proofs.ForestLaws.{known, argument_count, nothing-owed}
 use Rattle.format.proofs.CoefficientLaws.{Coefficients, coefficients-read, coefficients-reads}

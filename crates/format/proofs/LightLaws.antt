@@ -2,11 +2,11 @@
 --     light-of, light-weight, light-same    a term whose weight and counts are at most the maximum
 --     Unscaled, unscaled-light, unscaled-side  under a signature without coefficients no side is too heavy
 --     unscaled-formed                  a file whose form has none has such a signature
-use mathlib.Core.Path.{◌≡◌, refl, sym, ap, ◌∙◌}
+use mathlib.Core.Path.{◌≡◌, refl, ap}
 use mathlib.Core.List.{List, [], ◌∷◌, ◌++◌}
 use mathlib.Core.Bool.{Bool, true, false, cond, ◌&&◌, and-eq-true_iff as both}
-use Prim.Native.Nat.{ℕ, suc, zero, ◌+◌, ◌-◌, ◌*◌, ◌^◌, ◌≤◌, ◌<◌}
-use native.Mathlib.Nat.{mul-zero, mul-suc}
+use Prim.Native.Nat.{ℕ, suc, zero, ◌+◌, ◌-◌, ◌*◌, ◌≤◌}
+use native.Mathlib.Nat.{mul-suc}
 use native.Mathlib.Omega.{arith}
 use lib.ListN.{length, get_or, take, drop, take-append-drop}
 use lib.Dec.{eqb, ltb, leb}
@@ -14,10 +14,10 @@ use borrow.Author.Tests.{le-leb, leb-true}
 use Rattle.multisets.proofs.Relations.{by_test}
 use Rattle.terms.specs.Signature.{Signature, symbol_of, coefficients_of, Ones}
 use Rattle.terms.specs.Term.{Term, arguments, measure, measures, plain, weight, variable_coefficient, variable_count}
-use Rattle.terms.specs.Term.Term.{var, app}
-use Rattle.terms.specs.Words.{first_variable, grow, forest_of, term_of}
+use Rattle.terms.specs.Term.Term.{var}
+use Rattle.terms.specs.Words.{first_variable, forest_of, term_of}
 use Rattle.terms.proofs.MeasureLaws.{measure-ones}
-use Rattle.format.specs.Layout.{weight_width, max_nodes, max_weight}
+use Rattle.format.specs.Layout.{max_nodes, max_weight}
 use Rattle.format.specs.Forms.{has_coefficients}
 use Rattle.format.specs.Reading.{Source}
 use Rattle.format.specs.Format.{RuleFile, counts_light, is_light, nodes_reader, side_reader}

@@ -6,7 +6,7 @@
 --     symbols-placed                    where the weights of symbols stand, and that they end after them
 use mathlib.Core.Path.{◌≡◌, refl, sym, ap, ◌∙◌}
 use mathlib.Core.List.{List, [], ◌∷◌, ◌++◌, append-nil, append_assoc}
-use mathlib.Core.Bool.{Bool, true, false, cond, false≢true, true≢false, ◌&&◌, ◌||◌, not, and-eq-true_iff as both}
+use mathlib.Core.Bool.{Bool, false, cond, false≢true, true≢false, ◌&&◌, ◌||◌, not, and-eq-true_iff as both}
 use Prim.Native.Nat.{ℕ, suc, zero, ◌+◌, ◌*◌, ◌≤◌, ◌<◌}
 use native.Mathlib.Nat.{zero-mul, suc-mul}
 use native.Mathlib.Omega.{arith}

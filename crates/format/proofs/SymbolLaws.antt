@@ -18,7 +18,7 @@ use lib.Seq.{get_or-take, length-take-le}
 use lib.Dec.{eqb, lit<}
 use borrow.Author.Tests.{eqb-true, leb-true, eq-eqb, le-leb, not-true}
 use Rattle.multisets.proofs.Relations.{by_order, by_test, eqb-self}
-use Rattle.terms.specs.Signature.{Symbol, Signature, symbol_of, coefficients_of, least_weight, Ones, ZeroWeightUnary}
+use Rattle.terms.specs.Signature.{Symbol, Signature, symbol_of, coefficients_of, least_weight, Ones}
 use Rattle.terms.specs.Signature.{Admissible}
 use Rattle.terms.proofs.MeasureLaws.{replicate-ones}
 use Rattle.format.specs.Layout.{form_number}

@@ -18,7 +18,6 @@ use Rattle.format.specs.Listing.{listing}
 use Rattle.operations.specs.declared.Job.{Job}
 use Rattle.operations.specs.declared.Turn.{Turn}
 use Rattle.operations.specs.declared.Turn.TheVariants.{Served, Idle}
-use Rattle.operations.specs.declared.Summary.{Summary}
 use Rattle.operations.specs.Replies.Reply.{accepted}
 use Rattle.operations.specs.Marking.{marked}
 use Rattle.operations.specs.Score.{nearest, score_of}

@@ -4,7 +4,7 @@
 use mathlib.Core.List.{List, [], ◌∷◌, ◌++◌}
 use mathlib.Core.Logic.{◌≢◌}
 use mathlib.Core.Path.{◌≡◌, refl, sym, ap, ◌∙◌}
-use mathlib.Core.Bool.{true, false, false≢true}
+use mathlib.Core.Bool.{false≢true}
 use Prim.Native.Nat.{ℕ, suc, zero, ◌+◌, ◌-◌, ◌*◌, ◌≤◌, ◌<◌}
 use native.Mathlib.Omega.{arith}
 use lib.Dec.{eqb}
@@ -23,7 +23,7 @@ use Rattle.operations.specs.Replies.Reply.{accepted, refused}
 use Rattle.operations.specs.Marking.{marked}
 use Rattle.operations.specs.Jobs.{job_marks, job_at, book_marks, has_left}
 use Rattle.operations.specs.Turns.{round_after}
-use Rattle.operations.proofs.RoundLaws.{onward, onward-add, distance}
+use Rattle.operations.proofs.RoundLaws.{onward, onward-add}
 use Rattle.operations.proofs.RoundLaws.{first_some}
 use Rattle.guarantees.specs.Turns.{Call, run, job, book, left}
 use Rattle.guarantees.specs.Courses.{last_after, marks_for}

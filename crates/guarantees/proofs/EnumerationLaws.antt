@@ -2,12 +2,11 @@
 --     reads-back                                  the words of the terms read as those terms
 --     counts-number, counts-more, lists-terms     what each replies and writes
 use mathlib.Core.List.{List, [], ◌∷◌, ◌++◌, map, flatten, Memᴰ}
-use mathlib.Core.Path.{◌≡◌, refl, sym, ap, ◌∙◌}
+use mathlib.Core.Path.{◌≡◌, refl, ap}
 use Prim.Native.Nat.{ℕ, ◌*◌, ◌≤◌, ◌<◌}
 use lib.ListN.{length, drop}
 use borrow.Author.Tests.{le-leb, lt-leb}
 use Rattle.terms.specs.Signature.{Signature}
-use Rattle.terms.specs.Term.{Term}
 use Rattle.terms.specs.Words.{first_variable, words, forest_of}
 use Rattle.terms.specs.Enumeration.{ground_terms}
 use Rattle.terms.specs.EnumerationStatements.{Spelled}

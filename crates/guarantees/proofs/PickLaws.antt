@@ -4,9 +4,9 @@
 --     begins-front, read-begins        the words of a term at the front
 --     handed-by, empty_of, no-side     the part, by what is replied
 --     called-part                      the part, by the terms
-use mathlib.Core.List.{List, [], ◌∷◌, ◌++◌, append-nil}
+use mathlib.Core.List.{List, [], ◌++◌, append-nil}
 use mathlib.Core.Path.{◌≡◌, refl, sym, ap, ◌∙◌}
-use mathlib.Core.Bool.{Bool, true, false, cond}
+use mathlib.Core.Bool.{true}
 use Prim.Native.Nat.{ℕ, ◌≤◌}
 use native.Mathlib.Omega.{arith}
 use lib.ListN.{length, take, drop, take-append-drop}
@@ -14,7 +14,6 @@ use lib.Seq.{take_at}
 use Rattle.multisets.proofs.Relations.{by_test}
 use Rattle.terms.specs.Signature.{Signature}
 use Rattle.terms.specs.Term.{Term, size, WellFormed}
-use Rattle.terms.specs.Term.Term.{var, app}
 use Rattle.terms.specs.Words.{first_variable, words, term_of}
 use Rattle.terms.specs.Equivalence.{is_equivalent}
 use Rattle.terms.specs.Order.{is_greater}
@@ -34,10 +33,10 @@ use Rattle.operations.specs.declared.GreaterSide.{GreaterSide}
 use Rattle.operations.specs.declared.GreaterSide.TheVariants.{Left, Right, Equivalent, Unrelated}
 use Rattle.operations.specs.Replies.{Reply}
 use Rattle.operations.specs.Replies.Reply.{accepted, refused}
-use Rattle.operations.specs.Inputs.{TermReader, Inputs, read_terms, read_inputs}
+use Rattle.operations.specs.Inputs.{TermReader, read_terms, read_inputs}
 use Rattle.operations.specs.Comparing.{relation, comparison, compared}
-use Rattle.operations.specs.Picking.{side_of, greater_side, picked, of_greater, greater_part}
-use Rattle.operations.proofs.InputLaws.{InputsRead, inputs_read}
+use Rattle.operations.specs.Picking.{side_of, picked, of_greater, greater_part}
+use Rattle.operations.proofs.InputLaws.{inputs_read}
 use Rattle.operations.proofs.PickingLaws.{front-size, picked-read, picked-accepted}
 use Rattle.guarantees.specs.Guarantees.{Holds}
 use Rattle.guarantees.specs.Picks.{Begins, Called, NoSide, equivalent, unrelated, refusal, Handed, of_left}

@@ -1,10 +1,9 @@
 -- The score is the nearest whole number, and the only one.
 --     below-nearest, above-nearest, score-is-nearest     it is
 --     nearest-unique                                     no other is
-use mathlib.Core.Path.{◌≡◌, refl, sym, ap, ◌∙◌}
-use mathlib.Core.Bool.{true, false}
+use mathlib.Core.Path.{◌≡◌, refl, ap, ◌∙◌}
 use Prim.Native.Nat.{ℕ, suc, zero, ◌+◌, ◌-◌, ◌*◌, ◌/◌, ◌%◌, ◌≤◌, ◌<◌}
-use native.Mathlib.Nat.{mul_comm, suc-mul, add-mul, mod-lt, div-add-mod'}
+use native.Mathlib.Nat.{suc-mul, add-mul, mod-lt, div-add-mod'}
 use native.Mathlib.Omega.{arith}
 use lib.Dec.{eqb}
 use borrow.Author.Tests.{eqb-true, eqb-false}

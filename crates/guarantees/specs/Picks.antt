@@ -1,7 +1,7 @@
 -- What a reader may rely on of picking the greater side. Proofs: proofs/Theorems.antt.
 -- Renders: 02, order 1: "the greater side is handed back as a part of the caller's own words. Each slice may have words
 -- after its term"; "The part is empty if neither side is greater or an input is refused."
-use Rattle.std.specs.Prelude.{List, [], ◌++◌, ◌↔◌, ◌≡◌, true, false, ℕ, ◌≤◌}
+use Rattle.std.specs.Prelude.{List, [], ◌++◌, ◌↔◌, ◌≡◌, true, ℕ, ◌≤◌}
 use Rattle.terms.specs.Signature.{Signature}
 use Rattle.terms.specs.Term.{Term, size, WellFormed}
 use Rattle.terms.specs.Words.{words}

@@ -7,7 +7,7 @@ use Rattle.operations.specs.declared.Job.{Job}
 use Rattle.operations.specs.declared.Turn.{Turn}
 use Rattle.operations.specs.declared.Turn.TheVariants.{Served, Idle}
 use Rattle.operations.specs.declared.Summary.{Summary}
-use Rattle.operations.specs.Replies.Reply.{accepted, refused}
+use Rattle.operations.specs.Replies.Reply.{accepted}
 use Rattle.operations.specs.Marking.{marked}
 use Rattle.operations.specs.Jobs.{job_marks, job_at, book_of, has_left}
 use Rattle.operations.specs.Turns.{TurnOutcome, turned}

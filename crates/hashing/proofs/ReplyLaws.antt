@@ -1,7 +1,7 @@
 -- The ends of the fingerprint, by what its inputs read as.
 --     term-fault, term-whole, term-hashed     the term
 --     book-fault, book-hashed                 the file, and then the term
-use Rattle.std.proofs.Common.{◌≡◌, ℕ, true, List, take, sym, ap, ◌∙◌}
+use Rattle.std.proofs.Common.{◌≡◌, ℕ, List, take, ap, ◌∙◌}
 use Rattle.terms.specs.Signature.{Signature}
 use Rattle.terms.specs.Words.{term_of}
 use Rattle.terms.specs.Fingerprint.{fingerprint}

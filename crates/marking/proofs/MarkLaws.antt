@@ -10,8 +10,7 @@ use lib.ListN.{length, take, length-map}
 use lib.Seq.{sets, sets-eq}
 use borrow.Author.Tests.{le-leb, lt-leb}
 use Rattle.format.specs.Errors.{marks_too_short}
-use Rattle.format.specs.Reading.{Reading}
-use Rattle.format.specs.Format.{RuleFile, system_of}
+use Rattle.format.specs.Format.{system_of}
 use Rattle.format.specs.Files.{read_bytes}
 use Rattle.operations.specs.declared.Error.{Error}
 use Rattle.operations.specs.Replies.Reply.{accepted, refused}

@@ -2,9 +2,8 @@
 --     found-bound         what a substitution puts for a variable of the left side is its piece
 --     found-result        the words of the result
 use mathlib.Core.List.{List, [], ◌∷◌}
-use mathlib.Core.Path.{◌≡◌, refl, sym, ap, ap₂, ◌∙◌}
-use mathlib.Core.Bool.{true, false}
-use Prim.Native.Nat.{ℕ, ◌+◌, ◌≤◌, ◌<◌}
+use mathlib.Core.Path.{◌≡◌, refl, ap, ap₂, ◌∙◌}
+use Prim.Native.Nat.{ℕ, ◌+◌, ◌<◌}
 use native.Mathlib.Omega.{arith}
 use lib.ListN.{length}
 use Rattle.multisets.proofs.Relations.{by_test, by_order, eqb-self}
@@ -17,7 +16,6 @@ use Rattle.terms.specs.Rewriting.{Substitution, substitute, substitute_in, fill}
 use Rattle.terms.proofs.RewritingLaws.{occurrences_in}
 use Rattle.simplifying.specs.Filling.{Shaped}
 use Rattle.simplifying.specs.Matching.{Bindings, unbound}
-use Rattle.simplifying.specs.Matching.Binding.{free}
 use Rattle.simplifying.specs.Agenda.{agenda}
 use Rattle.simplifying.specs.Reducts.{substitution_or}
 use Rattle.simplifying.proofs.HoleLaws.{Opened}

@@ -24,7 +24,7 @@ use Rattle.format.proofs.Theorems.{readable-well-formed}
 use Rattle.operations.specs.Text.{signed_decimal}
 use Rattle.operations.specs.Page.{Fits, AllFit, columns}
 use Rattle.operations.specs.Paging.{entry_of, entries_of}
-use Rattle.operations.proofs.DecimalLaws.{signed-few, spelled}
+use Rattle.operations.proofs.DecimalLaws.{signed-few}
 
 -- ---- marks
 

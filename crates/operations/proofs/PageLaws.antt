@@ -17,7 +17,6 @@ use lib.Seq.{take_at, drop_at}
 use borrow.Author.Tests.{leb-true, eqb-true}
 use Rattle.multisets.proofs.Relations.{by_order}
 use Rattle.terms.specs.Words.{words}
-use Rattle.terms.specs.Order.{mark, margin}
 use Rattle.operations.specs.Text.{decimal, signed_decimal, spaces, right_set, left_set}
 use Rattle.operations.specs.Page.{Entry, Fits, AllFit, mark_words, words_for, columns, page_line, lines_from, page}
 use Rattle.operations.specs.Paging.{line_bytes}

@@ -9,7 +9,7 @@ use Prim.Native.Nat.{ℕ, ◌≤◌}
 use native.Mathlib.Omega.{arith}
 use lib.ListN.{length}
 use Rattle.terms.specs.Signature.{Signature}
-use Rattle.terms.specs.Term.{Term, size}
+use Rattle.terms.specs.Term.{size}
 use Rattle.terms.specs.Words.{term_of}
 use Rattle.terms.proofs.WordsLaws.{length-words}
 use Rattle.format.specs.Layout.{max_nodes}
@@ -26,7 +26,7 @@ use Rattle.operations.specs.Replies.Reply.{accepted, refused}
 use Rattle.operations.specs.Inputs.{Inputs, read_inputs}
 use Rattle.operations.specs.Comparing.{relation}
 use Rattle.operations.specs.Picking.{side_of, greater_side, picked}
-use Rattle.operations.proofs.InputLaws.{is_accepted, InputsRead, inputs_read}
+use Rattle.operations.proofs.InputLaws.{is_accepted, inputs_read}
 
 pub front-size : (σ : Signature) (ws : List ℕ) → IsTerm σ ws → size (term_of σ ws) ≡ length ws
 front-size σ ws t = sym (ap length t.spelled ∙ length-words (term_of σ ws))

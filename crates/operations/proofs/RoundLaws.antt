@@ -3,7 +3,7 @@
 --     distance, distance-lt                how many steps after the one after `last` an index is met
 --     onward-distance, distance-onward     the two undo each other
 --     first_some, first-none, first_passes, first-idle      which index is the first, by what passes
-use mathlib.Core.Path.{◌≡◌, refl, sym, ap, ◌∙◌}
+use mathlib.Core.Path.{◌≡◌, refl, ap, ◌∙◌}
 use mathlib.Core.Bool.{Bool, true, false, cond, false≢true}
 use Prim.Native.Nat.{ℕ, suc, zero, ◌+◌, ◌-◌, ◌≤◌, ◌<◌}
 use native.Mathlib.Nat.{zero-add, suc-add}
@@ -11,7 +11,6 @@ use native.Mathlib.Omega.{arith}
 use lib.Dec.{ltb}
 use borrow.Author.Tests.{lt-ltb, le-ltb}
 use Rattle.multisets.proofs.Relations.{by_test, by_order}
-use Rattle.operations.specs.declared.Turn.{Turn}
 use Rattle.operations.specs.declared.Turn.TheVariants.{Served, Idle}
 use Rattle.operations.specs.Turns.{round_after, first_from}
 

@@ -3,19 +3,18 @@
 --     elements-arranged                    their elements
 --     piece-arranged, piece-node           its pieces: arranged expressions, and the elements of a sum
 --     same-pieces                          words that are the same tell AC-equivalence
-use mathlib.Core.List.{List, [], ◌∷◌, append-nil, Memᴰ}
-use mathlib.Core.Path.{◌≡◌, refl, sym, ap, ◌∙◌, subst}
-use mathlib.Core.Bool.{Bool, true, false}
-use Prim.Native.Nat.{ℕ, ◌+◌, ◌-◌, ◌^◌, ◌≤◌, ◌<◌}
+use mathlib.Core.List.{List, append-nil}
+use mathlib.Core.Path.{◌≡◌, sym, ap, ◌∙◌, subst}
+use mathlib.Core.Bool.{Bool, true}
+use Prim.Native.Nat.{ℕ, ◌+◌, ◌^◌, ◌≤◌, ◌<◌}
 use native.Mathlib.Omega.{arith}
 use lib.ListN.{length, get_or, take, drop}
 use borrow.Author.Tests.{eq-eqb, ne_eqb}
 use Rattle.multisets.proofs.Relations.{by_test, by_order, same_test, eqb-self}
 use Rattle.terms.specs.Signature.{Signature, symbol_of, IsSymbol}
-use Rattle.terms.specs.Term.{Term, Terms, arguments, size, flattening, flattenings, Expression}
-use Rattle.terms.specs.Term.Term.{var, app}
+use Rattle.terms.specs.Term.{Term, Terms, arguments, flattening, flattenings, Expression}
 use Rattle.terms.specs.Equivalence.{is_equivalent}
-use Rattle.terms.specs.Words.{first_variable, words, forest_of, term_of}
+use Rattle.terms.specs.Words.{first_variable, words, term_of}
 use Rattle.terms.specs.Rewriting.{fill}
 use Rattle.terms.proofs.EquivalenceComplete.{Equivalent→is_equivalent}
 use Rattle.terms.proofs.EquivalenceSound.{is_equivalent→Equivalent}
@@ -29,7 +28,7 @@ use Rattle.simplifying.proofs.HoleLaws.{fill-each, Opened, context-at, part-at}
 use Rattle.simplifying.proofs.CanonicalLaws.{arranged-parts, single-of-root}
 use Rattle.simplifying.proofs.SumLaws.{IsNode, sum-node}
 use Rattle.simplifying.proofs.ArrangedPieces.{ArrangedElements, masked-elements, sum-arranged, words_same, same-words}
-use Rattle.subterms.specs.Parts.{part_at, parts_at, elements_at, Complete}
+use Rattle.subterms.specs.Parts.{part_at, parts_at, Complete}
 use Rattle.subterms.proofs.PartLaws.{symbol, stand-one, next}
 use Rattle.pieces.specs.Buffer.{Same}
 use Rattle.pieces.specs.Pieces.{elements_of, piece_at, IsPiece}

@@ -3,9 +3,9 @@
 --     sum-masked, sum-words                              a sum
 --     one-element, more-elements                         a sum of one element is a whole part
 --     instance-none, -symbol, -next, -variable, -after   a pattern, word by word
-use mathlib.Core.List.{List, [], ◌∷◌, ◌++◌, map, flat_map}
-use mathlib.Core.Path.{◌≡◌, refl, sym, ap, ◌∙◌, subst}
-use Prim.Native.Nat.{ℕ, suc, ◌+◌, ◌-◌, ◌^◌, ◌≤◌, ◌<◌}
+use mathlib.Core.List.{List, [], ◌∷◌, ◌++◌, flat_map}
+use mathlib.Core.Path.{◌≡◌, refl, sym, ap, ◌∙◌}
+use Prim.Native.Nat.{ℕ, ◌+◌, ◌-◌, ◌≤◌, ◌<◌}
 use native.Mathlib.Omega.{arith}
 use native.Mathlib.Numerals.{add-one}
 use lib.Bits.{bit_and}
@@ -15,10 +15,8 @@ use borrow.Author.Tests.{eq-eqb, ne_eqb, lt-ltb, le-ltb}
 use Rattle.terms.specs.Signature.{Signature}
 use Rattle.terms.specs.Term.{Term, size}
 use Rattle.terms.specs.Words.{first_variable, words}
-use Rattle.terms.specs.Rewriting.{Substitution}
 use Rattle.terms.proofs.WordsLaws.{length-words}
 use Rattle.simplifying.specs.Masks.{masked}
-use Rattle.simplifying.specs.Holes.{image_words}
 use Rattle.simplifying.proofs.MaskLaws.{masked-some, masked-one, masked-two}
 use Rattle.simplifying.proofs.PoolingLaws.{empty-list}
 use Rattle.simplifying.proofs.SumLaws.{words-sum}
@@ -30,7 +28,7 @@ use Rattle.pieces.specs.Buffer.{Stored, Put}
 use Rattle.pieces.specs.Sums.{sum_words, Masked, IsFirst}
 use Rattle.pieces.specs.Pieces.{elements_of, piece_at, IsPiece, instance_from, Filled, Instance, IsNormal}
 use Rattle.pieces.proofs.CopyLaws.{store-none, store-more, store_then}
-use Rattle.pieces.proofs.PutLaws.{part-words, put_same}
+use Rattle.pieces.proofs.PutLaws.{part-words}
 
 module _ {σ : Signature} {ws keys : List ℕ} (P : Prepared σ ws keys) {i mask : ℕ} (I : IsPiece σ ws i mask) where
   -- ---- a whole part

@@ -4,18 +4,16 @@
 --     owed-some                                    a mask that takes something finds a term
 --     put-none, put-own, put-off, put_one, put_on  the ends
 use mathlib.Core.List.{List, [], ◌∷◌, ◌++◌, map}
-use mathlib.Core.Path.{◌≡◌, refl, sym, ap, ◌∙◌, subst}
+use mathlib.Core.Path.{◌≡◌, refl, sym, ap, ◌∙◌}
 use Prim.Native.Nat.{ℕ, suc, zero, ◌+◌, ◌-◌, ◌/◌, ◌%◌, ◌^◌, ◌≤◌, ◌<◌}
 use native.Mathlib.Nat.{pow-suc}
 use native.Mathlib.Omega.{arith}
-use native.Mathlib.Numerals.{add-one}
-use lib.ListN.{length, get_or, take, drop, set, length-append, length-map, length-set, take-append-drop}
-use lib.Seq.{sets, take_at, length-sets}
+use lib.ListN.{length, get_or, take, drop, set, length-append, length-map, take-append-drop}
+use lib.Seq.{take_at}
 use borrow.Author.Tests.{lt-ltb, le-ltb}
 use Rattle.multisets.proofs.Relations.{by_order}
 use Rattle.terms.specs.Signature.{Signature, symbol_of}
 use Rattle.terms.specs.Term.{Term, arguments, size}
-use Rattle.terms.specs.Term.Term.{var, app}
 use Rattle.terms.specs.Words.{first_variable, words, words_of, grow, forest_of}
 use Rattle.terms.proofs.WordsLaws.{length-words}
 use Rattle.simplifying.specs.Masks.{masked}
@@ -24,7 +22,7 @@ use Rattle.simplifying.proofs.MaskLaws.{masked-none, masked_on, masked_off, mask
 use Rattle.simplifying.proofs.HoleLaws.{words_of-append}
 use Rattle.simplifying.proofs.SumLaws.{joined-more}
 use Rattle.subterms.specs.Parts.{part_at, elements_at, Complete}
-use Rattle.subterms.proofs.PartLaws.{complete-drop, stand-one, next}
+use Rattle.subterms.proofs.PartLaws.{stand-one, next}
 use Rattle.equivalence.specs.Keys.{size_in}
 use Rattle.equivalence.proofs.StepLaws.{elements-own, elements-other, prepared-size, part_small, step-some}
 use Rattle.equivalence.proofs.StepLaws.{step-own, step-next}

@@ -1,15 +1,15 @@
 -- Words compared one by one.
 --     same_none, same_first, same_more     between two offsets
 --     same-stored, apart-stored            lists that were stored from the first offset on
-use mathlib.Core.List.{List, [], ◌∷◌, append-nil}
+use mathlib.Core.List.{List, ◌∷◌}
 use mathlib.Core.Path.{◌≡◌, refl, sym, ap, ◌∙◌}
 use mathlib.Core.Bool.{Bool, true, false, false≢true, true≢false}
 use Prim.Native.Nat.{ℕ, suc, ◌+◌, ◌-◌, ◌≤◌, ◌<◌}
 use native.Mathlib.Omega.{arith}
 use native.Mathlib.Numerals.{add-one}
 use lib.ListN.{length, get_or, take, drop}
-use lib.Seq.{sets, sets-eq, drop-cons, take_at}
-use Rattle.pieces.specs.Buffer.{Stored, Put, Same, between}
+use lib.Seq.{sets-eq, drop-cons, take_at}
+use Rattle.pieces.specs.Buffer.{Put, Same, between}
 
 module _ (l m : List ℕ) (i n : ℕ) where
   pub same_none : i ≡ n → Same true (between i n l) (between i n m)

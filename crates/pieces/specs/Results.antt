@@ -1,5 +1,5 @@
 -- A term with the instance of a pattern in place of one of its parts.
-use Rattle.std.specs.Prelude.{List, ◌++◌, ℕ, ◌+◌, ◌≤◌, ◌<◌, length, take, drop}
+use Rattle.std.specs.Prelude.{List, ◌++◌, ℕ, ◌+◌, ◌<◌, length, take, drop}
 use Rattle.terms.specs.Signature.{Signature}
 use Rattle.terms.specs.Term.{size}
 use Rattle.subterms.specs.Parts.{part_at}

@@ -14,7 +14,7 @@ use Rattle.terms.specs.Signature.{Symbol, Signature, symbol_of, coefficients_of}
 use Rattle.terms.proofs.MeasureLaws.{replicate-ones}
 use Rattle.format.specs.Forms.{has_coefficients}
 use Rattle.format.specs.Symbols.{ones}
-use Rattle.symbols.specs.Table.{digits, spelled, spelled_after, row_at, symbol_in, form_of, signature_of}
+use Rattle.symbols.specs.Table.{digits, spelled, row_at, symbol_in, form_of, signature_of}
 use Rattle.symbols.proofs.TableLaws.{symbol-at}
 use Rattle.symbols.proofs.RowLaws.{spelled-snoc, digits-spelled}
 use Rattle.weights.specs.Nodes.{triple}

@@ -1,5 +1,5 @@
 -- The words of a term, each with the product of the coefficients above it, and sums that count a word that many times.
-use Rattle.std.specs.Prelude.{List, [], ◌∷◌, cond, ◌≡◌, ℕ, suc, zero, ◌+◌, ◌-◌, ◌*◌, ◌/◌, ◌%◌, ◌≤◌, ◌<◌, eqb, ltb, leb, length, get_or, set, take, drop}
+use Rattle.std.specs.Prelude.{List, [], ◌∷◌, cond, ◌≡◌, ℕ, suc, zero, ◌+◌, ◌*◌, ◌/◌, ◌%◌, ◌≤◌, ◌<◌, eqb, ltb, leb, length, get_or, set, take, drop}
 use Rattle.terms.specs.Signature.{Signature, AllPositive, symbol_of, coefficients_of}
 use Rattle.terms.specs.Term.{size, weight, variable_coefficient, variable_count}
 use Rattle.terms.specs.Words.{first_variable, term_of}

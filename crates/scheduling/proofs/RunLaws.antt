@@ -2,8 +2,8 @@
 --     looked-barred, looked-stuck, looked-bad, looked-done, looked-first, looked-later      of looking at a job
 --     run-barred, run-bad, run_short, run-served, run-idle      of a turn: the reply, and the marks
 use mathlib.Core.List.{List}
-use mathlib.Core.Path.{◌≡◌, refl, sym, ap, ◌∙◌}
-use mathlib.Core.Bool.{true, false, cond}
+use mathlib.Core.Path.{◌≡◌, refl, ap, ◌∙◌}
+use mathlib.Core.Bool.{true, false}
 use Prim.Native.Nat.{ℕ, ◌+◌, ◌*◌, ◌≤◌, ◌<◌}
 use lib.ListN.{get_or, set, take, drop}
 use lib.ListN
@@ -15,10 +15,10 @@ use Rattle.operations.specs.declared.Turn.{Turn}
 use Rattle.operations.specs.declared.Turn.TheVariants.{Served, Idle}
 use Rattle.operations.specs.Replies.{Reply}
 use Rattle.operations.specs.Replies.Reply.{accepted, refused}
-use Rattle.operations.specs.Jobs.{job_marks, book_of, book_marks}
+use Rattle.operations.specs.Jobs.{job_marks, book_marks}
 use Rattle.scheduling.specs.declared.Search.{Search}
 use Rattle.seeking.specs.declared.Standing.TheVariants.{Bad, Done, Left}
-use Rattle.scheduling.specs.Search.{standing_of, is_allowed, comes_first, found_bad, found_next, looked, job_found}
+use Rattle.scheduling.specs.Search.{standing_of, is_allowed, comes_first, found_bad, found_next, looked}
 use Rattle.scheduling.specs.Run.{reply_of, marks_after}
 
 -- ---- looking at a job

@@ -2,7 +2,7 @@
 --     sum-arranged           what a mask takes of the elements of an arranged expression, joined
 --     same-words, words_same arranged expressions are AC-equivalent if and only if their words are the same
 use mathlib.Core.List.{List, Memᴰ}
-use mathlib.Core.Path.{◌≡◌, refl, sym, ap, ◌∙◌, subst}
+use mathlib.Core.Path.{◌≡◌, sym, ap, ◌∙◌, subst}
 use mathlib.Core.Bool.{true, true≢false}
 use Prim.Native.Nat.{ℕ, ◌^◌, ◌≤◌, ◌<◌}
 use lib.ListN.{length}
@@ -13,17 +13,15 @@ use Rattle.terms.specs.Term.{Term, Expression}
 use Rattle.terms.specs.Equivalence.{Equivalent}
 use Rattle.terms.specs.Equivalence.Equivalent.{same}
 use Rattle.terms.specs.Words.{first_variable, words, term_of}
-use Rattle.terms.specs.Bunch.{Bunch, bunch_of}
-use Rattle.terms.specs.Bunch.Bunch.{full}
 use Rattle.terms.specs.Order.{is_greater}
 use Rattle.terms.specs.Rewriting.{Expressions}
 use Rattle.terms.proofs.WordsLaws.{term_of-words}
 use Rattle.simplifying.specs.Canonical.{Arranged}
 use Rattle.simplifying.specs.Masks.{masked}
-use Rattle.simplifying.specs.Pieces.{sum_of, masked_sum}
+use Rattle.simplifying.specs.Pieces.{masked_sum}
 use Rattle.simplifying.proofs.MaskLaws.{masked-part, masked-some}
 use Rattle.simplifying.proofs.CanonicalLaws.{Single, arranged-unique}
-use Rattle.simplifying.proofs.PieceLaws.{ArrangedBunch, parted-ascending, bunch-arranged}
+use Rattle.simplifying.proofs.PieceLaws.{parted-ascending, bunch-arranged}
 use Rattle.simplifying.proofs.FillingLaws.{bunch-expression}
 use Rattle.simplifying.proofs.SumLaws.{sum-some}
 

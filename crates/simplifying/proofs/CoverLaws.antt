@@ -4,13 +4,11 @@
 --     covers-masks, reached-mask                                 an AC symbol, by the masks within the mask of its sum
 --     reached-word, reached-one                                  one word more is reached
 use mathlib.Core.List.Memᴰ
-use mathlib.Core.List.{List, [], ◌∷◌, ◌++◌, map, flat_map, Memᴰ}
-use mathlib.Core.Path.{◌≡◌, refl, sym, ap, ◌∙◌, subst}
+use mathlib.Core.List.{List, [], ◌∷◌, ◌++◌, map, Memᴰ}
+use mathlib.Core.Path.{◌≡◌, refl, sym, subst}
 use mathlib.Core.Bool.{true, false, cond}
 use Prim.Native.Nat.{ℕ, ◌-◌, ◌^◌, ◌≤◌, ◌<◌}
-use native.Mathlib.Omega.{arith}
 use lib.ListN.{length}
-use lib.Dec.{eqb}
 use borrow.Author.Tests.{lt-ltb, le-ltb}
 use Rattle.multisets.proofs.Relations.{by_test, eqb-self}
 use Rattle.multisets.proofs.FlatMapLaws.{flat_map-member, member-flat_map}
@@ -21,11 +19,11 @@ use Rattle.terms.specs.Equivalence.{pair, is_equivalent}
 use Rattle.terms.specs.Words.{first_variable}
 use Rattle.terms.proofs.FlatteningLaws.{NotRoot}
 use Rattle.simplifying.specs.Masks.{Within, masked}
-use Rattle.simplifying.specs.Matching.{Binding, Bindings, bind_to, bind, regroupings, groupings}
+use Rattle.simplifying.specs.Matching.{Bindings, bind_to, regroupings, groupings}
 use Rattle.simplifying.specs.Matching.Binding.{free, bound}
 use Rattle.simplifying.specs.Agenda.{Agenda, agenda, advance, follows}
 use Rattle.simplifying.specs.Pieces.{masked_sum, Covers}
-use Rattle.simplifying.proofs.SumLaws.{Divided, regroupings-divided, divided-regroupings, divided-of}
+use Rattle.simplifying.proofs.SumLaws.{regroupings-divided, divided-regroupings, divided-of}
 use Rattle.simplifying.proofs.SumLaws.{divided-bounds}
 use Rattle.simplifying.proofs.AgendaLaws.{follows-append}
 

@@ -2,7 +2,7 @@
 --     element_place       the place of an element, and what comes of another term there
 --     beside-element      a rule beside a rest under a symbol that is not the root of its left side: at an element
 use mathlib.Core.List.Memᴰ
-use mathlib.Core.List.{List, [], ◌∷◌, ◌++◌, append-nil}
+use mathlib.Core.List.{List, [], ◌∷◌, ◌++◌}
 use mathlib.Core.Logic.{⊎_elim}
 use mathlib.Core.Path.{◌≡◌, refl, sym, ap, ◌∙◌}
 use mathlib.Core.Bool.{true}
@@ -10,19 +10,17 @@ use Prim.Native.Nat.{ℕ, suc}
 use lib.ListN.{length}
 use lib.Dec.{eqb}
 use borrow.Author.Tests.{eqb-true}
-use Rattle.multisets.specs.Multiset.{multiset_equal}
 use Rattle.multisets.proofs.Relations.{by_test}
-use Rattle.multisets.proofs.MultisetLaws.{Takes, here, later, takes-member, multiset_equal-split}
+use Rattle.multisets.proofs.MultisetLaws.{Takes, here, later, takes-member}
 use Rattle.multisets.proofs.SortingLaws.{takes-append}
 use Rattle.terms.specs.Signature.{Signature, symbol_of, Admissible}
-use Rattle.terms.specs.Term.{Term, Terms, row, arguments, flattening, flattenings, WellFormed, WellFormeds, Expression}
+use Rattle.terms.specs.Term.{Term, Terms, row, arguments, flattening, flattenings, WellFormed, WellFormeds}
 use Rattle.terms.specs.Term.Term.{var, app}
 use Rattle.terms.specs.Term.Terms.{nil, cons}
-use Rattle.terms.specs.Equivalence.{pair, Equivalent, is_equivalent}
-use Rattle.terms.specs.Equivalence.Equivalent.{same, back, then}
+use Rattle.terms.specs.Equivalence.Equivalent.{same}
 use Rattle.terms.specs.Bunch.{Bunch, join, bunch_of}
 use Rattle.terms.specs.Bunch.Bunch.{full}
-use Rattle.terms.specs.Rewriting.{System, Context, fill, substitute}
+use Rattle.terms.specs.Rewriting.{Context, fill}
 use Rattle.terms.specs.Rewriting.Context.{hole, inside}
 use Rattle.terms.proofs.EquivalenceSound.{SameBunch, both_full, same_refl, same-sym, same-trans, join-resp, join-regroup}
 use Rattle.terms.proofs.EquivalenceSound.{join-exchange, bunch-append, bunch-two, flattening-joined, flattenings-joined}

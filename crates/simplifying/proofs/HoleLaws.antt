@@ -17,7 +17,7 @@ use Rattle.terms.specs.Signature.{Signature}
 use Rattle.terms.specs.Term.{Term, Terms, row, arguments, size, WellFormed}
 use Rattle.terms.specs.Term.Term.{var, app}
 use Rattle.terms.specs.Term.Terms.{nil, cons}
-use Rattle.terms.specs.Words.{first_variable, words, words_of, forest_of, term_of}
+use Rattle.terms.specs.Words.{first_variable, words, words_of, term_of}
 use Rattle.terms.specs.Rewriting.{Context, fill, Substitution, substitute, substitute_in}
 use Rattle.terms.specs.Rewriting.Context.{hole, inside}
 use Rattle.terms.proofs.TermLaws.{Hereditary, row-each, size-pos, arguments-row, among-member}

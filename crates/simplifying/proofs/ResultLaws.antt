@@ -30,7 +30,7 @@ use Rattle.terms.proofs.EquivalenceMeasures.{plain-resp-equivalent}
 use Rattle.terms.proofs.VariableLaws.{coefficient-none, occurs-le, none_oftener-everywhere}
 use Rattle.theory.proofs.DecreasesView.{is_greater-view}
 use Rattle.theory.proofs.DecreasesView.Decreases.{by_weight, by_root}
-use Rattle.simplifying.specs.Matching.{Binding, Bindings, unbound, AgreesAt, Agrees, matches}
+use Rattle.simplifying.specs.Matching.{Binding, Bindings, unbound, AgreesAt, matches}
 use Rattle.simplifying.specs.Matching.Binding.{free, bound}
 use Rattle.simplifying.specs.Places.{RuleStep}
 use Rattle.simplifying.specs.Reducts.{image_or, substitution_or, results_by, results}

@@ -3,23 +3,21 @@
 --     at-element                            a rule beside a rest, under another symbol than its left side's root
 --     searched-sound, searched-complete     the results that are found, and that all are
 use mathlib.Core.List.{List, [], ◌∷◌, ◌++◌, append-nil, Memᴰ}
-use mathlib.Core.Path.{◌≡◌, refl, sym, ap, ◌∙◌, subst}
+use mathlib.Core.Path.{◌≡◌, refl, sym, ap, ◌∙◌}
 use mathlib.Core.Bool.{true, false}
-use Prim.Native.Nat.{ℕ, ◌+◌, ◌≤◌, ◌<◌}
+use Prim.Native.Nat.{ℕ, ◌≤◌}
 use native.Mathlib.Omega.{arith}
 use lib.Dec.{eqb}
 use borrow.Author.Tests.{eqb-true}
 use Rattle.multisets.specs.Multiset.{multiset_equal}
 use Rattle.multisets.proofs.Relations.{by_test, eqb-self}
 use Rattle.multisets.proofs.MultisetLaws.{Takes, takes-member, multiset_equal-split}
-use Rattle.terms.specs.Signature.{Signature, symbol_of, Admissible}
+use Rattle.terms.specs.Signature.{Signature, Admissible}
 use Rattle.terms.specs.Term.{Term, Terms, arguments, occurrences, variable_count, flattening, flattenings, WellFormed}
 use Rattle.terms.specs.Term.{Expression}
 use Rattle.terms.specs.Term.Term.{var, app}
-use Rattle.terms.specs.Term.Terms.{nil, cons}
 use Rattle.terms.specs.Equivalence.{pair, Equivalent, is_equivalent}
-use Rattle.terms.specs.Equivalence.Equivalent.{same, back, then, under}
-use Rattle.terms.specs.Equivalence.Equivalents.{none, each}
+use Rattle.terms.specs.Equivalence.Equivalent.{same, back, then}
 use Rattle.terms.specs.Bunch.Bunch.{full}
 use Rattle.terms.specs.Order.{is_greater}
 use Rattle.terms.specs.Rewriting.{Rule, System, WellFormedRules, AllDecreasing, Substitution, substitute}
@@ -27,8 +25,8 @@ use Rattle.terms.specs.Rewriting.{ExpressionSubstitution, Context, fill, Step}
 use Rattle.terms.specs.Rewriting.Context.{hole, inside}
 use Rattle.terms.proofs.EquivalenceComplete.{Equivalent→is_equivalent}
 use Rattle.terms.proofs.EquivalenceLaws.{symbol-of-is_equivalent, arguments-of-is_equivalent}
-use Rattle.terms.proofs.EquivalenceMeasures.{formed-resp-equivalent, expression-resp-equivalent}
-use Rattle.terms.proofs.EquivalenceSound.{is_equivalent→Equivalent, both_full, from-full, same-trans, join-resp}
+use Rattle.terms.proofs.EquivalenceMeasures.{formed-resp-equivalent}
+use Rattle.terms.proofs.EquivalenceSound.{is_equivalent→Equivalent, from-full, same-trans, join-resp}
 use Rattle.terms.proofs.EquivalenceSound.{same_refl}
 use Rattle.terms.proofs.RewritingLaws.{fill-resp-equivalent}
 use Rattle.terms.proofs.TermLaws.{flattenings-each}
@@ -36,9 +34,8 @@ use Rattle.terms.proofs.VariableLaws.{expressions, not-ground, occurrences-past}
 use Rattle.terms.proofs.WeightLaws.{variable-lightest}
 use Rattle.theory.proofs.DecreasesView.{Decreases, is_greater-view}
 use Rattle.theory.proofs.DecreasesView.Decreases.{by_weight, by_root}
-use Rattle.simplifying.specs.Matching.{Bindings, unbound, matches}
 use Rattle.simplifying.specs.Reducts.{substitution_or}
-use Rattle.simplifying.specs.Places.{RuleStep, Beside, At, PlaceStep, extended}
+use Rattle.simplifying.specs.Places.{Beside, At, PlaceStep, extended}
 use Rattle.simplifying.specs.Places.At.{by_rule, beside_rest as beside_at}
 use Rattle.simplifying.specs.Search.{Tried, Searched}
 use Rattle.simplifying.specs.Search.Tried.{as_it_is, beside_rest}

@@ -4,7 +4,7 @@
 --     regroupings-divided, divided-regroupings     the regroupings of a sum are the masks within its mask
 use mathlib.Core.List.{List, [], ◌∷◌, ◌++◌, map, Memᴰ}
 use mathlib.Core.List.{append-nil}
-use mathlib.Core.Path.{◌≡◌, refl, sym, ap, ◌∙◌, subst}
+use mathlib.Core.Path.{◌≡◌, refl, ap, ◌∙◌}
 use Prim.Native.Nat.{ℕ, suc, zero, ◌-◌, ◌^◌, ◌≤◌, ◌<◌}
 use native.Mathlib.Omega.{arith}
 use lib.ListN.{length}
@@ -23,7 +23,7 @@ use Rattle.simplifying.specs.Canonical.{term_or}
 use Rattle.simplifying.specs.Masks.{Within, masked}
 use Rattle.simplifying.specs.Matching.{pairs, regroupings}
 use Rattle.simplifying.specs.Pieces.{sum_of, masked_sum, joined_words}
-use Rattle.simplifying.proofs.MaskLaws.{Splitting, masked-parted, parted-masked, masked-none, masked-some}
+use Rattle.simplifying.proofs.MaskLaws.{masked-parted, parted-masked, masked-none, masked-some}
 use Rattle.simplifying.proofs.MaskLaws.{within-le}
 use Rattle.simplifying.proofs.CanonicalLaws.{joined, bunch-joined, Single, flattening-of-joined}
 

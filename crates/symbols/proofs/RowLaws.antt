@@ -4,13 +4,13 @@
 --     spelled-ones      the number that ones spell
 --     spelled-row       the row of a symbol is the last digits of seven
 --     spelled-lt        digits spell less than the least number with a digit more
-use mathlib.Core.Path.{◌≡◌, refl, sym, ap, ◌∙◌}
+use mathlib.Core.Path.{◌≡◌, refl, sym, ◌∙◌}
 use mathlib.Core.List.{List, [], ◌∷◌, ◌++◌, append_assoc, append-nil, Memᴰ}
 use mathlib.Core.Bool.{Bool, true, false, cond}
-use Prim.Native.Nat.{ℕ, suc, zero, ◌+◌, ◌*◌, ◌/◌, ◌%◌, ◌^◌, ◌≤◌, ◌<◌}
+use Prim.Native.Nat.{ℕ, suc, zero, ◌+◌, ◌*◌, ◌/◌, ◌%◌, ◌^◌, ◌<◌}
 use native.Mathlib.Nat.{add-zero, zero-add, mul-one, one-mul, mul_assoc}
 use native.Mathlib.Omega.{arith}
-use lib.ListN.{length, length-append, get_or}
+use lib.ListN.{length, get_or}
 use lib.Pow.{pow-add, mod-pow-add}
 use Rattle.format.specs.Symbols.{ones}
 use Rattle.symbols.specs.Table.{digits, spelled_after, spelled, seven_ones, row_at, symbol_in}

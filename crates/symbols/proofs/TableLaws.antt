@@ -12,7 +12,6 @@ use mathlib.Core.Bool.{Bool, true, false, cond}
 use Prim.Native.Nat.{ℕ, suc, zero, ◌+◌, ◌-◌, ◌*◌, ◌/◌, ◌%◌, ◌≤◌, ◌<◌}
 use native.Mathlib.Omega.{arith}
 use native.Mathlib.Nat.{add-zero, zero-add}
-use lib.Dec.{eqb}
 use lib.ListN.{length, length-append, length-replicate, get_or, get_or-eq_default}
 use Rattle.multisets.proofs.Relations.{by_order}
 use Rattle.terms.specs.Signature.{Symbol, symbol_of, Ones}

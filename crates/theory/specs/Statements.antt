@@ -2,7 +2,7 @@
 -- Renders: 01, "The order" and "Kept by contexts"; 02, order 8: mark 11 "counts as falling"; 000, Definitions 5.1 and
 -- 8.1, the properties that make the order an AC-compatible simplification order (Theorems 5.10 and 8.2), and its
 -- totality on ground terms (Theorem 5.12).
-use Rattle.std.specs.Prelude.{List, ◌↔◌, ◌⊎◌, ◌≡◌, true, false, ◌&&◌, ℕ, ◌≤◌, ◌<◌, eqb, ltb}
+use Rattle.std.specs.Prelude.{List, ◌↔◌, ◌⊎◌, ◌≡◌, true, false, ◌&&◌, ℕ, ◌<◌, eqb, ltb}
 use Rattle.terms.specs.Signature.{Signature, Admissible}
 use Rattle.terms.specs.Term.{Term, Terms, variable_count, Ground, WellFormed, Expression}
 use Rattle.terms.specs.Term.Term.{var, app}

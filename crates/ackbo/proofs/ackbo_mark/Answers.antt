@@ -3,7 +3,6 @@ use Rattle.operations.specs.Boundary.{summary_values}
 use Rattle.boundary.proofs.NumberLaws.{value-small, offset-small}
 use Rattle.ackbo.proofs.BoundLaws.{marked-small, rules-small, decreasing-small, score-small}
 use Rattle.boundary.proofs.ReplyLaws.{accepts, refuses}
-use borrow.Author.Rules.{rules}
 use Rattle.ackbo.proofs.ackbo_mark.Goals as goal
 
 pub put_summary-requires : goal.put_summary-requires

@@ -1,8 +1,5 @@
 -- Both terms are summed up; the order's relation and the margin are those of the terms.
 use mathlib.Core.Path.{refl}
-use mir.Syntax.{w64}
-use mir.ValLaws.{to_z-of_z}
-use Rattle.symbols.specs.Table.{signature_of}
 use Rattle.comparing.proofs.compare_read.Goals as goal
 
 pub sum_up-s-requires : goal.sum_up-s-requires

@@ -1,5 +1,5 @@
 -- The loop keeps: the value so far, with what the entries from i on add, is the whole sum.
-use Rattle.std.proofs.Common.{◌-◌, ◌∙◌, arith}
+use Rattle.std.proofs.Common.{◌∙◌, arith}
 use Rattle.symbols.specs.Table.{signature_of}
 use Rattle.hashing.specs.Entries.{added_in}
 use Rattle.hashing.proofs.RunLaws.{bag-more, bag-end}

@@ -1,5 +1,5 @@
 -- The loop keeps: the value so far, with the entries from i on, gives the whole.
-use Rattle.std.proofs.Common.{◌-◌, refl, ◌∙◌, arith}
+use Rattle.std.proofs.Common.{refl, ◌∙◌, arith}
 use Rattle.symbols.specs.Table.{signature_of}
 use Rattle.hashing.specs.Entries.{fingerprint_in}
 use Rattle.hashing.proofs.RunLaws.{row_more, row-end}

@@ -3,10 +3,8 @@ use mathlib.Core.List.{[], ◌∷◌}
 use native.Mathlib.Omega.{arith}
 use Rattle.operations.specs.Text.{decimal, signed_decimal}
 use Rattle.text.proofs.TextLaws.{put-append, put-line3}
-use mathlib.Core.Path.{ap, ◌∙◌}
 use mir.Syntax.{w64}
 use mir.ValLaws.{to_z-of_z}
-use Rattle.text.specs.Put.{Put}
 use Rattle.lines.proofs.put_rule.Goals as goal
 
 pub returns : goal.returns

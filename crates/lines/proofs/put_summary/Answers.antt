@@ -2,7 +2,6 @@
 use native.Mathlib.Omega.{arith}
 use borrow.Author.Tests.{eq-eqb, ne_eqb}
 use Rattle.lines.proofs.LineLaws.{put-verdict}
-use borrow.Author.Rules.{rules}
 use Rattle.lines.proofs.put_summary.Goals as goal
 
 pub returns-then-decreasing-rules : goal.returns-then-decreasing-rules

@@ -4,7 +4,6 @@ use Prim.Native.Nat.{suc, ◌+◌, ◌*◌, ◌/◌, ◌%◌}
 use native.Mathlib.Omega.{arith}
 use native.Mathlib.Nat.{div-le_self, mod-le}
 use Rattle.operations.proofs.ScoreLaws.{nearest-below, nearest-above, nearest-even, nearest-odd, score-none, score-some}
-use borrow.Author.Rules.{rules}
 use Rattle.marks.proofs.score.Goals as goal
 
 pub returns-then-rules-eq0 : goal.returns-then-rules-eq0

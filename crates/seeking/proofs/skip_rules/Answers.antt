@@ -1,7 +1,6 @@
 -- The loop keeps: the rules before `i` are read, and the next one begins at `here`.
 use mathlib.Core.List.{[], ◌∷◌, ◌++◌}
 use mathlib.Core.Path.{◌≡◌}
-use Prim.Native.Nat.{◌-◌}
 use native.Mathlib.Omega.{arith}
 use Rattle.format.specs.Layout.{form_number}
 use Rattle.format.specs.Reading.{bit_source}

@@ -1,6 +1,6 @@
 -- The loop keeps: the cells of the symbols before `f` are stored, and the others are as they were.
 use mathlib.Core.Path.{◌≡◌, ap}
-use Prim.Native.Nat.{suc, ◌-◌}
+use Prim.Native.Nat.{suc}
 use native.Mathlib.Omega.{arith}
 use lib.ListN.{length-set}
 use Rattle.terms.specs.Signature.{Symbol}

@@ -1,6 +1,5 @@
 -- The loop keeps: the cells of the variables before `word` are stored, and the others are as they were.
 use mathlib.Core.Path.{◌≡◌, sym}
-use Prim.Native.Nat.{◌-◌}
 use native.Mathlib.Omega.{arith}
 use lib.ListN.{length-set}
 use Rattle.symbols.proofs.ArityLaws.{variable-cell, between_none, between_more}

@@ -7,7 +7,6 @@ use mir.Syntax.{w64}
 use mir.ValLaws.{to_z-of_z}
 use lib.Seq.{length-take-le, sets}
 use Rattle.operations.specs.Text.{signed_decimal}
-use Rattle.operations.proofs.DecimalLaws.{length-right_set}
 use Rattle.text.proofs.TextLaws.{put-at-end}
 use Rattle.text.proofs.put_right_set.Goals as goal
 

@@ -1,6 +1,5 @@
 -- The loop keeps: the first `done` spaces are put.
 use mathlib.Core.Path.{refl}
-use Prim.Native.Nat.{◌-◌}
 use native.Mathlib.Omega.{arith}
 use Rattle.operations.specs.Text.{spaces}
 use Rattle.text.proofs.TextLaws.{put-space, put-all-spaces, put-length}

@@ -1,7 +1,6 @@
 -- The loop keeps: where a rule's words are stored, those up to i are renumbered and the variables in them have their
 -- numbers; no more numbers are used than words are passed.
 use mathlib.Core.Path.{refl, ap}
-use Prim.Native.Nat.{◌-◌}
 use native.Mathlib.Omega.{arith}
 use lib.ListN.{length, length-set}
 use lib.Seq.{length-sets}

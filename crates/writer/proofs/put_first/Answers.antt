@@ -1,6 +1,6 @@
 -- The loop keeps: the first `k` bytes are stored, and the value is shifted past them.
 use mathlib.Core.Path.{◌≡◌, refl}
-use Prim.Native.Nat.{◌-◌, ◌<◌}
+use Prim.Native.Nat.{◌<◌}
 use native.Mathlib.Omega.{arith}
 use lib.ListN.{take}
 use lib.Seq.{length-sets}

@@ -9,7 +9,6 @@ use Rattle.scheduling.specs.declared.Search.{Search}
 use Rattle.scheduling.specs.Search.{scanned}
 use Rattle.scheduling.proofs.SearchLaws.{scanned-ready}
 use Rattle.boundary.specs.declared.turn.Stored.{Stored}
-use Rattle.boundary.specs.Turn.{stored_of}
 use Rattle.boundary.proofs.TurnLaws.{turn-code, turn-marks, turn-values, turn-served, turn-none}
 use Rattle.ackbo.proofs.turn.ackbo_turn.Goals as goal
 

@@ -1,6 +1,6 @@
 -- The loop keeps: nine bits for each node so far, less four for each variable.
 use native.Mathlib.Omega.{arith}
-use Prim.Native.Nat.{ℕ, ◌+◌, ◌-◌}
+use Prim.Native.Nat.{ℕ, ◌+◌}
 use mathlib.Core.Path.{◌≡◌, refl, ap}
 use lib.ListN.{length}
 use Rattle.encoder.specs.Items.{bits_to}

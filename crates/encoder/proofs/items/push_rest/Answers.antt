@@ -1,5 +1,4 @@
 -- The loop keeps: the nodes before word `k` are pushed, and there is room for the others.
-use Prim.Native.Nat.{◌-◌}
 use mathlib.Core.Path.{◌≡◌}
 use native.Mathlib.Omega.{arith}
 use lib.ListN.{length}

@@ -1,6 +1,6 @@
 -- The loop keeps: the bits of the items before word `i` are written, and `i` is a symbol's first word.
 use native.Mathlib.Omega.{arith}
-use Prim.Native.Nat.{ℕ, ◌+◌, ◌-◌, ◌≤◌}
+use Prim.Native.Nat.{ℕ, ◌+◌, ◌≤◌}
 use mathlib.Core.List.{List}
 use mathlib.Core.Path.{◌≡◌, refl, ◌∙◌}
 use Rattle.format.specs.Packing.{item_bits}

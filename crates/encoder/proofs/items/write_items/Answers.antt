@@ -1,6 +1,6 @@
 -- The loop keeps: the bits of the items before word `i` are written; what waits is stored at the end.
 use native.Mathlib.Omega.{arith}
-use Prim.Native.Nat.{◌+◌, ◌-◌}
+use Prim.Native.Nat.{◌+◌}
 use mathlib.Core.Path.{◌≡◌, refl, ◌∙◌}
 use lib.ListN.{length}
 use Rattle.encoder.proofs.ItemBits.{bits_mono}

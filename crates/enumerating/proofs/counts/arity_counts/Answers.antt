@@ -1,5 +1,4 @@
 -- The loop keeps: each count, with the symbols from `f` on, is that of all symbols.
-use Prim.Native.Nat.{◌-◌}
 use mathlib.Core.Path.{refl}
 use native.Mathlib.Omega.{arith}
 use Rattle.symbols.specs.Table.{signature_of}

@@ -1,5 +1,5 @@
 -- The loop keeps: the total, with what the arities from `a` on add, is the count of rows once it is capped.
-use Prim.Native.Nat.{◌+◌, ◌*◌, ◌-◌}
+use Prim.Native.Nat.{◌+◌, ◌*◌}
 use mathlib.Core.Path.{ap, ◌∙◌}
 use native.Mathlib.Omega.{arith}
 use Rattle.enumerating.specs.Counts.{capped}

@@ -1,5 +1,4 @@
 -- Without constants no other cell counts a row. Else the loop keeps: the cells before `i` are the counts of rows.
-use Prim.Native.Nat.{◌-◌}
 use mathlib.Core.Path.{◌≡◌, refl}
 use native.Mathlib.Omega.{arith}
 use lib.ListN.{length-set}

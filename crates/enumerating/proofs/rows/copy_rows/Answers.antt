@@ -1,6 +1,5 @@
 -- The loop keeps: `column` is that of word `i`, and the first `i` words are stored, whatever rows the words stand for. Those
 -- copied stand before those stored, so they are as at the start.
-use Prim.Native.Nat.{◌-◌}
 use mathlib.Core.Path.{◌≡◌, refl, sym, ap, ◌∙◌}
 use native.Mathlib.Nat.{mod-lt, mod-eq_of_lt}
 use native.Mathlib.Omega.{arith}

@@ -1,5 +1,5 @@
 -- The loop keeps: the next symbol from `f` on is the one from the start on.
-use Prim.Native.Nat.{◌-◌, ◌+◌}
+use Prim.Native.Nat.{◌+◌}
 use mathlib.Core.Path.{refl, sym, ap, ◌∙◌}
 use native.Mathlib.Omega.{arith}
 use Rattle.terms.specs.Signature.{symbol_of}

@@ -1,6 +1,5 @@
 -- The loop keeps: what was kept, and what cancelling what is ahead leaves, is what cancelling all leaves.
 use native.Mathlib.Omega.{arith}
-use Prim.Native.Nat.{◌-◌}
 use Rattle.equivalence.proofs.CancelLaws.{cancelling-start, cancelling-kept, cancelling-spent, cancelling-done}
 use Rattle.equivalence.proofs.cancel.cancel.Goals as goal
 

@@ -1,7 +1,6 @@
 -- The cycle of the AC-equivalence test: what each member needs is shown in a file of its own.
 use native.Mathlib.Omega.{arith}
 use mathlib.Core.Path.{refl, ◌∙◌, sym, ap}
-use Prim.Native.Nat.{◌-◌}
 use Rattle.equivalence.proofs.StepLaws.{step-some, step-next, step-own}
 use Rattle.equivalence.proofs.RemovalLaws.{removed-offsets}
 use Rattle.equivalence.proofs.AlikeLaws.{cancelled-none, cancelled-own, cancelled-absent, cancelled-more, equivalent-keys, keys-roots, equivalent-elements, inner-left, inner-right, equivalent-rows, ac-small, equivalent-leaves, rows_none, rows-unlike, rows_more, rows-one}
@@ -9,9 +8,7 @@ use Rattle.equivalence.proofs.ElementLaws.{elements-few}
 use Rattle.symbols.specs.Table.{signature_of}
 use Rattle.equivalence.specs.Offsets.{elements_alike}
 use Rattle.equivalence.proofs.OffsetLaws.{offsets-own}
-use mathlib.Core.Bool.{false}
 use borrow.Author.Count.{below_more}
-use borrow.Author.Tests.{eqb-true}
 use Rattle.equivalence.proofs.equivalence.+cancels_equivalent_flattenings_equivalent_partner_rows_equivalent.Goals as goal
 
 pub cancels-loop-owed-init : goal.cancels-loop-owed-init

@@ -1,7 +1,6 @@
 -- The loop keeps: the elements listed, with those of the terms ahead, are the elements of all. A node of f is opened,
 -- any other is an element.
 use native.Mathlib.Omega.{arith}
-use Prim.Native.Nat.{◌-◌}
 use Rattle.equivalence.proofs.StepLaws.{step-some}
 use Rattle.equivalence.proofs.ElementLaws.{listing_start, listing-own, listing-room, listing-other, listing-done}
 use Rattle.equivalence.proofs.flatten.elements.Goals as goal

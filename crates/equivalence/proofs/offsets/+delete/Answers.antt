@@ -1,7 +1,6 @@
 -- What comes after the index moves down by one, and the last of the m is no longer counted.
 use native.Mathlib.Omega.{arith}
 use mathlib.Core.Path.{◌∙◌, refl}
-use Prim.Native.Nat.{◌-◌}
 use lib.ListN.{length-set}
 use Rattle.equivalence.proofs.OffsetLaws.{delete-last, delete-more}
 use Rattle.equivalence.proofs.offsets.+delete.Goals as goal

@@ -5,9 +5,6 @@ use Rattle.symbols.specs.Table.{signature_of}
 use Rattle.equivalence.specs.Offsets.{terms_at}
 use Rattle.equivalence.proofs.OffsetLaws.{offsets-own}
 use Rattle.extensions.proofs.CoverLaws.{left-sum, multiset_outcome-equal, multiset_outcome-short, multiset_outcome-above, multiset_outcome-not, above-none, above_at, covered-all, covered-not, search-start, search-none, search-within, search-more}
-use mathlib.Core.Bool.{true}
-use Prim.Native.Nat.{◌-◌}
-use borrow.Author.Rules.{rules}
 use borrow.Author.Count.{below_more}
 use Rattle.extensions.proofs.MeasureLaws.{offset-size, inner-rows, inner-nodes, inner-elements, elements-sum, next-total}
 use Rattle.extensions.proofs.GreaterLaws.{at-weight, at-differing, at-variable, at-elements, at_rows, greater-oftener}

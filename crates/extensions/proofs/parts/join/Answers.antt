@@ -1,7 +1,6 @@
 -- The loop keeps: the first x of the second list stand after the first list.
 use native.Mathlib.Omega.{arith}
 use mathlib.Core.Path.{◌≡◌}
-use Prim.Native.Nat.{◌-◌}
 use Rattle.extensions.proofs.SplitLaws.{joined-none, joined-more}
 use Rattle.extensions.proofs.parts.join.Goals as goal
 

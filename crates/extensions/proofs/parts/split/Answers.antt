@@ -1,7 +1,6 @@
 -- The loop keeps: the first k elements are split by their roots.
 use native.Mathlib.Omega.{arith}
 use mathlib.Core.Path.{◌≡◌}
-use Prim.Native.Nat.{◌-◌}
 use Rattle.extensions.proofs.SplitLaws.{split-start, split-variable, split-above, split_below, split_level}
 use Rattle.extensions.proofs.parts.split.Goals as goal
 

@@ -1,6 +1,5 @@
 -- The loop keeps: the rules before `i` are read, counted and listed.
 use mathlib.Core.Path.{refl, ap, ◌∙◌}
-use Prim.Native.Nat.{◌-◌}
 use native.Mathlib.Omega.{arith}
 use lib.ListN.{length, set, length-set}
 use mir.Syntax.{w64}

@@ -2,7 +2,6 @@
 -- the masks of a sum.
 use native.Mathlib.Omega.{arith}
 use mathlib.Core.Path.{sym, ◌∙◌}
-use Prim.Native.Nat.{◌-◌}
 use Rattle.matching.proofs.AgendaLaws.{same_nodes, nodes-then, in-keys}
 use Rattle.matching.proofs.FollowLaws.{searched-end, searched-clash, searched-arguments, searched-divided, taken-all, taken_own, dividing}
 use Rattle.matching.proofs.DividingLaws.{dividing-piece, dividing-next, divided-none, divided-found, divided-next}

@@ -1,6 +1,5 @@
 -- The first words are compared, and then the others; what is left falls.
 use native.Mathlib.Omega.{arith}
-use Prim.Native.Nat.{◌-◌}
 use Rattle.pieces.proofs.SameLaws.{same_none, same_first, same_more}
 use Rattle.pieces.proofs.comparison.+same_words.Goals as goal
 

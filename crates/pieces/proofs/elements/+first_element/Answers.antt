@@ -1,7 +1,6 @@
 -- A node of f is opened; an element that the lowest bit of the mask does not take is passed over. The offset rises.
 use native.Mathlib.Omega.{arith}
 use mathlib.Core.Path.{refl}
-use Prim.Native.Nat.{◌-◌}
 use Rattle.pieces.proofs.PutLaws.{owed-some, masked-own, first-own, masked-next, first-here, first-later, part-some}
 use Rattle.pieces.proofs.elements.+first_element.Goals as goal
 

@@ -1,6 +1,5 @@
 -- A symbol is stored, and a variable's piece put; the words of the pattern that are left fall.
 use native.Mathlib.Omega.{arith}
-use Prim.Native.Nat.{◌-◌}
 use lib.ListN.{length-set}
 use Rattle.pieces.proofs.PieceLaws.{instance-none, word-inside, instance-next, instance-symbol, variable-small, is-piece, piece-room, instance-after, instance-variable}
 use Rattle.pieces.proofs.instances.+put_instance.Goals as goal

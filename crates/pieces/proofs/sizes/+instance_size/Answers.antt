@@ -1,6 +1,5 @@
 -- A symbol counts one, a variable what its piece has; the words of the pattern that are left fall.
 use native.Mathlib.Omega.{arith}
-use Prim.Native.Nat.{◌-◌}
 use Rattle.pieces.proofs.PieceLaws.{word-inside, filled_next, size_none, size-symbol, size-variable, variable-small, is-piece}
 use Rattle.pieces.proofs.sizes.+instance_size.Goals as goal
 

@@ -1,6 +1,5 @@
 -- As the sum is put: a node of f is opened, any other is an element. The offset rises.
 use native.Mathlib.Omega.{arith}
-use Prim.Native.Nat.{◌-◌}
 use Rattle.pieces.proofs.PutLaws.{owed-some, masked-own, sum-own, masked-next, sum-off, part-fits, part-some, same_size, size_none, size-one, size-on}
 use Rattle.pieces.proofs.sizes.+sum_size.Goals as goal
 

@@ -1,6 +1,5 @@
 -- A node of f is opened; any other is an element, which the lowest bit of the mask takes or not. The offset rises.
 use native.Mathlib.Omega.{arith}
-use Prim.Native.Nat.{◌-◌}
 use lib.ListN.{length-set}
 use Rattle.pieces.proofs.PutLaws.{owed-some, masked-own, sum-own, masked-next, sum-off, part-fits, part-some, one-fits, on_fits, put_one, put_on, put_same, put-none}
 use Rattle.pieces.proofs.sums.+put_sum.Goals as goal

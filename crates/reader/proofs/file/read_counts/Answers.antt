@@ -9,7 +9,6 @@ use Rattle.reader.specs.File.{counts_reader}
 use Rattle.reader.proofs.SourceLaws.{tested-field, reached-field, w0-stands, room-le}
 use Rattle.reader.proofs.FileLaws.{head-answer}
 use Rattle.bits.specs.Cursor.{told}
-use borrow.Author.Rules.{rules}
 use Rattle.reader.proofs.file.read_counts.Goals as goal
 
 pub returns-in_default : goal.returns-in_default

@@ -1,6 +1,5 @@
 -- The loop keeps: the rules so far are read, and their words stored.
 use mathlib.Core.Path.{refl, ◌∙◌}
-use Prim.Native.Nat.{◌-◌}
 use native.Mathlib.Omega.{arith}
 use Rattle.format.specs.Reading.{bit_source}
 use Rattle.reader.proofs.RuleLaws.{so-far-none, so-far-fault, so_far_more, so-far-done}

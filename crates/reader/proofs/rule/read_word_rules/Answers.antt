@@ -2,7 +2,6 @@
 use native.Mathlib.Omega.{arith}
 use mathlib.Core.List.{[], ◌∷◌, ◌++◌}
 use mathlib.Core.Path.{sym, ap, ◌∙◌}
-use Prim.Native.Nat.{◌-◌, ◌+◌}
 use Rattle.format.specs.Reading.{word_source}
 use Rattle.format.specs.Format.{Sides, rule_reader}
 use Rattle.answers.specs.Answer.{end_of}

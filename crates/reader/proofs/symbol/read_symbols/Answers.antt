@@ -4,7 +4,6 @@ use native.Mathlib.Omega.{arith}
 use Rattle.symbols.proofs.EntryLaws.{table-some}
 use Rattle.bits.specs.Cursor.{told}
 use Rattle.reader.proofs.SymbolLaws.{symbols-headed}
-use borrow.Author.Rules.{rules}
 use Rattle.reader.proofs.symbol.read_symbols.Goals as goal
 
 pub put_header-requires : goal.put_header-requires

@@ -1,6 +1,5 @@
 -- The loop keeps: what is stored for the words before u is what they count, and the others are as they were.
 use mathlib.Core.Path.{◌≡◌, ◌∙◌}
-use Prim.Native.Nat.{◌-◌}
 use native.Mathlib.Omega.{arith}
 use Rattle.symbols.specs.Table.{signature_of}
 use Rattle.weights.proofs.TripleLaws.{triple-length}

@@ -1,6 +1,5 @@
 -- What is stored for the word has its coefficients as digits, and as many as it has arguments; two of them are stored
 -- at once.
-use Prim.Native.Nat.{◌-◌}
 use native.Mathlib.Omega.{arith}
 use lib.ListN.{length-set}
 use Rattle.symbols.specs.Table.{signature_of}

@@ -1,7 +1,7 @@
 -- The loop keeps: the stack, the sum and what is stored are those before offset k. A product is at most the limit, so
 -- the sum is far below 2 to the power of 64; over all words it is near the weight.
 use mathlib.Core.Path.{◌≡◌, refl, ap, ◌∙◌}
-use Prim.Native.Nat.{◌-◌, ◌<◌}
+use Prim.Native.Nat.{◌<◌}
 use native.Mathlib.Omega.{arith}
 use lib.ListN.{length, replicate}
 use Rattle.symbols.specs.Table.{signature_of}

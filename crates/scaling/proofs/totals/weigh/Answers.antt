@@ -1,6 +1,5 @@
 -- The loop keeps: the stack and the sum are those before offset k. Over all words the sum is near the weight.
 use mathlib.Core.Path.{◌≡◌, refl, ap, ◌∙◌}
-use Prim.Native.Nat.{◌-◌}
 use native.Mathlib.Omega.{arith}
 use lib.ListN.{length, replicate}
 use Rattle.symbols.specs.Table.{signature_of}

@@ -1,6 +1,6 @@
 -- The loop keeps: each count is that of the words from i to before k. It is below the limit, as the side's weight is.
 use mathlib.Core.Path.{◌≡◌, refl}
-use Prim.Native.Nat.{◌-◌, ◌<◌}
+use Prim.Native.Nat.{◌<◌}
 use native.Mathlib.Omega.{arith}
 use lib.ListN.{length, length-set}
 use Rattle.symbols.specs.Table.{signature_of}

@@ -1,6 +1,5 @@
 -- The loop keeps: the first from x on is the first of all.
 use mathlib.Core.Path.{refl, ◌∙◌}
-use Prim.Native.Nat.{◌-◌}
 use native.Mathlib.Omega.{arith}
 use Rattle.scaling.proofs.CountLaws.{below-product, more-step, more-found, more-none}
 use Rattle.scaling.proofs.variables.first_more.Goals as goal

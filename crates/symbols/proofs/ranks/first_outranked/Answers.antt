@@ -1,6 +1,5 @@
 -- The loop keeps: no symbol before `f` is too low.
 use mathlib.Core.Path.{sym}
-use Prim.Native.Nat.{◌-◌}
 use native.Mathlib.Omega.{arith}
 use Rattle.symbols.proofs.RankLaws.{searched-none, searched-found, searched-more, searched-done}
 use Rattle.symbols.proofs.ranks.first_outranked.Goals as goal

@@ -1,7 +1,6 @@
 -- The loop keeps: none before `g` has a higher rank.
 use mathlib.Core.Path.{sym}
 use native.Mathlib.Omega.{arith}
-use Prim.Native.Nat.{◌-◌}
 use Rattle.symbols.proofs.RankLaws.{unranked-none, unranked-found, unranked-more, unranked-done}
 use Rattle.symbols.proofs.ranks.is_outranked.Goals as goal
 

@@ -1,6 +1,5 @@
 -- The loop keeps: what the variables below the word at hand add is stored, and nothing else has changed.
 use mathlib.Core.Path.{◌≡◌, refl, sym, ◌∙◌}
-use Prim.Native.Nat.{◌-◌}
 use native.Mathlib.Omega.{arith}
 use lib.ListN.{length-set}
 use Rattle.symbols.specs.Table.{signature_of}

@@ -1,6 +1,5 @@
 -- The loop keeps: the weights of the first i symbols are stored, and nothing else has changed.
 use mathlib.Core.Path.{◌≡◌}
-use Prim.Native.Nat.{◌-◌}
 use native.Mathlib.Omega.{arith}
 use lib.ListN.{length-set}
 use Rattle.symbols.specs.Table.{signature_of}

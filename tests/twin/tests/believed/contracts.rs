@@ -10,7 +10,7 @@ pub const OPERATIONS: [(&str, &str); 14] = [
     ("crates/comparing/src/lib.rt", "compare"),
     ("crates/picking/src/lib.rt", "greater_side"),
     ("crates/picking/src/lib.rt", "greater_part"),
-    ("crates/comparing/src/variables.rt", "oftener"),
+    ("crates/comparing/src/oftenness.rt", "oftener"),
     ("crates/hashing/src/lib.rt", "fingerprint"),
     ("crates/enumerating/src/lib.rt", "count"),
     ("crates/enumerating/src/lib.rt", "list"),

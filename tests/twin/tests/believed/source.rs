@@ -24,8 +24,8 @@ impl Tree {
             let entry = entry.unwrap();
             let path = format!("{folder}/{}", entry.file_name().to_str().unwrap());
             if entry.file_type().unwrap().is_dir() {
-                // What a check or a build left is no text of the repository.
-                if entry.file_name() != "out" {
+                // What a check or a build left in `crates/NAME/out` is no text of the repository.
+                if !(path.ends_with("/out") && path.matches('/').count() == 2) {
                     self.add_folder(&path);
                 }
             } else if path.ends_with(".rt") || path.ends_with(".antt") {

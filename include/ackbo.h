@@ -31,9 +31,9 @@
    ackbo_text.h has names and words for refusals and marks, and the limits; docs/MARKS.md says what each means.
    ackbo_sheet.h finds the terms of an opened book, and the margins of its rules.
 
-   Stack, in KB of 1,000 bytes, at most, as tests/stack measures it: ackbo_decode 118, ackbo_encode 2, ackbo_convert
-   225, ackbo_compare 66, ackbo_pick 66, ackbo_fingerprint 8, ackbo_oftener 13, ackbo_count 6, ackbo_list 7, ackbo_mark
-   69, ackbo_page 77, ackbo_turn 68; that of ackbo_decode and ackbo_convert for every book, that of comparing where AC
+   Stack, in KB of 1,000 bytes, at most, as tests/stack measures it: ackbo_decode 110, ackbo_encode 2, ackbo_convert
+   217, ackbo_compare 57, ackbo_pick 57, ackbo_fingerprint 8, ackbo_oftener 13, ackbo_count 6, ackbo_list 7, ackbo_mark
+   61, ackbo_page 69, ackbo_turn 60; that of ackbo_decode and ackbo_convert for every book, that of comparing where AC
    symbols nest 63 deep, the deepest that 128 nodes allow. */
 #ifndef ACKBO_H
 #define ACKBO_H

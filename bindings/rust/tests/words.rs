@@ -109,11 +109,12 @@ fn the_documents_examples_have_their_marks() {
 fn the_proved_codes_have_names() {
     let rows = refusals();
     let source = text("crates/format/src/lib.rt");
-    let codes =
-        source.lines().filter_map(|line| line.strip_prefix("pub const ")?.strip_suffix(';')?.split_once(": u8 = "));
-    let codes: Vec<_> = codes.collect();
+    let codes = value(&source, "pub enum ErrorCode {", "}");
+    let codes: Vec<_> =
+        codes.lines().filter_map(|line| line.trim().strip_suffix(',')?.split_once(" = ")).collect();
     assert!(codes.len() >= 18);
     for (name, number) in codes {
+        let name = screaming(name);
         let row = rows.iter().find(|row| row.1 == name).unwrap_or_else(|| panic!("{name} has a row"));
         assert_eq!(row.0.to_string(), number, "{name}");
     }

@@ -5,7 +5,7 @@
 --     fingerprinted-small                              of a fingerprint, and of an error's offset
 --     counted-small, listed_small                      of a number of terms or of words, and of an error's offset
 --     paged-small                                      of the bytes of a page, and of an error's offset
---     marked-small                                     of the counts and the score, and of an error's offset
+--     marked-small, most-small                          of the counts and the score, and of an error's offset
 use mathlib.Core.List.{List, flatten}
 use mathlib.Core.Path.{◌≡◌, refl, ◌∙◌}
 use mathlib.Core.Bool.{Bool, true, false}
@@ -38,7 +38,7 @@ use Rattle.operations.specs.Replies.Reply.{accepted, refused}
 use Rattle.format.specs.Statements.IsRead.{from_bytes}
 use Rattle.operations.specs.Coding.{write, decoded, encoded}
 use Rattle.operations.specs.Converting.{converted}
-use Rattle.boundary.specs.Numbers.{Small, number_of, count_of, words_of, terms_of}
+use Rattle.boundary.specs.Numbers.{Small, number_of, count_of, words_of, terms_of, most_of}
 use Rattle.format.proofs.FaultLaws.{fault-small}
 use Rattle.format.proofs.Theorems.{readable-well-formed, read-term-well-formed, faults-within}
 use Rattle.operations.specs.Inputs.{TermReader, Inputs, read_terms, read_inputs}
@@ -248,16 +248,8 @@ marked-small bytes marks m h =
 rule-marks : (file : RuleFile) → length (marks_of (system_of file)) ≡ length file.rules
 rule-marks file = length-map (system_of file).rules _ ∙ length-map file.rules _
 
-pub rules-small : (file : RuleFile) → length file.rules < 1024 → Small (summary_of (marks_of (system_of file))).rules
-rules-small file h = omega (arith, rule-marks file)
-
-pub decreasing-small : (file : RuleFile) → length file.rules < 1024 →
-    Small (summary_of (marks_of (system_of file))).decreasing
-decreasing-small file h = omega (arith, rule-marks file, choose-length is_decreasing (marks_of (system_of file)))
-
-pub score-small : (file : RuleFile) → length file.rules < 1024 →
-    Small (summary_of (marks_of (system_of file))).score
-score-small file h =
+pub most-small : (file : RuleFile) → length file.rules < 1024 → Small (most_of (summary_of (marks_of (system_of file))))
+most-small file h =
     let marks = marks_of (system_of file) in
     omega (
       arith,

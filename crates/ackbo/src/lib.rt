@@ -15,11 +15,10 @@ ghost use Rattle.operations.specs.Enumerating.{counted, listed};
 ghost use Rattle.operations.specs.Marking.{marked};
 ghost use Rattle.operations.specs.Paging.{paged};
 ghost use Rattle.operations.specs.Boundary.{code_of, values_of};
-ghost use Rattle.operations.specs.Boundary.{number_values, comparison_values, side_values, count_values};
+ghost use Rattle.operations.specs.Boundary.{number_values, comparison_values, side_values, optional_values};
 ghost use Rattle.operations.specs.Boundary.{summary_values};
 
-use boundary::{Values, put_comparison, put_error, put_number, put_side, put_summary, put_terms};
-use operations::{CompareReply, CountReply, MarkReply, PickReply};
+use boundary::{Values, put};
 
 #[unsafe(no_mangle)]
 pub extern "C" fn ackbo_decode(book: &[u8], words: &mut [u16], reply: &mut Values) -> u8
@@ -28,7 +27,7 @@ pub extern "C" fn ackbo_decode(book: &[u8], words: &mut [u16], reply: &mut Value
         ≡ sets reply.old 0 (values_of number_values (decoded book.now words.old).reply) }
     ensures words_after { words.new ≡ (decoded book.now words.old).output }
 {
-    put_number(reply, decoder::decode(book, words))
+    put(reply, decoder::decode(book, words))
 }
 
 #[unsafe(no_mangle)]
@@ -38,7 +37,7 @@ pub extern "C" fn ackbo_encode(words: &[u16], book: &mut [u8], reply: &mut Value
         ≡ sets reply.old 0 (values_of number_values (encoded words.now book.old).reply) }
     ensures book_after { book.new ≡ (encoded words.now book.old).output }
 {
-    put_number(reply, encoder::encode(words, book))
+    put(reply, encoder::encode(words, book))
 }
 
 #[unsafe(no_mangle)]
@@ -48,7 +47,7 @@ pub extern "C" fn ackbo_convert(book: &[u8], out: &mut [u8], reply: &mut Values)
         ≡ sets reply.old 0 (values_of number_values (converted book.now out.old).reply) }
     ensures out_after { out.new ≡ (converted book.now out.old).output }
 {
-    put_number(reply, converter::convert(book, out))
+    put(reply, converter::convert(book, out))
 }
 
 #[unsafe(no_mangle)]
@@ -58,10 +57,7 @@ pub extern "C" fn ackbo_compare(book: &[u8], left: &[u16], right: &[u16], reply:
         ≡ sets reply.old 0
         (values_of comparison_values (compared book.now left.now right.now)) }
 {
-    match comparing::compare(book, left, right) {
-        CompareReply::Accepted(comparison) => put_comparison(reply, comparison),
-        CompareReply::Refused(error) => put_error(reply, error.code, error.input, error.offset),
-    }
+    put(reply, comparing::compare(book, left, right))
 }
 
 #[unsafe(no_mangle)]
@@ -71,10 +67,7 @@ pub extern "C" fn ackbo_pick(book: &[u8], left: &[u16], right: &[u16], reply: &m
         ≡ sets reply.old 0
         (values_of side_values (picked book.now left.now right.now)) }
 {
-    match picking::greater_side(book, left, right) {
-        PickReply::Accepted(side) => put_side(reply, side),
-        PickReply::Refused(error) => put_error(reply, error.code, error.input, error.offset),
-    }
+    put(reply, picking::greater_side(book, left, right))
 }
 
 #[unsafe(no_mangle)]
@@ -84,7 +77,7 @@ pub extern "C" fn ackbo_oftener(book: &[u8], left: &[u16], right: &[u16], reply:
         ≡ sets reply.old 0
         (values_of number_values (oftener book.now left.now right.now)) }
 {
-    put_number(reply, comparing::oftener(book, left, right))
+    put(reply, comparing::oftener(book, left, right))
 }
 
 #[unsafe(no_mangle)]
@@ -93,18 +86,15 @@ pub extern "C" fn ackbo_fingerprint(book: &[u8], term: &[u16], reply: &mut Value
     ensures reply_after { reply.new
         ≡ sets reply.old 0 (values_of number_values (fingerprinted book.now term.now)) }
 {
-    put_number(reply, hashing::fingerprint(book, term))
+    put(reply, hashing::fingerprint(book, term))
 }
 
 #[unsafe(no_mangle)]
 pub extern "C" fn ackbo_count(book: &[u8], n: usize, reply: &mut Values) -> u8
     ensures value { result ≡ code_of (counted book.now n) }
-    ensures reply_after { reply.new ≡ sets reply.old 0 (values_of count_values (counted book.now n)) }
+    ensures reply_after { reply.new ≡ sets reply.old 0 (values_of optional_values (counted book.now n)) }
 {
-    match enumerating::count(book, n) {
-        CountReply::Accepted(count) => put_terms(reply, count),
-        CountReply::Refused(error) => put_error(reply, error.code, error.input, error.offset),
-    }
+    put(reply, enumerating::count(book, n))
 }
 
 #[unsafe(no_mangle)]
@@ -114,7 +104,7 @@ pub extern "C" fn ackbo_list(book: &[u8], words: &mut [u16], n: usize, reply: &m
         ≡ sets reply.old 0 (values_of number_values (listed book.now words.old n).reply) }
     ensures words_after { words.new ≡ (listed book.now words.old n).output }
 {
-    put_number(reply, enumerating::list(book, words, n))
+    put(reply, enumerating::list(book, words, n))
 }
 
 #[unsafe(no_mangle)]
@@ -124,10 +114,7 @@ pub extern "C" fn ackbo_mark(book: &[u8], marks: &mut [u8], reply: &mut Values) 
         ≡ sets reply.old 0 (values_of summary_values (marked book.now marks.old).reply) }
     ensures marks_after { marks.new ≡ (marked book.now marks.old).output }
 {
-    match marking::mark::mark(book, marks) {
-        MarkReply::Accepted(file) => put_summary(reply, file),
-        MarkReply::Refused(error) => put_error(reply, error.code, error.input, error.offset),
-    }
+    put(reply, marking::mark::mark(book, marks))
 }
 
 #[unsafe(no_mangle)]
@@ -137,5 +124,5 @@ pub extern "C" fn ackbo_page(book: &[u8], page: &mut [u8], reply: &mut Values) -
         ≡ sets reply.old 0 (values_of number_values (paged book.now page.old).reply) }
     ensures page_after { page.new ≡ (paged book.now page.old).output }
 {
-    put_number(reply, paging::page(book, page))
+    put(reply, paging::page(book, page))
 }

@@ -1,11 +1,10 @@
-// A turn over jobs for C: the function over the lent list.
+// A turn over jobs for C.
 ghost use Rattle.std.specs.Prelude.{◌≡◌};
 ghost use Rattle.std.proofs.lemmas.List.Edits.{sets};
 ghost use Rattle.operations.specs.Turns.{turned};
-ghost use Rattle.operations.specs.Boundary.{code_of, values_of, turn_values};
+ghost use Rattle.operations.specs.Boundary.{code_of, values_of, optional_values};
 
-use boundary::Values;
-use boundary::turn::put_turn;
+use boundary::{Values, put};
 use operations::Job;
 
 #[unsafe(no_mangle)]
@@ -21,18 +20,7 @@ pub extern "C" fn ackbo_turn(
         × (marks.new ≡ (turned jobs.old buffer.now marks.old last).marks)
         × (reply.new
         ≡ sets reply.old 0
-        (values_of turn_values (turned jobs.old buffer.now marks.old last).reply)) }
+        (values_of optional_values (turned jobs.old buffer.now marks.old last).reply)) }
 {
-    let n = jobs.len();
-    let mut s = scheduling::begin(n, last);
-    let mut i = 0;
-    while i < n {
-        s = scheduling::look(s, i, jobs[i], buffer);
-        i = i + 1;
-    }
-    let t = put_turn(s, buffer, marks, reply);
-    if t.index < n {
-        jobs[t.index].marked = t.marked;
-    }
-    t.code
+    put(reply, boundary::take_turn(jobs, buffer, marks, last))
 }

@@ -1,34 +1,48 @@
--- What an answer of reading stands for.
-use Rattle.std.specs.Prelude.{cond, ℕ, ◌<◌, ◌≤◌, eqb}
+-- What the results of reading stand for.
+use Rattle.std.specs.Prelude.{ℕ, ◌<◌, ◌≤◌, Result, Ok, Err, Option, Some, None}
+use Rattle.format.specs.Errors.{number_of}
 use Rattle.format.specs.Reading.{Reading}
 use Rattle.format.specs.Reading.Reading.{got, fault}
-use Rattle.answers.specs.declared.Answer.{Answer}
-use Rattle.answers.specs.declared.Answer.TheVariants.{Got, Fault}
+use Rattle.format.specs.declared.ErrorCode.{ErrorCode}
+use Rattle.answers.specs.declared.Fault.{Fault}
+
+-- A value with the offset past what was read, or the fault.
+abbrev pub Answer : Type 0
+Answer = Result (ℕ × ℕ) Fault
 
 -- The reading of what a value stands for.
 abbrev pub reading_of : {A : Type 0} → (ℕ → A) → Answer → Reading A
-reading_of meaning (Got value next) = got (meaning value) next
-reading_of meaning (Fault offset code) = fault code offset
+reading_of meaning (Ok (value, next)) = got (meaning value) next
+reading_of meaning (Err f) = fault (number_of f.code) f.offset
 
--- The answer to a reading of which a number and the end are told.
-abbrev pub answered : {A : Type 0} → (A → ℕ) → Reading A → Answer
-answered value (got a next) = Got (value a) next
-answered value (fault code offset) = Fault offset code
+-- The reading of a number, as the answer tells it.
+abbrev pub reading : Answer → Reading ℕ
+reading answer = reading_of (λ v. v) answer
 
--- The answer to a reading of which the end alone is told.
-abbrev pub end_of : {A : Type 0} → Reading A → Answer
+-- A reading of which a number and the end are told.
+abbrev pub answered : {A : Type 0} → (A → ℕ) → Reading A → Reading ℕ
+answered value (got a next) = got (value a) next
+answered value (fault code offset) = fault code offset
+
+-- A reading of which the end alone is told, and what tells it.
+abbrev pub end_of : {A : Type 0} → Reading A → Reading ℕ
 end_of r = answered (λ _. 0) r
 
--- The value is below that, and an error's code has six bits and is not 0.
+abbrev pub ended : Result ℕ Fault → Reading ℕ
+ended (Ok next) = got 0 next
+ended (Err f) = fault (number_of f.code) f.offset
+
+-- The value is below that.
 abbrev pub Below : ℕ → Answer → Type 0
-Below bound (Got value next) = value < bound
-Below bound (Fault offset code) = (0 < code) × (code < 64)
+Below bound (Ok (value, next)) = value < bound
+Below bound (Err f) = Unit {0}
 
 -- The value is at most that, and the end of what was read by that offset.
 abbrev pub Within : ℕ → ℕ → Answer → Type 0
-Within most last (Got value next) = (value ≤ most) × (next ≤ last)
-Within most last (Fault offset code) = Unit {0}
+Within most last (Ok (value, next)) = (value ≤ most) × (next ≤ last)
+Within most last (Err f) = Unit {0}
 
--- The answer that an error's code, 0 where it is none, with a value and an offset beside it stand for.
-abbrev pub answer_of : ℕ → ℕ → ℕ → Answer
-answer_of code value offset = cond (eqb code 0) (Got value offset) (Fault offset code)
+-- The answer that an error, if there is one, with a value and an offset beside it stands for.
+abbrev pub answer_of : Option ErrorCode → ℕ → ℕ → Answer
+answer_of None value offset = Ok (value, offset)
+answer_of (Some code) value offset = Err (record { code = code; offset = offset })

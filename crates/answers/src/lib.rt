@@ -1,36 +1,51 @@
-// The answer of reading, a value or the first fault.
+// What is wrong where reading stops: the first fault.
 #![tactic(auto)]
 
 ghost use Rattle.std.specs.Prelude.{◌≡◌};
 ghost use Rattle.answers.specs.Answer.{answer_of};
+ghost use Rattle.format.specs.Errors.{number_of};
+ghost use Rattle.operations.specs.Enums.{error_of};
 
-// A value and the offset past what was read, or an error's code and offset. A value that is nothing is 0.
-#[derive(Clone, Copy)]
-pub enum Answer {
-    Got { value: usize, next: usize },
-    Fault { offset: usize, code: u8 },
+use format::ErrorCode;
+use operations::Error;
+
+// The number of an error's code, as callers in C have it.
+pub fn number(code: ErrorCode) -> u8
+    ensures { result ≡ number_of code }
+{
+    code as u8
 }
 
-// The answer of code that tells an error's code, 0 where it is none, with a value and an offset beside it.
-pub fn answer_of(code: u8, value: usize, offset: usize) -> Answer
-    ensures { result ≡ answer_of code value offset }
-{
-    if code == 0 {
-        return Answer::Got {
-            value,
-            next: offset,
-        };
+// An error's code, and the offset of what is at fault.
+#[derive(Clone, Copy, PartialEq, Eq)]
+pub struct Fault {
+    pub code: ErrorCode,
+    pub offset: usize,
+}
+
+impl Fault {
+    // The error that the fault is in an input.
+    pub fn in_input(self, input: u8) -> Error
+        ensures { error_of result ≡ record { code = number_of self.code; input = input; offset = self.offset } }
+    {
+        Error {
+            code: self.code,
+            input,
+            offset: self.offset,
+        }
     }
-    Answer::Fault { code, offset }
 }
 
-// The error of a refusal.
-pub fn refusal(code: u8, input: u8, offset: usize) -> operations::Error
-    ensures { result ≡ record { code = code; input = input; offset = offset } }
+// The answer of code that told an error, if there was one, with a value and an offset beside it.
+pub fn answer_of(
+    error: Option<ErrorCode>,
+    value: usize,
+    offset: usize,
+) -> Result<(usize, usize), Fault>
+    ensures { result ≡ answer_of error value offset }
 {
-    operations::Error {
-        code,
-        input,
-        offset,
+    match error {
+        None => Ok((value, offset)),
+        Some(code) => Err(Fault { code, offset }),
     }
 }

@@ -2,6 +2,7 @@
 --     ahead-empty, ahead-eight    it has none, or those of eight bytes
 --     ahead-nine, ahead_past      a node's nine bits are its first ones; past a node
 --     node-moved                  a node that was read, with the window past it
+use Rattle.std.specs.Prelude.{Ok}
 use mathlib.Core.Path.{◌≡◌, sym, ap, ◌∙◌}
 use mathlib.Core.List.{List}
 use Prim.Native.Nat.{ℕ, ◌+◌, ◌-◌, ◌*◌, ◌/◌, ◌%◌, ◌^◌, ◌≤◌, ◌<◌}
@@ -12,8 +13,7 @@ use Rattle.format.specs.Reading.{spelt, bit_at, bit_source}
 use Rattle.format.proofs.CodingLaws.{bit-lt, spelt-lt, spelt-add}
 use Rattle.format.proofs.PackingLaws.{shl-mod, shl-field, byte-spelt}
 use Rattle.bits.specs.declared.window.Window.{Window}
-use Rattle.bits.specs.declared.NodeRead.{NodeRead}
-use Rattle.bits.specs.declared.NodeRead.TheVariants as node
+use Rattle.bits.specs.declared.Node.{Node}
 use Rattle.bits.specs.Cursor.{node_reading, node_width, node_word, four, Ahead, NodeMoved}
 use Rattle.bits.proofs.NodeLaws.{width-by-tag, word_lt, node-got}
 
@@ -120,7 +120,7 @@ module _ (bytes : List ℕ) where
         rw e at (ahead-shifted width (omega arith))
 
   module _ (at n : ℕ) (nine : spelt bit at 9 ≡ n) (fits : at + node_width n ≤ 8 * length bytes) (w : Window)
-      (r : NodeRead) (e : r ≡ node.Got (node_word n) (record { at = at + node_width n }) w) where
+      (r : Node) (e : r ≡ record { word = node_word n; cursor = record { at = at + node_width n }; window = w }) where
     pub node-moved : Ahead bytes (at + node_width n) w →
-        (node_reading at r ≡ (bit_source bytes).node at) × NodeMoved bytes r
+        (node_reading at (Ok r) ≡ (bit_source bytes).node at) × NodeMoved bytes (Ok r)
     node-moved h = rw e (sym (node-got bytes at n nine fits), (word_lt n (rw nine at (lt at 9)), h))

@@ -1,27 +1,26 @@
 -- What the bit cursor's answers stand for.
-use Rattle.std.specs.Prelude.{◌≡◌, List, cond, ℕ, ◌+◌, ◌-◌, ◌*◌, ◌/◌, ◌^◌, ◌<◌, ◌≤◌, ltb, length, get_or}
+use Rattle.std.specs.Prelude.{◌≡◌, List, cond, ℕ, ◌+◌, ◌-◌, ◌*◌, ◌/◌, ◌^◌, ◌<◌, ◌≤◌, ltb, length, get_or, Result, Ok, Err}
 use Rattle.terms.specs.Term.{variable_count}
 use Rattle.terms.specs.Words.{first_variable}
 use Rattle.format.specs.Layout.{tag_width}
 use Rattle.format.specs.Reading.{Reading, Node, spelt, bit_at}
 use Rattle.format.specs.Reading.Reading.{got, fault}
-use Rattle.answers.specs.declared.Answer.{Answer}
-use Rattle.answers.specs.declared.Answer.TheVariants.{Got, Fault}
-use Rattle.bits.specs.declared.Read.{Read}
-use Rattle.bits.specs.declared.Read.TheVariants as read
-use Rattle.bits.specs.declared.NodeRead.{NodeRead}
-use Rattle.bits.specs.declared.NodeRead.TheVariants as node
+use Rattle.format.specs.Errors.{number_of}
+use Rattle.answers.specs.declared.Fault.{Fault}
+use Rattle.answers.specs.Answer.{Answer}
+use Rattle.bits.specs.declared.BitCursor.{BitCursor}
+use Rattle.bits.specs.declared.Node as bits
 use Rattle.bits.specs.declared.window.Window.{Window}
 
 -- The answer that tells the offset of the moved cursor.
-abbrev pub told : Read → Answer
-told (read.Got value cursor) = Got value cursor.at
-told (read.Fault offset code) = Fault offset code
+abbrev pub told : Result (ℕ × BitCursor) Fault → Answer
+told (Ok (value, cursor)) = Ok (value, cursor.at)
+told (Err f) = Err f
 
 -- The reading of a node at an offset; its number stands after its tag.
-abbrev pub node_reading : ℕ → NodeRead → Reading Node
-node_reading at (node.Got word cursor window) = got (record { word = word; offset = at + tag_width }) cursor.at
-node_reading at (node.Fault offset code) = fault code offset
+abbrev pub node_reading : ℕ → Result bits.Node Fault → Reading Node
+node_reading at (Ok n) = got (record { word = n.word; offset = at + tag_width }) n.cursor.at
+node_reading at (Err f) = fault (number_of f.code) f.offset
 
 -- The words of nodes: a symbol's is below 256, a variable's below 272.
 abbrev pub node_words : ℕ
@@ -46,7 +45,7 @@ pub record Ahead (bytes : List ℕ) (at : ℕ) (w : Window) : Type 0 where
   pub within : at + w.count ≤ 8 * length bytes
   pub same : w.bits / 2 ^ (64 - w.count) ≡ spelt (bit_at bytes) at w.count
 
--- The word is a node's, and the window has bits from the moved cursor on; an error's code has six bits and is not 0.
-abbrev pub NodeMoved : List ℕ → NodeRead → Type 0
-NodeMoved bytes (node.Got word cursor window) = (word < node_words) × Ahead bytes cursor.at window
-NodeMoved bytes (node.Fault offset code) = (0 < code) × (code < 64)
+-- The word is a node's, and the window has bits from the moved cursor on.
+abbrev pub NodeMoved : List ℕ → Result bits.Node Fault → Type 0
+NodeMoved bytes (Ok n) = (n.word < node_words) × Ahead bytes n.cursor.at n.window
+NodeMoved bytes (Err f) = Unit {0}

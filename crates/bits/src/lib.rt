@@ -2,18 +2,19 @@
 #![tactic(auto)]
 
 ghost use Rattle.std.specs.Prelude.{◌≡◌, ℕ, ◌+◌, ◌/◌, ◌^◌, ◌≤◌, length};
-ghost use Rattle.format.specs.Layout.{max_bytes};
 ghost use Rattle.format.specs.Reading.{bit_field, is_padding, bit_source};
-ghost use Rattle.answers.specs.Answer.{reading_of, answer_of, Below};
+ghost use Rattle.answers.specs.Answer.{reading, Below};
 ghost use Rattle.bits.specs.Cursor.{told, node_reading, NodeMoved, Ahead};
 
 use crate::cut::{byte_at, field_of, node_of};
-use answers::Answer;
-use format::FIELD_MISSING;
+use answers::Fault;
+use format::ErrorCode;
 
+mod book;
 mod cut;
 mod window;
 
+pub use crate::book::Book;
 pub use crate::window::Window;
 
 // Where reading stands: an offset in bits.
@@ -22,162 +23,119 @@ pub struct BitCursor {
     pub at: usize,
 }
 
-// A value and the moved cursor, or an error's code and offset.
+// A node's word, the cursor moved past the node, and the window there.
 #[derive(Clone, Copy)]
-pub enum Read {
-    Got { value: usize, cursor: BitCursor },
-    Fault { offset: usize, code: u8 },
-}
-
-// A node's word, the moved cursor and the window there, or an error's code and offset.
-#[derive(Clone, Copy)]
-pub enum NodeRead {
-    Got {
-        word: usize,
-        cursor: BitCursor,
-        window: Window,
-    },
-    Fault {
-        offset: usize,
-        code: u8,
-    },
-}
-
-// The answer that tells the offset of the cursor.
-pub fn told(read: Read) -> Answer
-    ensures { result ≡ told read }
-{
-    match read {
-        Read::Fault { code, offset } => Answer::Fault { code, offset },
-        Read::Got { value, cursor } => Answer::Got {
-            value,
-            next: cursor.at,
-        },
-    }
+pub struct Node {
+    pub word: usize,
+    pub cursor: BitCursor,
+    pub window: Window,
 }
 
 // What was read where an answer tells an offset: the cursor stands there.
-pub fn moved(answer: Answer) -> Read
+pub fn moved(answer: Result<(usize, usize), Fault>) -> Result<(usize, BitCursor), Fault>
     ensures { told result ≡ answer }
 {
-    match answer {
-        Answer::Fault { code, offset } => Read::Fault { code, offset },
-        Answer::Got { value, next } => {
-            let cursor = BitCursor { at: next };
-            Read::Got { value, cursor }
-        }
-    }
-}
-
-// What was read by code that tells an error's code, 0 where it is none, with a value and an offset beside it.
-pub fn read_of(code: u8, value: usize, offset: usize) -> Read
-    ensures { told result ≡ answer_of code value offset }
-{
-    if code == 0 {
-        let cursor = BitCursor { at: offset };
-        return Read::Got { value, cursor };
-    }
-    Read::Fault { code, offset }
+    let (value, next) = answer?;
+    Ok((value, BitCursor { at: next }))
 }
 
 impl BitCursor {
     // The field of that width here, where fewer than three bytes are left.
-    fn late_field(self, book: &[u8], width: usize) -> Read
-        requires { (length book.now ≤ max_bytes) × (width ≤ 16) }
-        ensures result_value { reading_of (λ (v : ℕ). v) (told result) ≡ bit_field book.now width self.at }
+    fn late_field(self, book: Book, width: usize) -> Result<(usize, BitCursor), Fault>
+        requires { width ≤ 16 }
+        ensures result_value { reading (told result) ≡ bit_field book.entry.bytes.now width self.at }
         ensures below { Below (2 ^ width) (told result) }
     {
         let at = self.at;
-        let code = FIELD_MISSING;
+        let code = ErrorCode::FieldMissing;
         let index = at / 8;
-        if book.len() < index + (at % 8 + width + 7) / 8 {
-            return Read::Fault { code, offset: at };
+        if book.bytes.len() < index + (at % 8 + width + 7) / 8 {
+            return Err(Fault { code, offset: at });
         }
-        field_of(crate::cut::gather(book, index), at, width)
+        Ok(field_of(crate::cut::gather(book.bytes, index), at, width))
     }
 
     // The field of that width here. Where three bytes are left its bits lie in them, and nothing else is tested.
-    pub fn field(self, book: &[u8], width: usize) -> Read
-        requires { (length book.now ≤ max_bytes) × (width ≤ 16) }
-        ensures result_value { reading_of (λ (v : ℕ). v) (told result) ≡ bit_field book.now width self.at }
+    pub fn field(self, book: Book, width: usize) -> Result<(usize, BitCursor), Fault>
+        requires { width ≤ 16 }
+        ensures result_value { reading (told result) ≡ bit_field book.entry.bytes.now width self.at }
         ensures below { Below (2 ^ width) (told result) }
     {
+        let bytes = book.bytes;
         let i = self.at / 8;
-        if book.len() <= i + 2 {
+        if bytes.len() <= i + 2 {
             return self.late_field(book, width);
         }
-        let three = book[i] as u32 * 65536 + book[i + 1] as u32 * 256 + book[i + 2] as u32;
-        field_of(three, self.at, width)
+        let three = bytes[i] as u32 * 65536 + bytes[i + 1] as u32 * 256 + bytes[i + 2] as u32;
+        Ok(field_of(three, self.at, width))
     }
 
     // The node here, in the last byte or past it.
-    fn late_node(self, book: &[u8]) -> NodeRead
-        requires { (length book.now ≤ max_bytes) × (length book.now ≤ self.at / 8 + 1) }
-        ensures result_value { node_reading self.at result ≡ (bit_source book.now).node self.at }
-        ensures node_moved { NodeMoved book.now result }
+    fn late_node(self, book: Book) -> Result<Node, Fault>
+        requires { length book.bytes.now ≤ self.at / 8 + 1 }
+        ensures result_value { node_reading self.at result ≡ (bit_source book.entry.bytes.now).node self.at }
+        ensures node_moved { NodeMoved book.entry.bytes.now result }
     {
         let at = self.at;
-        let code = FIELD_MISSING;
-        let end = 8 * book.len();
+        let code = ErrorCode::FieldMissing;
+        let end = 8 * book.bytes.len();
         if end <= at {
-            return NodeRead::Fault { code, offset: at };
+            return Err(Fault { code, offset: at });
         }
-        let nine = ((byte_at(book, at / 8) * 256) >> (7 - at % 8)) % 512;
+        let nine = ((byte_at(book.bytes, at / 8) * 256) >> (7 - at % 8)) % 512;
         if end - at < crate::cut::node_width(nine) {
             let offset = at + 1;
-            return NodeRead::Fault { code, offset };
+            return Err(Fault { code, offset });
         }
-        node_of(nine, nine / 256, at, Window::empty())
+        Ok(node_of(nine, nine / 256, at, Window::empty()))
     }
 
     // The node here, none of its bits at hand. Before the last byte they lie in two bytes, whatever it is.
-    fn far_node(self, book: &[u8]) -> NodeRead
-        requires { length book.now ≤ max_bytes }
-        ensures result_value { node_reading self.at result ≡ (bit_source book.now).node self.at }
-        ensures node_moved { NodeMoved book.now result }
+    fn far_node(self, book: Book) -> Result<Node, Fault>
+        ensures result_value { node_reading self.at result ≡ (bit_source book.entry.bytes.now).node self.at }
+        ensures node_moved { NodeMoved book.entry.bytes.now result }
     {
         let at = self.at;
         let index = at / 8;
-        if book.len() <= index + 1 {
+        if book.bytes.len() <= index + 1 {
             return self.late_node(book);
         }
-        let first = byte_at(book, index);
+        let first = byte_at(book.bytes, index);
         let after = 7 - at % 8;
-        let nine = ((first * 256 + byte_at(book, index + 1)) >> after) % 512;
-        node_of(nine, (first >> after) % 2, at, Window::empty())
+        let nine = ((first * 256 + byte_at(book.bytes, index + 1)) >> after) % 512;
+        Ok(node_of(nine, (first >> after) % 2, at, Window::empty()))
     }
 
     // The node here, from the window where its bits are at hand.
-    pub fn node(self, book: &[u8], window: Window) -> NodeRead
-        requires { (length book.now ≤ max_bytes) × Ahead book.now self.at window }
-        ensures result_value { node_reading self.at result ≡ (bit_source book.now).node self.at }
-        ensures node_moved { NodeMoved book.now result }
+    pub fn node(self, book: Book, window: Window) -> Result<Node, Fault>
+        requires { Ahead book.bytes.now self.at window }
+        ensures result_value { node_reading self.at result ≡ (bit_source book.entry.bytes.now).node self.at }
+        ensures node_moved { NodeMoved book.entry.bytes.now result }
     {
         let ahead = window.refilled(book, self.at);
         if ahead.count < 9 {
             return self.far_node(book);
         }
-        node_of(
+        Ok(node_of(
             (ahead.bits >> 55) as u32,
             (ahead.bits >> 63) as u32,
             self.at,
             ahead.past(),
-        )
+        ))
     }
 
     // Whether fewer than eight bits are left here, and all of them zeros.
-    pub fn is_padding(self, book: &[u8]) -> bool
-        requires { length book.now ≤ max_bytes }
-        ensures { result ≡ is_padding book.now self.at }
+    pub fn is_padding(self, book: Book) -> bool
+        ensures { result ≡ is_padding book.entry.bytes.now self.at }
     {
         let at = self.at;
-        let end = 8 * book.len();
+        let end = 8 * book.bytes.len();
         if end <= at {
             return true;
         }
         if 8 <= end - at {
             return false;
         }
-        byte_at(book, at / 8) % (1u32 << (end - at)) == 0
+        byte_at(book.bytes, at / 8) % (1u32 << (end - at)) == 0
     }
 }

@@ -1,7 +1,8 @@
 // The bits ahead of a cursor: a number of 64 bits that nodes are cut from.
 ghost use Rattle.std.specs.Prelude.{◌≡◌, List, ℕ, ◌+◌, ◌*◌, ◌/◌, ◌^◌, ◌<◌, ◌≤◌, length, get_or};
-ghost use Rattle.format.specs.Layout.{max_bytes};
 ghost use Rattle.bits.specs.Cursor.{node_width, four, Ahead};
+
+use crate::Book;
 
 // How many numbers of four bytes there are.
 const FOUR_BYTES: u64 = 0x1_0000_0000;
@@ -13,21 +14,13 @@ pub struct Window {
     pub count: usize,
 }
 
-// The byte at an index, which is there, as a number of 64 bits.
-fn wide_byte(book: &[u8], i: usize) -> u64
-    requires { i < length book.now }
-    ensures { (result ≡ get_or book.now i 0) × (result < 256) }
-{
-    book[i] as u64
-}
-
 // The four bytes from an index on as one number.
 fn four_at(book: &[u8], i: usize) -> u64
     requires { i + 4 ≤ length book.now }
     ensures { (result ≡ four book.now i) × (result < 2 ^ 32) }
 {
-    let two = wide_byte(book, i) * 256 + wide_byte(book, i + 1);
-    (two * 256 + wide_byte(book, i + 2)) * 256 + wide_byte(book, i + 3)
+    let two = u64::from(book[i]) * 256 + u64::from(book[i + 1]);
+    (two * 256 + u64::from(book[i + 2])) * 256 + u64::from(book[i + 3])
 }
 
 impl Window {
@@ -39,18 +32,18 @@ impl Window {
     }
 
     // The window at an offset, with more bits where it has fewer than nine and eight bytes are left to take them from.
-    pub fn refilled(self, book: &[u8], at: usize) -> Window
-        requires { (length book.now ≤ max_bytes) × Ahead book.now at self }
-        ensures { Ahead book.now at result }
+    pub fn refilled(self, book: Book, at: usize) -> Window
+        requires { Ahead book.bytes.now at self }
+        ensures { Ahead book.entry.bytes.now at result }
     {
         if 9 <= self.count {
             return self;
         }
         let index = at / 8;
-        if book.len() < index + 8 {
+        if book.bytes.len() < index + 8 {
             return self;
         }
-        let eight = four_at(book, index) * FOUR_BYTES + four_at(book, index + 4);
+        let eight = four_at(book.bytes, index) * FOUR_BYTES + four_at(book.bytes, index + 4);
         Window {
             bits: eight << (at % 8),
             count: 64 - at % 8,

@@ -1,4 +1,3 @@
 -- What the code of the boundary cites.
-pub mod NumberLaws
-pub mod ReplyLaws
+mod ReplyLaws
 pub mod TurnLaws

@@ -1,104 +1,94 @@
--- A turn at the boundary: what is stored after it, by what the search over all jobs has found.
---     turn-code, turn-values, turn-marks, turn-served, turn-none      what is stored is the definition's
---     turn_small                                       the numbers of its reply are below 2^63
---     put-served, put-idle, put_refused                the ends of the turn after a search
-use mathlib.Core.List.{List, [], ◌∷◌}
-use mathlib.Core.Path.{◌≡◌, refl, sym, ap}
-use Prim.Native.Nat.{ℕ, suc, ◌*◌, ◌≤◌, ◌<◌}
+-- A turn, by what the search over all jobs has found.
+--     all-searched          past the loop all jobs were looked at
+--     Turned, turned-by     the reply, the jobs and the marks are the definition's
+--     found-listed          the job that is served is one of the list, and its count grows
+--     turned-small          the numbers of its reply are below 2^63
+use mathlib.Core.List.{List}
+use mathlib.Core.Path.{◌≡◌, sym, ap, ◌∙◌}
+use Prim.Native.Nat.{ℕ, ◌*◌, ◌≤◌, ◌<◌}
 use native.Mathlib.Omega.{arith}
-use lib.IntN.{ℤ, pos}
-use lib.Dec.{leb}
 use lib.ListN
-use lib.Seq.{sets}
-use borrow.Author.Tests.{lt-ltb, le-ltb}
-use Rattle.multisets.proofs.Relations.{by_test, by_order}
-use Rattle.operations.specs.declared.Error.{Error}
+use lib.Dec.{leb}
+use Rattle.multisets.proofs.Relations.{by_test}
+use Rattle.std.specs.Prelude.{Option, Some, None}
 use Rattle.operations.specs.declared.Job.{Job}
-use Rattle.operations.specs.declared.Turn.{Turn}
-use Rattle.operations.specs.declared.Turn.TheVariants.{Served, Idle}
 use Rattle.operations.specs.Replies.{Reply}
-use Rattle.operations.specs.Replies.Reply.{accepted, refused}
-use Rattle.operations.specs.Boundary.{code_of, values_of, turn_values}
-use Rattle.operations.specs.Jobs.{job_marks}
+use Rattle.operations.specs.Replies.Reply.{accepted}
+use Rattle.operations.specs.Jobs.{max_jobs, job_marks}
 use Rattle.operations.specs.Turns.{turned}
+use Rattle.scheduling.specs.declared.Found.{Found}
 use Rattle.scheduling.specs.declared.Search.{Search}
-use Rattle.scheduling.specs.Search.{is_allowed, scanned, Ready}
-use Rattle.scheduling.specs.Run.{reply_of, marks_after, recounted}
+use Rattle.scheduling.specs.Search.{is_allowed, begun, scanned}
+use Rattle.scheduling.specs.Run.{served, index_reply, jobs_by, marks_after}
 use Rattle.scheduling.proofs.StandingLaws.{allowed-numbers, left-few}
-use Rattle.scheduling.proofs.ReplyLaws.{reply-served, scanned-replied, scanned-jobs, scanned-marks}
-use Rattle.boundary.specs.declared.turn.Stored.{Stored}
-use Rattle.boundary.specs.Numbers.{Small, number_of}
-use Rattle.boundary.specs.Turn.{index_of, stored_of, values_after}
+use Rattle.scheduling.proofs.SearchLaws.{by_option, end, scanned-ready, scanned-found, scanned-idle}
+use Rattle.scheduling.proofs.ReplyLaws.{served-next, scanned-replied, scanned-jobs, scanned-marks}
+use Rattle.boundary.specs.Numbers.{Small, number_of, terms_of}
 
--- ---- after the search over all jobs
+pub all-searched : (jobs : List Job) (buffer : List ℕ) (last i : ℕ) (s : Search) → ListN.length jobs ≤ i →
+    i ≤ ListN.length jobs → s ≡ scanned jobs buffer last i → s ≡ end jobs buffer last
+all-searched jobs buffer last i s low high e =
+    let n : i ≡ ListN.length jobs = omega arith in e ∙ ap (scanned jobs buffer last) n
 
 module _ (jobs : List Job) (buffer marks : List ℕ) (last : ℕ) where
-  abbrev found : Search
-  found = scanned jobs buffer last (ListN.length jobs)
+  -- What the search over all jobs has found, and the turn after it.
+  pub record Turned (r : Reply (Option Found)) (after : List ℕ) : Type 0 where
+    pub reply : index_reply r ≡ (turned jobs buffer marks last).reply
+    pub counted : jobs_by jobs r ≡ (turned jobs buffer marks last).jobs
+    pub marked : after ≡ (turned jobs buffer marks last).marks
 
-  abbrev stored : Stored
-  stored = stored_of found (ListN.length marks)
+  pub turned-by : (s : Search) (r : Reply (Option Found)) (after : List ℕ) → s ≡ end jobs buffer last →
+      r ≡ served s (ListN.length marks) → after ≡ marks_after s buffer marks → Turned r after
+  turned-by s r after found e m =
+      let same : r ≡ served (end jobs buffer last) (ListN.length marks) =
+      e ∙ ap (λ (t : Search). served t (ListN.length marks)) found in
+      record {
+        reply = ap index_reply same ∙ scanned-replied jobs buffer last marks;
+        counted = ap (jobs_by jobs) same ∙ scanned-jobs jobs buffer last marks;
+        marked = m ∙ ap (λ (t : Search). marks_after t buffer marks) found ∙ scanned-marks jobs buffer last marks;
+      }
 
-  pub turn-code : stored.code ≡ code_of (turned jobs buffer marks last).reply
-  unfolding stored_of
-  turn-code = ap code_of (scanned-replied jobs buffer last marks)
+  abbrev n : ℕ
+  n = ListN.length jobs
 
-  pub turn-values : (values : List ℤ) → values_after found (ListN.length marks) values ≡
-      sets values 0 (values_of turn_values (turned jobs buffer marks last).reply)
-  unfolding values_after
-  turn-values values =
-      ap (λ (r : Reply Turn). sets values 0 (values_of turn_values r)) (scanned-replied jobs buffer last marks)
+  end-next : (f : Found) → (end jobs buffer last).next ≡ Some f → (f.index < n) × (n ≤ max_jobs) × (f.job.marked < 1023)
+  unfolding begun
+  end-next f e =
+      by_test (is_allowed n last)
+      (λ ok. let (within, few) = allowed-numbers n last ok in
+      let F = scanned-found jobs buffer last within ok n (omega arith) in
+      let r = scanned-ready jobs buffer last f e in
+      (omega (arith, F.all, r.listed), few, (left-few buffer f.job r.unfinished).1))
+      λ bars. let idle : None ≡ Some f = rw (scanned-idle jobs buffer last bars n) at e in absurd (cc)
 
-  pub turn-marks : marks_after found buffer marks ≡ (turned jobs buffer marks last).marks
-  turn-marks = scanned-marks jobs buffer last marks
+  end-bad : (b : ℕ) → (end jobs buffer last).bad ≡ Some b → b < max_jobs
+  unfolding begun
+  end-bad b e =
+      by_test (is_allowed n last)
+      (λ ok. let (within, few) = allowed-numbers n last ok in
+      let F = scanned-found jobs buffer last within ok n (omega arith) in omega (arith, (F.first_bad b e).0))
+      λ bars. let idle : None ≡ Some b = rw (scanned-idle jobs buffer last bars n) at e in absurd (cc)
 
-  pub turn-served : stored.index < ListN.length jobs →
-      recounted jobs stored.index stored.marked ≡ (turned jobs buffer marks last).jobs
-  unfolding stored_of
-  turn-served h = let t = lt-ltb stored.index (ListN.length jobs) h in rw t at (scanned-jobs jobs buffer last marks)
+  pub found-listed : (s : Search) (f : Found) → s ≡ end jobs buffer last →
+      accepted (Some f) ≡ served s (ListN.length marks) → (f.index < n) × (n ≤ max_jobs) × (f.job.marked < 1023)
+  found-listed s f found e =
+      let same : served (end jobs buffer last) (ListN.length marks) ≡ accepted (Some f) =
+      ap (λ (t : Search). served t (ListN.length marks)) (sym found) ∙ sym e in
+      end-next f (served-next (end jobs buffer last) (ListN.length marks) (Some f) same).1
 
-  pub turn-none : ListN.length jobs ≤ stored.index → jobs ≡ (turned jobs buffer marks last).jobs
-  unfolding stored_of
-  turn-none h = let t = le-ltb stored.index (ListN.length jobs) h in rw t at (scanned-jobs jobs buffer last marks)
+  served-small : (s : Search) (room : ℕ) → ((b : ℕ) → s.bad ≡ Some b → b < max_jobs) →
+      ((f : Found) → s.next ≡ Some f → Small f.index) → Small (number_of terms_of (index_reply (served s room)))
+  unfolding served
+  served-small s room bad next =
+      by_test (is_allowed s.jobs s.last)
+      (λ may. by_option s.bad
+      (λ none. by_test (leb (job_marks * s.jobs) room)
+      (λ long. by_option s.next (λ e. rw (may, none, long, e) (omega arith)) λ f e. rw (may, none, long, e) (next f e))
+      λ short. rw (may, none, short) (omega arith))
+      λ b e. rw (may, e) (omega (arith, bad b e)))
+      λ bars. rw bars (omega arith)
 
--- ---- the turn after a search
-
-pub turn_small : (s : Search) (room : ℕ) → Small (number_of index_of (reply_of s room))
-unfolding reply_of
-turn_small s room =
-    by_test (is_allowed s.jobs s.last)
-    (λ may. let few = allowed-numbers s.jobs s.last may in
-    by_order s.bad s.jobs (λ h. rw (may, lt-ltb s.bad s.jobs h) (omega arith))
-    λ h. by_test (leb (job_marks * s.jobs) room)
-    (λ long. by_order s.next s.jobs
-    (λ g. rw (may, le-ltb s.bad s.jobs h, long, lt-ltb s.next s.jobs g) (omega arith))
-    λ g. rw (may, le-ltb s.bad s.jobs h, long, le-ltb s.next s.jobs g) (omega arith))
-    λ short. rw (may, le-ltb s.bad s.jobs h, short) (omega arith))
-    λ bars. rw bars (omega arith)
-
--- The count of a job that is served.
-pub served-count : (s : Search) (buffer : List ℕ) (room i : ℕ) → Ready s buffer →
-    accepted (Served i) ≡ reply_of s room → s.marked < 1023
-served-count s buffer room i ready e =
-    let (may, less, same) = reply-served s room i (sym e) in (left-few buffer _ (ready.unfinished less)).1
-
-module _ (s : Search) (room : ℕ) (values out : List ℤ) (code index count : ℕ) where
-  -- What the code has to show of what it hands back and of the values.
-  abbrev Ends : Type 0
-  Ends = (◌≡◌ {A = Stored} (record { code = code; index = index; marked = count }) (stored_of s room))
-      × (out ≡ values_after s room values)
-
-  pub put-served : accepted (Served index) ≡ reply_of s room → code ≡ 0 → count ≡ suc s.marked →
-      out ≡ sets values 0 (pos 1 ∷ pos index ∷ pos 0 ∷ []) → Ends
-  unfolding stored_of values_after
-  put-served e c m v = rw (← e, c, m) (refl, v)
-
-  pub put-idle : accepted Idle ≡ reply_of s room → code ≡ 0 → index ≡ s.jobs → count ≡ 0 →
-      out ≡ sets values 0 (pos 2 ∷ pos 0 ∷ pos 0 ∷ []) → Ends
-  unfolding stored_of values_after
-  put-idle e c i m v = rw (← e, c, i, m) (refl, v)
-
-  pub put_refused : (error : Error) → refused error ≡ reply_of s room → code ≡ error.code → index ≡ s.jobs →
-      count ≡ 0 → out ≡ sets values 0 (pos error.input ∷ pos error.offset ∷ pos 0 ∷ []) → Ends
-  unfolding stored_of values_after
-  put_refused error e c i m v = rw (← e, c, i, m) (refl, v)
+  pub turned-small : Small (number_of terms_of (turned jobs buffer marks last).reply)
+  turned-small =
+      rw (← scanned-replied jobs buffer last marks)
+      (served-small (end jobs buffer last) (ListN.length marks) end-bad λ f e. let k = end-next f e in omega (arith, k))

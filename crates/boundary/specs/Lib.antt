@@ -1,3 +1,2 @@
 -- What the boundary's own functions ask of a reply.
 pub mod Numbers
-pub mod Turn

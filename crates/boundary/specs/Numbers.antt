@@ -1,9 +1,8 @@
 -- The numbers of a reply that cross the boundary as signed ones.
-use Rattle.std.specs.Prelude.{ℕ, ◌<◌}
+use Rattle.std.specs.Prelude.{ℕ, max, ◌<◌, Option, Some, None}
 use Rattle.operations.specs.declared.GreaterSide.{GreaterSide}
 use Rattle.operations.specs.declared.GreaterSide.TheVariants.{Left, Right, Equivalent, Unrelated}
-use Rattle.operations.specs.declared.TermCount.{TermCount}
-use Rattle.operations.specs.declared.TermCount.TheVariants.{Exactly, More}
+use Rattle.operations.specs.declared.Summary.{Summary}
 use Rattle.operations.specs.Replies.{Reply}
 use Rattle.operations.specs.Replies.Reply.{accepted, refused}
 
@@ -26,7 +25,11 @@ words_of (Right n) = n
 words_of Equivalent = 0
 words_of Unrelated = 0
 
--- The number of terms; 0 where there are more than are counted.
-abbrev pub terms_of : TermCount → ℕ
-terms_of (Exactly n) = n
-terms_of More = 0
+-- The number, of terms or of a job; 0 where there is none.
+abbrev pub terms_of : Option ℕ → ℕ
+terms_of (Some n) = n
+terms_of None = 0
+
+-- The greatest of the counts and the score.
+abbrev pub most_of : Summary → ℕ
+most_of s = max s.rules (max s.decreasing s.score)

@@ -90,18 +90,11 @@ const EXAMPLE_6_6: [u16; 96] = [
     6, 6, 6, 6, 6, 2, 0, 2, 0, 2, 3, 1, 7, 8, 8, 0, 4, 9, 9, 0, 5, 10, 10, 0,
 ];
 
-// Shows example 6.6 with these ranks of p, q and r, and weights of d, e0, e1 and e2. The weight of symbol k is word
-// 4 * k + 6, its rank the next.
-fn show_clause(
-    rt: &impl Print,
-    p: u16,
-    q: u16,
-    r: u16,
-    d: u16,
-    e0: u16,
-    e1: u16,
-    e2: u16,
-) -> io::Result<()> {
+// Shows example 6.6 with these ranks of p, q and r, and weights of d, and of e0, e1 and e2. The weight of symbol k is
+// word 4 * k + 6, its rank the next.
+fn show_clause(rt: &impl Print, ranks: [u16; 3], d: u16, weights: [u16; 3]) -> io::Result<()> {
+    let [p, q, r] = ranks;
+    let [e0, e1, e2] = weights;
     let mut sheet = EXAMPLE_6_6;
     sheet[10] = d;
     sheet[19] = p;
@@ -114,10 +107,10 @@ fn show_clause(
 }
 
 // Where x alone is false, so is the clause.
-fn show_false(rt: &impl Print, e0: u16, e1: u16, e2: u16) -> io::Result<()> {
+fn show_false(rt: &impl Print, weights: [u16; 3]) -> io::Result<()> {
     print!(rt; "document 000, example 6.6, x alone false, ")?;
-    crate::print::print_numbers(rt, e0 as u64, e1 as u64, e2 as u64)?;
-    show_clause(rt, 3, 12, 13, 1, e0, e1, e2)
+    crate::print::print_numbers(rt, weights.map(u64::from))?;
+    show_clause(rt, [3, 12, 13], 1, weights)
 }
 
 // 000, the base systems before lemma 6.5 and of section A.3, for two symbols p and q.
@@ -161,17 +154,17 @@ pub fn run(rt: &impl Print) -> io::Result<()> {
     show(rt, "document 000, example 7.3", &EXAMPLE_7_3)?;
     show(rt, "document 000, example 9.1", &EXAMPLE_9_1)?;
     println!(rt; "document 000, example 6.6, x, y and z true")?;
-    show_clause(rt, 11, 12, 13, 9, 1, 1, 1)?;
+    show_clause(rt, [11, 12, 13], 9, [1, 1, 1])?;
     println!(rt; "document 000, example 6.6, x and z false")?;
-    show_clause(rt, 3, 12, 4, 1, 1, 1, 9)?;
+    show_clause(rt, [3, 12, 4], 1, [1, 1, 9])?;
     println!(rt; "document 000, example 6.6, x, y and z false")?;
-    show_clause(rt, 3, 4, 5, 1, 1, 9, 1)?;
-    show_false(rt, 1, 1, 1)?;
-    show_false(rt, 1, 1, 9)?;
-    show_false(rt, 1, 9, 1)?;
-    show_false(rt, 9, 1, 1)?;
-    show_false(rt, 5, 7, 9)?;
-    show_false(rt, 9, 7, 5)?;
+    show_clause(rt, [3, 4, 5], 1, [1, 9, 1])?;
+    show_false(rt, [1, 1, 1])?;
+    show_false(rt, [1, 1, 9])?;
+    show_false(rt, [1, 9, 1])?;
+    show_false(rt, [9, 1, 1])?;
+    show_false(rt, [5, 7, 9])?;
+    show_false(rt, [9, 7, 5])?;
     show(rt, "document 000, base systems of section 6", &BASE_SYSTEMS)?;
     show(rt, "document 000, examples 4.6 and 4.9", &CONTEXT_OF_C)
 }

@@ -1,5 +1,5 @@
 // 02's small expressions: their numbers, a list of them, and what is refused.
-use crate::print::{close, print_count, print_number, print_numbers};
+use crate::print::{close, print_numbers};
 use enumerating::{count, list};
 use std::io;
 
@@ -48,25 +48,19 @@ const MORE: [u16; 44] = [
 
 // Counts the terms of 0 to 8 nodes.
 fn print_counts(rt: &impl Print, book: &[u8]) -> io::Result<()> {
-    let mut n = 0;
-    while n <= 8 {
-        print_count(rt, count(book, n))?;
-        n += 1;
+    for n in 0..=8 {
+        print_numbers(rt, count(book, n))?;
     }
     Ok(())
 }
 
 // Prints 21 terms of 3 nodes, and the words after them.
 fn print_terms(rt: &impl Print, words: [u16; 66]) -> io::Result<()> {
-    let mut i = 0;
-    while i < 22 {
+    for i in 0..22 {
         print_numbers(
             rt,
-            words[3 * i] as u64,
-            words[3 * i + 1] as u64,
-            words[3 * i + 2] as u64,
+            [words[3 * i], words[3 * i + 1], words[3 * i + 2]].map(u64::from),
         )?;
-        i += 1;
     }
     Ok(())
 }
@@ -78,13 +72,13 @@ fn sample(rt: &impl Print) -> io::Result<()> {
     print_counts(rt, &book)?;
     println!(rt; "sample, expressions of 3 nodes")?;
     let mut words = [77u16; 66];
-    print_number(rt, list(&book, &mut words, 3))?;
+    print_numbers(rt, list(&book, &mut words, 3))?;
     print_terms(rt, words)?;
     println!(rt; "sample, room for a word less, and also a size that is none")?;
     let mut short = [0u16; 62];
-    print_number(rt, list(&book, &mut short, 3))?;
-    print_number(rt, list(&book, &mut short, 0))?;
-    print_number(rt, list(&book, &mut short, 8))
+    print_numbers(rt, list(&book, &mut short, 3))?;
+    print_numbers(rt, list(&book, &mut short, 0))?;
+    print_numbers(rt, list(&book, &mut short, 8))
 }
 
 fn no_constant(rt: &impl Print) -> io::Result<()> {
@@ -93,18 +87,18 @@ fn no_constant(rt: &impl Print) -> io::Result<()> {
     close(rt, &NO_CONSTANT, &mut book)?;
     print_counts(rt, &book)?;
     let mut words = [0u16; 1];
-    print_number(rt, list(&book, &mut words, 7))
+    print_numbers(rt, list(&book, &mut words, 7))
 }
 
 fn most_terms(rt: &impl Print) -> io::Result<()> {
     println!(rt; "65,535 terms, and 65,536")?;
     let mut book = [0u8; 128];
     let end = close(rt, &MOST, &mut book)?;
-    print_count(rt, count(&book[..end], 4))?;
+    print_numbers(rt, count(&book[..end], 4))?;
     let count_of_bytes = close(rt, &MORE, &mut book)?;
-    print_count(rt, count(&book[..count_of_bytes], 6))?;
+    print_numbers(rt, count(&book[..count_of_bytes], 6))?;
     let mut words = [0u16; 100];
-    print_number(rt, list(&book[..count_of_bytes], &mut words, 6))
+    print_numbers(rt, list(&book[..count_of_bytes], &mut words, 6))
 }
 
 pub fn run(rt: &impl Print) -> io::Result<()> {

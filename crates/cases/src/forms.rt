@@ -1,5 +1,5 @@
 // 02's form 2: a book of form 1 is refused and converted, and a variable out of turn is refused.
-use crate::print::{print_number, print_report};
+use crate::print::{print_numbers, print_report};
 use converter::convert;
 use std::io;
 
@@ -34,12 +34,12 @@ const OUT_OF_TURN_BOOK: [u8; 29] = [
 // Converts the book of form 1, then the converted one, and then the first one with a byte too little.
 fn convert_old(rt: &impl Print) -> io::Result<()> {
     let mut book = [0u8; 48];
-    print_number(rt, convert(&OLD, &mut book))?;
+    print_numbers(rt, convert(&OLD, &mut book))?;
     print_report(rt, &book)?;
     let mut again = [0u8; 48];
-    print_number(rt, convert(&book, &mut again))?;
+    print_numbers(rt, convert(&book, &mut again))?;
     let mut short = [0u8; 47];
-    print_number(rt, convert(&OLD, &mut short))
+    print_numbers(rt, convert(&OLD, &mut short))
 }
 
 pub fn run(rt: &impl Print) -> io::Result<()> {
@@ -49,6 +49,6 @@ pub fn run(rt: &impl Print) -> io::Result<()> {
     convert_old(rt)?;
     println!(rt; "a variable out of turn")?;
     let mut book = [0u8; 29];
-    print_number(rt, encoder::encode(&OUT_OF_TURN, &mut book))?;
+    print_numbers(rt, encoder::encode(&OUT_OF_TURN, &mut book))?;
     print_report(rt, &OUT_OF_TURN_BOOK)
 }

@@ -1,7 +1,8 @@
 // 01's limits, each at the last input that is read and at the first that is refused.
 ghost use Rattle.std.specs.Prelude.{◌+◌, ◌*◌, ◌≤◌, length, IfOk};
 
-use crate::print::{close, print_marking, print_report};
+use crate::print::{close, print_numbers, print_report};
+use marking::mark::mark;
 use std::io;
 
 // The words of the longest sheet, of 251 rules f(..f(c)) -> c with 114 times f, whose book has 32,768 bytes.
@@ -20,13 +21,11 @@ fn put_rules(sheet: &mut [u16], rules: usize, height: usize) -> usize
     ensures { result ≤ length sheet.new }
 {
     let mut at = 12;
-    let mut i = 0;
-    while i < rules {
+    for i in 0..rules {
         at += height;
         sheet[at] = 1;
         sheet[at + 1] = 1;
         at += 2;
-        i += 1;
     }
     at
 }
@@ -57,8 +56,8 @@ fn bytes(rt: &impl Print) -> io::Result<()> {
     let mut book = [0u8; 32769];
     let count = close_towers(rt, 251, 114, &mut book)?;
     let mut marks = [0u8; 251];
-    print_marking(rt, &book[..count], &mut marks)?;
-    print_marking(rt, &book, &mut marks)
+    print_numbers(rt, mark(&book[..count], &mut marks))?;
+    print_numbers(rt, mark(&book, &mut marks))
 }
 
 fn nodes(rt: &impl Print) -> io::Result<()> {
@@ -88,9 +87,9 @@ fn marks(rt: &impl Print) -> io::Result<()> {
     let mut book = [0u8; 4096];
     let count = close_towers(rt, 1023, 1, &mut book)?;
     let mut marks = [0u8; 1023];
-    print_marking(rt, &book[..count], &mut marks)?;
+    print_numbers(rt, mark(&book[..count], &mut marks))?;
     let mut fewer = [0u8; 1022];
-    print_marking(rt, &book[..count], &mut fewer)
+    print_numbers(rt, mark(&book[..count], &mut fewer))
 }
 
 pub fn run(rt: &impl Print) -> io::Result<()> {

@@ -1,19 +1,66 @@
 // Printing what the operations give back.
 ghost use Rattle.std.specs.Prelude.{◌≤◌, length, IfOk};
 
-use operations::{
-    CompareReply, CountReply, GreaterSide, MarkReply, NumberReply, PickReply, Relation, TermCount,
-};
+use operations::{Error, GreaterSide, Summary};
 use std::io;
 
-// Prints a line of three numbers.
-pub fn print_numbers(rt: &impl Print, a: u64, b: u64, c: u64) -> io::Result<()> {
-    println!(rt; "{a} {b} {c}")
+// What is printed as a line of three numbers.
+pub trait Numbers {
+    fn numbers(self) -> [u64; 3];
 }
 
-// Prints an error's code, the input at fault and the offset in it.
-fn print_error(rt: &impl Print, code: u8, input: u8, offset: usize) -> io::Result<()> {
-    print_numbers(rt, code as u64, input as u64, offset as u64)
+impl Numbers for [u64; 3] {
+    fn numbers(self) -> [u64; 3] {
+        self
+    }
+}
+
+impl Numbers for usize {
+    fn numbers(self) -> [u64; 3] {
+        [self as u64, 0, 0]
+    }
+}
+
+// 1 and a number, or 2 for none.
+impl Numbers for Option<usize> {
+    fn numbers(self) -> [u64; 3] {
+        match self {
+            Some(number) => [1, number as u64, 0],
+            None => [2, 0, 0],
+        }
+    }
+}
+
+impl Numbers for Summary {
+    fn numbers(self) -> [u64; 3] {
+        [self.rules as u64, self.decreasing as u64, self.score as u64]
+    }
+}
+
+// The code, the input at fault and the offset in it.
+impl Numbers for Error {
+    fn numbers(self) -> [u64; 3] {
+        [
+            u64::from(answers::number(self.code)),
+            u64::from(self.input),
+            self.offset as u64,
+        ]
+    }
+}
+
+impl<T: Numbers> Numbers for Result<T, Error> {
+    fn numbers(self) -> [u64; 3] {
+        match self {
+            Ok(value) => value.numbers(),
+            Err(error) => error.numbers(),
+        }
+    }
+}
+
+// Prints a line of three numbers.
+pub fn print_numbers<T: Numbers>(rt: &impl Print, reply: T) -> io::Result<()> {
+    let [a, b, c] = reply.numbers();
+    println!(rt; "{a} {b} {c}")
 }
 
 // Writes the packed form of a sheet to the front of a book, and gives its length; or prints the error, and gives 0.
@@ -21,9 +68,9 @@ pub fn close(rt: &impl Print, sheet: &[u16], book: &mut [u8]) -> io::Result<usiz
     ensures { IfOk result (λ n. n ≤ length book.new) }
 {
     match encoder::encode(sheet, book) {
-        NumberReply::Accepted(count) => Ok(count),
-        NumberReply::Refused(error) => {
-            print_error(rt, error.code, error.input, error.offset)?;
+        Ok(count) => Ok(count),
+        Err(error) => {
+            print_numbers(rt, error)?;
             Ok(0)
         }
     }
@@ -56,27 +103,8 @@ pub fn show(rt: &impl Print, title: &str, sheet: &[u16]) -> io::Result<()> {
     show_sheet(rt, sheet)
 }
 
-// Prints how many rules a book has, how many of them decrease, and the score; or the error.
-pub fn print_marking(rt: &impl Print, book: &[u8], marks: &mut [u8]) -> io::Result<()> {
-    match marking::mark::mark(book, marks) {
-        MarkReply::Accepted(file) => {
-            print_numbers(
-                rt,
-                file.rules as u64,
-                file.decreasing as u64,
-                file.score as u64,
-            )
-        }
-        MarkReply::Refused(error) => print_error(rt, error.code, error.input, error.offset),
-    }
-}
-
-// Prints the number of a relation, 1 greater, 2 less, 3 AC-equivalent, 4 unrelated, and a margin.
-fn print_relation(rt: &impl Print, number: u64, margin: i64) -> io::Result<()> {
-    println!(rt; "{number} {margin}")
-}
-
-// Prints how two terms compare under a book; or the error.
+// Prints the number of the relation of two terms under a book, 1 greater, 2 less, 3 AC-equivalent, 4 unrelated, and the
+// margin; or the error.
 pub fn print_comparison(
     rt: &impl Print,
     book: &[u8],
@@ -84,58 +112,25 @@ pub fn print_comparison(
     right: &[u16],
 ) -> io::Result<()> {
     match comparing::compare(book, left, right) {
-        CompareReply::Accepted(comparison) => {
-            let relation = comparison.relation;
-            let margin = comparison.margin;
-            match relation {
-                Relation::Greater => print_relation(rt, 1, margin),
-                Relation::Less => print_relation(rt, 2, margin),
-                Relation::Equivalent => print_relation(rt, 3, margin),
-                Relation::Unrelated => print_relation(rt, 4, margin),
-            }
-        }
-        CompareReply::Refused(error) => print_error(rt, error.code, error.input, error.offset),
+        Ok(comparison) => println!(rt; "{} {}", comparison.relation as u8, comparison.margin),
+        Err(error) => print_numbers(rt, error),
     }
 }
 
-// Prints the number of the greater side, the count of its words, and the length of the part that is handed back.
-fn print_side(rt: &impl Print, side: GreaterSide, part: &[u16]) -> io::Result<()> {
-    match side {
-        GreaterSide::Left { words } => print_numbers(rt, 1, words as u64, part.len() as u64),
-        GreaterSide::Right { words } => print_numbers(rt, 2, words as u64, part.len() as u64),
-        GreaterSide::Equivalent => print_numbers(rt, 3, 0, part.len() as u64),
-        GreaterSide::Unrelated => print_numbers(rt, 4, 0, part.len() as u64),
-    }
-}
-
-// Prints which of two terms under a book is greater; or the error.
+// Prints the number of the greater of two terms under a book, the count of its words, and the length of the part that
+// is handed back; or the error.
 pub fn print_pick<'a>(
     rt: &impl Print,
     book: &[u8],
     left: &'a [u16],
     right: &'a [u16],
 ) -> io::Result<()> {
+    let part = picking::greater_part(book, left, right).len() as u64;
     match picking::greater_side(book, left, right) {
-        PickReply::Accepted(side) => print_side(rt, side, picking::greater_part(book, left, right)),
-        PickReply::Refused(error) => print_error(rt, error.code, error.input, error.offset),
-    }
-}
-
-// Prints a number; or the error.
-pub fn print_number(rt: &impl Print, reply: NumberReply) -> io::Result<()> {
-    match reply {
-        NumberReply::Accepted(number) => print_numbers(rt, number as u64, 0, 0),
-        NumberReply::Refused(error) => print_error(rt, error.code, error.input, error.offset),
-    }
-}
-
-// Prints 1 and how many terms there are, or 2 if they are more than are counted; or the error.
-pub fn print_count(rt: &impl Print, reply: CountReply) -> io::Result<()> {
-    match reply {
-        CountReply::Accepted(number) => match number {
-            TermCount::Exactly { terms } => print_numbers(rt, 1, terms as u64, 0),
-            TermCount::More => print_numbers(rt, 2, 0, 0),
-        },
-        CountReply::Refused(error) => print_error(rt, error.code, error.input, error.offset),
+        Ok(GreaterSide::Left { words }) => print_numbers(rt, [1, words as u64, part]),
+        Ok(GreaterSide::Right { words }) => print_numbers(rt, [2, words as u64, part]),
+        Ok(GreaterSide::Equivalent) => print_numbers(rt, [3, 0, part]),
+        Ok(GreaterSide::Unrelated) => print_numbers(rt, [4, 0, part]),
+        Err(error) => print_numbers(rt, error),
     }
 }

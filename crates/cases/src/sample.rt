@@ -1,6 +1,6 @@
 // 01's sample, its traps and its listing.
 // A sheet has a line for the header, each symbol (arity, AC mark, weight, rank) and each rule (left side, right side).
-use crate::print::{print_comparison, print_number, print_pick, print_report, show};
+use crate::print::{print_comparison, print_numbers, print_pick, print_report, show};
 use comparing::oftener;
 use hashing::fingerprint;
 use std::io;
@@ -134,20 +134,20 @@ fn pick_terms(rt: &impl Print, book: &[u8]) -> io::Result<()> {
 
 // Fingerprints under the book of the sample.
 fn hash_terms(rt: &impl Print, book: &[u8]) -> io::Result<()> {
-    print_number(rt, fingerprint(book, &[3, 0, 1]))?; // o+z
-    print_number(rt, fingerprint(book, &[5, 1, 0]))?; // sub(z,o)
-    print_number(rt, fingerprint(book, &[3, 3, 0, 1, 3, 0, 256]))?; // (o+z)+(o+u)
-    print_number(rt, fingerprint(book, &[5, 5, 5, 3, 1, 0, 0, 0, 0]))?; // sub(sub(sub(z+o,o),o),o)
-    print_number(rt, fingerprint(book, &[0, 0])) // o, and a word after it
+    print_numbers(rt, fingerprint(book, &[3, 0, 1]))?; // o+z
+    print_numbers(rt, fingerprint(book, &[5, 1, 0]))?; // sub(z,o)
+    print_numbers(rt, fingerprint(book, &[3, 3, 0, 1, 3, 0, 256]))?; // (o+z)+(o+u)
+    print_numbers(rt, fingerprint(book, &[5, 5, 5, 3, 1, 0, 0, 0, 0]))?; // sub(sub(sub(z+o,o),o),o)
+    print_numbers(rt, fingerprint(book, &[0, 0])) // o, and a word after it
 }
 
 // The variable test under the book of the sample.
 fn test_terms(rt: &impl Print, book: &[u8]) -> io::Result<()> {
-    print_number(rt, oftener(book, &[3, 256, 1], &[256]))?; // u+z, u
-    print_number(rt, oftener(book, &[3, 256, 1], &[3, 256, 256]))?; // u+z, u+u
-    print_number(rt, oftener(book, &[256], &[3, 257, 271]))?; // u, v+ variable 15
-    print_number(rt, oftener(book, &[0], &[271]))?; // o, variable 15
-    print_number(rt, oftener(book, &[0], &[1, 1])) // o, z and a word after it
+    print_numbers(rt, oftener(book, &[3, 256, 1], &[256]))?; // u+z, u
+    print_numbers(rt, oftener(book, &[3, 256, 1], &[3, 256, 256]))?; // u+z, u+u
+    print_numbers(rt, oftener(book, &[256], &[3, 257, 271]))?; // u, v+ variable 15
+    print_numbers(rt, oftener(book, &[0], &[271]))?; // o, variable 15
+    print_numbers(rt, oftener(book, &[0], &[1, 1])) // o, z and a word after it
 }
 
 fn terms(rt: &impl Print) -> io::Result<()> {

@@ -1,5 +1,5 @@
 // 02's wrapper: a book with a symbol of arity 1 that weighs 0, its page, and books in which that symbol is refused.
-use crate::print::{close, print_number, print_page, print_report};
+use crate::print::{close, print_numbers, print_page, print_report};
 use std::io;
 
 #[rattlefmt::skip]
@@ -48,9 +48,9 @@ pub fn run(rt: &impl Print) -> io::Result<()> {
     print_page(rt, &book)?;
     println!(rt; "the same in form 1")?;
     let mut converted = [0u8; 59];
-    print_number(rt, converter::convert(&OLD, &mut converted))?;
+    print_numbers(rt, converter::convert(&OLD, &mut converted))?;
     println!(rt; "a wrapper ranked below another symbol")?;
     let mut low = [0u8; 12];
-    print_number(rt, encoder::encode(&LOW, &mut low))?;
+    print_numbers(rt, encoder::encode(&LOW, &mut low))?;
     print_report(rt, &LOW_BOOK)
 }

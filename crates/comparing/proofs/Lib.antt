@@ -1,4 +1,3 @@
 -- What the code of comparing cites.
-pub mod SliceLaws
 pub mod CompareLaws
 pub mod OftenerLaws

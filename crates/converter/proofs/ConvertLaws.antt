@@ -25,8 +25,7 @@ use Rattle.format.proofs.FileLaws.{bytes-taken, bytes-length}
 use Rattle.format.proofs.FormLaws.{taken-old}
 use Rattle.format.proofs.ConversionLaws.{converted-length}
 use Rattle.format.proofs.FaultLaws.{fault-small}
-use Rattle.operations.specs.declared.Error.{Error}
-use Rattle.operations.specs.Replies.{Reply}
+use Rattle.operations.specs.Replies.{Error, Reply}
 use Rattle.operations.specs.Replies.Reply.{accepted, refused}
 use Rattle.operations.specs.Converting.{converted}
 use Rattle.symbols.specs.Table.{table_words, max_table_words}
@@ -90,9 +89,12 @@ refused-small bytes output error r = go (read_bytes_in first_form bytes) refl
 
 -- ---- the sheet of the converted file
 
-module _ (bytes sheet stored : List ℕ) (file : RuleFile) (total front : ℕ)
-    (parts : SheetAt bytes sheet stored file total front)
+module _ (bytes sheet stored : List ℕ) (file : RuleFile) (nodes front : ℕ)
+    (parts : SheetAt bytes sheet stored file nodes front)
     (room : length bytes ≤ max_bytes → 5 * max_table_words + 8 * length bytes ≤ 5 * length sheet) where
+  abbrev total : ℕ
+  total = front + nodes
+
   pub sheet-short : total ≤ length sheet
   sheet-short = omega (arith, parts.few, room parts.short)
 

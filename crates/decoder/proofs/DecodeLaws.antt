@@ -6,15 +6,17 @@
 use mathlib.Core.Path.{◌≡◌, refl, sym, ap, ◌∙◌}
 use mathlib.Core.List.{List, ◌++◌}
 use mathlib.Core.Bool.{false}
-use Prim.Native.Nat.{ℕ, ◌+◌, ◌*◌, ◌≤◌, ◌<◌}
+use Prim.Native.Nat.{ℕ, ◌+◌, ◌-◌, ◌*◌, ◌≤◌, ◌<◌}
 use native.Mathlib.Omega.{arith}
 use native.Mathlib.Nat.{zero-add}
 use borrow.Author.Tests.{lt-leb, le-leb}
 use lib.Dec.{eqb}
-use lib.ListN.{length, length-map, take, drop}
-use lib.Seq.{sets, sets-eq, take-append_seam, length-take-le}
+use lib.ListN.{length, length-map, length-append, take, drop}
+use lib.Seq.{sets, sets-eq, take-append_seam, drop-append_seam, drop-drop, length-take-le}
+use borrow.Rule.Slice.PartMut.{put_mid}
+use Rattle.std.proofs.lemmas.List.{take-append-drop}
+use Rattle.std.proofs.lemmas.Slice.{take-put_mid, drop-put_mid}
 use Rattle.multisets.proofs.Relations.{by_test}
-use Rattle.multisets.proofs.ListLaws.{sets-append}
 use Rattle.format.specs.Errors.{words_too_short}
 use Rattle.format.specs.Layout.{first_form, max_bytes}
 use Rattle.format.specs.Reading.{Reading}
@@ -27,22 +29,36 @@ use Rattle.operations.specs.Replies.Reply.{accepted, refused}
 use Rattle.operations.specs.Coding.{decoded}
 use Rattle.symbols.specs.Table.{max_table_words}
 use Rattle.symbols.proofs.EntryLaws.{table-entries}
-use Rattle.answers.specs.declared.Answer.TheVariants.{Got}
+use Rattle.std.specs.Prelude.{Ok}
 use Rattle.sides.specs.Side.{rules_words}
 use Rattle.sides.proofs.UnpackedLaws.{unpacked-parts, unpacked-length}
 use Rattle.reader.proofs.FileLaws.{stored-coefficients}
 use Rattle.reader.specs.File.{PackedParts, rules_in, stored_form, stored_file}
-use Rattle.decoder.specs.Sheet.{Unpacked}
+use Rattle.decoder.specs.Sheet.{SheetRead}
 
 -- ---- a file whose words were stored in two parts
 
-pub stored-parts : (words half whole table nodes : List ℕ) (front count : ℕ) → front ≤ length table →
-    half ≡ sets words 0 (take front table) → whole ≡ sets half front (take count nodes) →
-    whole ≡ sets words 0 (take front table ++ take count nodes)
-stored-parts words half whole table nodes front count room first second =
-    let n : front ≡ 0 + length (take front table) = omega (arith, length-take-le front table room) in
-    second ∙ ap (λ (i : ℕ). sets half i (take count nodes)) n
-    ∙ rw first (sym (sets-append words 0 (take front table) (take count nodes)))
+pub stored-parts : (words first second table nodes : List ℕ) (front count : ℕ) → front ≤ length table →
+    count ≤ length nodes → front + count ≤ length words → first ≡ take front table → second ≡ take count nodes →
+    put_mid front (front + count - front) (first ++ drop front words) second
+    ≡ sets words 0 (take front table ++ take count nodes)
+stored-parts words first second table nodes front count a b room e d =
+    let m : length first ≡ front = ap length e ∙ length-take-le front table a in
+    let n : length second ≡ count = ap length d ∙ length-take-le count nodes b in
+    let begun = first ++ drop front words in
+    let within : front ≤ length begun = omega (arith, length-append first (drop front words)) in
+    let taken = take-put_mid front (front + count - front) begun second (front + count) (omega arith) within
+    ∙ ap (λ (l : List ℕ). l ++ second)
+    (ap (λ (i : ℕ). take i begun) (sym m) ∙ take-append_seam first (drop front words)) in
+    let left = drop-put_mid front (front + count - front) begun second (front + count) (omega arith) within (omega arith)
+    ∙ sym (drop-drop count front begun)
+    ∙ ap (drop count) (ap (λ (i : ℕ). drop i begun) (sym m) ∙ drop-append_seam first (drop front words))
+    ∙ drop-drop count front words in
+    let size : length (first ++ second) ≡ front + count = omega (arith, length-append first second) in
+    sym (take-append-drop (front + count) (put_mid front (front + count - front) begun second))
+    ∙ rw (taken, left, ← e, ← d)
+    (sym (sets-eq (first ++ second) words 0 (omega arith)
+    ∙ ap (λ (i : ℕ). first ++ second ++ drop i words) (zero-add (length (first ++ second)) ∙ size)))
 
 as_many : (form : ℕ) (rules : List Sides) → length (rules_in form rules) ≡ length rules
 as_many form rules = by_test (eqb form first_form) (λ e. rw e (length-map rules _)) λ e. rw e
@@ -67,7 +83,7 @@ module _ (bytes table before after : List ℕ) (file : RuleFile) (nodes front : 
 
   -- The words were not stored, for want of room.
   pub sheet-unstored : (words : List ℕ) (end : ℕ) (reading : Reading RuleFile) → reading ≡ got file end →
-      length words < front + nodes → Unpacked bytes reading (Got (front + nodes) front) words words
+      length words < front + nodes → SheetRead bytes reading (Ok (record { front = front; nodes = nodes })) words words
   sheet-unstored words end reading read short = (
     file,
     end,
@@ -104,7 +120,7 @@ module _ (bytes table before after : List ℕ) (file : RuleFile) (nodes front : 
     -- They were stored.
     pub sheet-stored : (words whole : List ℕ) (end : ℕ) (reading : Reading RuleFile) → reading ≡ got file end →
         front + nodes ≤ length words → whole ≡ sets words 0 (take front table ++ take nodes after) →
-        Unpacked bytes reading (Got (front + nodes) front) words whole
+        SheetRead bytes reading (Ok (record { front = front; nodes = nodes })) words whole
     sheet-stored words whole end reading read fits all = (
       file,
       end,

@@ -1,5 +1,6 @@
 -- Laws of encoding.
 --     Listed, file-listed                    what words that were read say of their file
+--     bytes-count                            the bytes that bits fill
 --     encode-fault, encode-long, encode-short, encode-done     what encoding gives back, by the file
 use mathlib.Core.List.{List, ◌++◌, flat_map}
 use mathlib.Core.Path.{◌≡◌, refl, sym, ap, ◌∙◌}
@@ -7,6 +8,7 @@ use Prim.Native.Nat.{ℕ, ◌+◌, ◌*◌, ◌/◌, ◌≤◌, ◌<◌}
 use native.Mathlib.Omega.{arith}
 use lib.ListN.{length, drop}
 use borrow.Author.Tests.{le-leb, lt-leb}
+use Rattle.std.specs.Int.{div_ceil}
 use Rattle.format.specs.Reading.Reading.{got, fault}
 use Rattle.format.specs.Format.{RuleFile}
 use Rattle.format.specs.Files.{read_words}
@@ -39,6 +41,9 @@ file-listed words file end symbols start read parts =
       within = parts.within;
       short = parts.short;
     }
+
+pub bytes-count : (bits n count : ℕ) → n ≡ bits → count ≡ div_ceil n 8 → count ≡ (bits + 7) / 8
+bytes-count bits n count same e = omega (arith, e)
 
 -- ---- what encoding gives back
 

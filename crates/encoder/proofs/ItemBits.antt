@@ -2,21 +2,22 @@
 --     symbol-bits, variable-bits               the bits of a node
 --     field-bits, node-bits                    the bits of an item
 --     flat-nil, bits-more, bits-le, bits_mono  the bits of the first items; an item takes at most 16
---     node-more                                one node more
+--     node_append, nodes-from                  the bits of nodes
 --     pair-more, symbol-widths, fields-length  two fields more; how many bits the fields take
-use mathlib.Core.List.{List, [], ◌∷◌, ◌++◌, flat_map, append-nil}
+use mathlib.Core.List.{List, [], ◌∷◌, ◌++◌, flat_map, append-nil, append_assoc}
 use mathlib.Core.Path.{◌≡◌, refl, sym, ap, ◌∙◌}
 use Prim.Native.Nat.{ℕ, suc, zero, ◌+◌, ◌-◌, ◌*◌, ◌%◌, ◌≤◌, ◌<◌}
 use native.Mathlib.Nat.{zero-add}
 use native.Mathlib.Numerals.{add-one}
 use native.Mathlib.Omega.{arith}
-use lib.ListN.{length, get_or, length-append}
+use lib.ListN.{length, get_or, take, drop, length-append, take-append-drop, drop_of_length-le}
+use lib.Seq.{drop-cons}
 use lib.Dec.{ltb}
 use borrow.Author.Tests.{lt-ltb, le-ltb}
 use Rattle.multisets.proofs.Relations.{by_test, by_order}
 use Rattle.format.specs.Packing.{bits_of, item_bits}
 use Rattle.format.specs.Packing.Item.{node}
-use Rattle.encoder.specs.Items.{field_width, item_at, items_from, bits_to}
+use Rattle.encoder.specs.Items.{field_width, item_at, items_from, bits_to, node_bits}
 use Rattle.encoder.proofs.ItemsLaws.{flat_append, items-add}
 use Rattle.format.proofs.CodingLaws.{length-bits_of}
 use Rattle.writer.proofs.BitsLaws.{bits-add, bits-same}
@@ -55,6 +56,23 @@ variable-bits w k =
 node-le : (w : ℕ) → length (item_bits (node w)) ≤ 16
 node-le w =
     by_order w 256 (λ k. rw (symbol-bits w k) (omega arith)) λ k. rw (variable-bits w k) (omega arith)
+
+pub node_append : (xs ys : List ℕ) → node_bits (xs ++ ys) ≡ node_bits xs ++ node_bits ys
+node_append xs ys = flat_append (λ (w : ℕ). item_bits (node w)) xs ys
+
+-- The first nodes of the rest go over to the bits before it.
+pub nodes-over : (bits rest whole first after : List ℕ) (n : ℕ) → first ≡ take n rest → after ≡ drop n rest →
+    bits ++ node_bits rest ≡ whole → (bits ++ node_bits first) ++ node_bits after ≡ whole
+nodes-over bits rest whole first after n s a e =
+    rw (s, a)
+    (append_assoc bits (node_bits (take n rest)) (node_bits (drop n rest))
+    ∙ ap (λ (l : List ℕ). bits ++ l) (sym (node_append (take n rest) (drop n rest))
+    ∙ ap node_bits (take-append-drop n rest))
+    ∙ e)
+
+pub node-one : (w : ℕ) → node_bits (w ∷ []) ≡ item_bits (node w)
+unfolding flat_map
+node-one w = append-nil (item_bits (node w))
 
 module _ (words : List ℕ) (nodes : ℕ) where
   -- ---- the bits of an item
@@ -104,9 +122,23 @@ module _ (words : List ℕ) (nodes : ℕ) where
       ∙ length-append (bits_to words nodes i) (flat_map item_bits later) in
       omega arith
 
-  pub node-more : (i : ℕ) → nodes ≤ i →
-      bits_to words nodes (i + 1) ≡ bits_to words nodes i ++ item_bits (node (get_or words i 0))
-  node-more i h = bits-more i ∙ rw (node-bits i h)
+  -- Those before word i and those of all nodes from there on are all.
+  pub nodes-from : (n i : ℕ) → nodes ≤ i → i + n ≡ length words →
+      bits_to words nodes i ++ node_bits (drop i words) ≡ bits_to words nodes (length words)
+  unfolding flat_map
+  nodes-from zero i h e =
+      let k : length words ≡ i = omega arith in
+      rw (drop_of_length-le words {i = i} (omega arith), k) (append-nil (bits_to words nodes i))
+  nodes-from (suc n) i h e =
+      let w = get_or words i 0 in
+      let later = node_bits (drop (suc i) words) in
+      let one : bits_to words nodes (i + 1) ≡ bits_to words nodes i ++ item_bits (node w) =
+      bits-more i ∙ rw (node-bits i h) in
+      rw (drop-cons words i 0 (omega arith))
+      (sym (append_assoc (bits_to words nodes i) (item_bits (node w)) later)
+      ∙ ap (λ (l : List ℕ). l ++ later) (sym one)
+      ∙ ap (λ (k : ℕ). bits_to words nodes (i + 1) ++ node_bits (drop k words)) (sym (add-one i))
+      ∙ nodes-from n (i + 1) (omega arith) (omega arith))
 
   -- ---- the bits of the fields
 

@@ -34,6 +34,10 @@ items_from words nodes i (suc n) = item_at words nodes i ∷ items_from words no
 abbrev pub bits_to : List ℕ → ℕ → ℕ → List ℕ
 bits_to words nodes i = flat_map item_bits (items_from words nodes 0 i)
 
+-- The bits of some nodes.
+abbrev pub node_bits : List ℕ → List ℕ
+node_bits words = flat_map (λ (w : ℕ). item_bits (node w)) words
+
 -- What was written with one writer before word i is written with the other before word j.
 abbrev pub Follows : List ℕ → ℕ → ℕ → ℕ → BitWriter → BitWriter → Type 0
 Follows words nodes i j before after =

@@ -1,9 +1,11 @@
 // The items of a file: a field or a node for each word, and their bits.
-ghost use Rattle.std.specs.Prelude.{◌≡◌, ℕ, ◌+◌, ◌*◌, ◌/◌, ◌^◌, ◌<◌, ◌≤◌, length};
+#![tactic(auto)]
+
+ghost use Rattle.std.specs.Prelude.{◌≡◌, List, ◌++◌, ℕ, ◌+◌, ◌*◌, ◌/◌, ◌^◌, ◌<◌, ◌≤◌, length};
 ghost use Rattle.format.specs.Packing.{bits_of, item_bits, bytes_of};
 ghost use Rattle.format.specs.Packing.Item.{node};
 ghost use Rattle.writer.specs.Writer.{Writes};
-ghost use Rattle.encoder.specs.Items.{field_width, bits_to, Follows};
+ghost use Rattle.encoder.specs.Items.{field_width, bits_to, node_bits, Follows};
 
 use writer::BitWriter;
 
@@ -18,7 +20,7 @@ const SYMBOL_NODE_BITS: usize = 9;
 fn tag(word: u16) -> u32
     ensures { (length (item_bits (node word)) + 4 * result ≡ 9) × (result ≤ 1) }
 {
-    if word < format::FIRST_VARIABLE { 0 } else { 1 }
+    u32::from(format::FIRST_VARIABLE <= word)
 }
 
 // How many bits a node takes.
@@ -44,11 +46,9 @@ pub fn packed_bits(words: &[u16], symbols: usize, nodes: usize) -> usize
     requires { (nodes ≡ 4 + 4 * symbols) × (nodes ≤ length words.now) × (length words.now < 2 ^ 32) }
     ensures { result ≡ length (bits_to words.now nodes (length words.now)) }
 {
-    let mut variables = 0u32;
-    let mut i = nodes;
-    while i < words.len() {
-        variables += tag(words[i]);
-        i += 1;
+    let mut variables = 0;
+    for &word in &words[nodes..] {
+        variables += tag(word);
     }
     HEADER_BITS + SYMBOL_BITS * symbols + SYMBOL_NODE_BITS * (words.len() - nodes)
         - 4 * variables as usize
@@ -93,8 +93,8 @@ fn write_fields(words: &[u16], nodes: usize, bytes: &mut [u8]) -> BitWriter
         format::RULE_COUNT_WIDTH,
     );
     let mut writer = header.flush(bytes);
-    let mut i = 4;
-    while i < nodes {
+    for f in 0..nodes / 4 - 1 {
+        let i = 4 * f + 4;
         let front = push_pair(writer, words, i, format::ARITY_WIDTH, format::AC_WIDTH);
         let symbol = push_pair(
             front,
@@ -104,43 +104,30 @@ fn write_fields(words: &[u16], nodes: usize, bytes: &mut [u8]) -> BitWriter
             format::RANK_WIDTH,
         );
         writer = symbol.flush(bytes);
-        i += 4;
     }
     writer
 }
 
-// Pushes the node at word i.
-fn push_node(writer: BitWriter, words: &[u16], i: usize) -> BitWriter
-    requires { (i < length words.now) × (writer.count ≤ 55) }
+// Pushes a node.
+fn push_node(writer: BitWriter, word: u16) -> BitWriter
+    requires { writer.count ≤ 55 }
     ensures count_bound { result.count ≤ writer.count + 9 }
-    ensures by_index { (nodes : ℕ) → nodes ≤ i → Follows words.now nodes i (i + 1) writer result }
+    ensures by_index { (bits bytes : List ℕ) → Writes bits writer bytes →
+        Writes (bits ++ item_bits (node word)) result bytes }
 {
-    let word = words[i];
     writer.push(node_width(word), node_value(word))
 }
 
-// Pushes the three nodes from word i on.
-fn push_three(writer: BitWriter, words: &[u16], i: usize) -> BitWriter
-    requires { (i + 2 < length words.now) × (writer.count ≤ 37) }
-    ensures count_bound { result.count ≤ writer.count + 27 }
-    ensures by_index { (nodes : ℕ) → nodes ≤ i → Follows words.now nodes i (i + 3) writer result }
-{
-    let first = push_node(writer, words, i);
-    push_node(push_node(first, words, i + 1), words, i + 2)
-}
-
-// Pushes the nodes from word i on, of which fewer than six are left.
-fn push_rest(writer: BitWriter, words: &[u16], i: usize) -> BitWriter
-    requires { (i ≤ length words.now) × (length words.now < i + 6) × (writer.count < 8) }
-    ensures count_bound { result.count ≤ 52 }
-    ensures by_index { (nodes : ℕ) → nodes ≤ i →
-        Follows words.now nodes i (length words.now) writer result }
+// Pushes some nodes, as many as there is room for.
+fn push_nodes(writer: BitWriter, nodes: &[u16]) -> BitWriter
+    requires { writer.count + 9 * length nodes.now ≤ 64 }
+    ensures count_bound { result.count ≤ writer.count + 9 * length nodes.now }
+    ensures by_index { (bits bytes : List ℕ) → Writes bits writer bytes →
+        Writes (bits ++ node_bits nodes.now) result bytes }
 {
     let mut last = writer;
-    let mut k = i;
-    while k < words.len() {
-        last = push_node(last, words, k);
-        k += 1;
+    for &word in nodes {
+        last = push_node(last, word);
     }
     last
 }
@@ -153,11 +140,10 @@ pub fn write_items(words: &[u16], nodes: usize, bytes: &mut [u8])
     ensures { bytes.new ≡ bytes_of (bits_to words.now nodes (length words.now)) }
 {
     let mut writer = write_fields(words, nodes, bytes);
-    let mut i = nodes;
-    while i + 5 < words.len() {
-        let half = push_three(writer, words, i);
-        writer = push_three(half, words, i + 3).flush(bytes);
-        i += 6;
+    let mut rest = &words[nodes..];
+    while let Some((six, after)) = rest.split_first_chunk::<6>() {
+        writer = push_nodes(writer, six).flush(bytes);
+        rest = after;
     }
-    push_rest(writer, words, i).finish(bytes);
+    push_nodes(writer, rest).finish(bytes);
 }

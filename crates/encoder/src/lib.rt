@@ -3,32 +3,38 @@
 
 ghost use Rattle.std.specs.Prelude.{◌≡◌};
 ghost use Rattle.operations.specs.Coding.{encoded};
-ghost use Rattle.operations.specs.Enums.{number_reply};
+ghost use Rattle.operations.specs.Enums.{reply_of};
 
-use answers::{Answer, refusal};
-use operations::NumberReply;
+use crate::items::packed_bits;
+use format::ErrorCode;
+use operations::Error;
 
 mod items;
 
 pub use crate::items::write_items;
 
 // Writes the packed form of a file to the front of the bytes.
-pub fn encode(words: &[u16], bytes: &mut [u8]) -> NumberReply
-    ensures result_value { number_reply result ≡ (encoded words.now bytes.old).reply }
+pub fn encode(words: &[u16], bytes: &mut [u8]) -> Result<usize, Error>
+    ensures result_value { reply_of result ≡ (encoded words.now bytes.old).reply }
     ensures bytes_after { bytes.new ≡ (encoded words.now bytes.old).output }
 {
-    match reader::read_sheet(words) {
-        Answer::Fault { code, offset } => NumberReply::Refused(refusal(code, 0, offset)),
-        Answer::Got { value, next } => {
-            let count = (crate::items::packed_bits(words, value, next) + 7) / 8;
-            if format::MAX_BYTES < count {
-                return NumberReply::Refused(refusal(format::FILE_TOO_LONG, 0, 0));
-            }
-            if bytes.len() < count {
-                return NumberReply::Refused(refusal(format::BYTES_TOO_SHORT, 1, 0));
-            }
-            write_items(words, next, &mut bytes[..count]);
-            NumberReply::Accepted(count)
-        }
+    let head = reader::read_sheet(words).map_err(|fault| fault.in_input(0))?;
+    let front = head.cursor.at;
+    let count = packed_bits(words, head.symbols, front).div_ceil(8);
+    if format::MAX_BYTES < count {
+        return Err(Error {
+            code: ErrorCode::FileTooLong,
+            input: 0,
+            offset: 0,
+        });
     }
+    if bytes.len() < count {
+        return Err(Error {
+            code: ErrorCode::BytesTooShort,
+            input: 1,
+            offset: 0,
+        });
+    }
+    write_items(words, front, &mut bytes[..count]);
+    Ok(count)
 }

@@ -3,12 +3,13 @@
 --     row-begun, row_step, row-end              a cell as a sum over arities, step by step
 --     no-constants                              without constants there are no terms
 --     cells-none, cells-more                    the table without constants, and with one cell more
---     one-more-at, one-more-past, counts-begun, counts-small, counts_step, counts_end     the counts of arities
+--     counts-begun, counts-small, counts-one, counts-past, counts_end     the counts of arities
 use mathlib.Core.List.{List}
 use mathlib.Core.Path.{◌≡◌, refl, sym, ap, ◌∙◌}
 use Prim.Native.Nat.{ℕ, suc, zero, ◌+◌, ◌-◌, ◌*◌, ◌/◌, ◌%◌, ◌≤◌, ◌<◌}
 use native.Mathlib.Nat.{zero-mul, mul-zero}
 use native.Mathlib.Omega.{arith}
+use mathlib.Core.Bool.{cond}
 use lib.Dec.{eqb}
 use lib.ListN.{length, get_or, set, replicate, length-map, get_or-replicate}
 use lib.Seq.{get_or-set_same, get_or-set_other}
@@ -17,23 +18,9 @@ use Rattle.multisets.proofs.Relations.{by_order, by_test}
 use Rattle.terms.specs.Signature.{Signature, symbol_of}
 use Rattle.terms.specs.Enumeration.{ground_rows}
 use Rattle.terms.proofs.EnumerationLaws.{headed, rows_none, rows-symbol}
-use Rattle.enumerating.specs.Counts.{capped, row_count, CellsTo, arity_count, ArityCounts, Small, OneMore}
+use Rattle.enumerating.specs.Counts.{capped, row_count, CellsTo, arity_count, ArityCounts}
 use Rattle.enumerating.proofs.CountLaws.{capped-add, capped-times, sum_over, length_over, sum_same, sum-none}
 use Rattle.enumerating.proofs.CountLaws.{by-arity, arity_count-le}
-
--- ---- one more of an arity
-
-pub one-more-at : (counts : List ℕ) (arity : ℕ) → length counts ≡ 8 → arity < 8 →
-    OneMore counts arity (set counts arity (get_or counts arity 0 + 1))
-one-more-at counts arity l h a k =
-    by_test (eqb arity a)
-    (λ e. let d = eqb-true arity a e in
-    rw (e, ← d) (get_or-set_same counts arity (get_or counts arity 0 + 1) 0 (omega arith) ∙ omega arith))
-    λ e. rw e (get_or-set_other counts arity a (get_or counts arity 0 + 1) 0
-    (λ d. eqb-false arity a e (sym d)) ∙ omega arith)
-
-pub one-more-past : (counts : List ℕ) (arity : ℕ) → 8 ≤ arity → OneMore counts arity counts
-one-more-past counts arity h a k = rw (ne_eqb arity a (λ e. omega arith)) (omega arith)
 
 -- ---- cells
 
@@ -152,16 +139,33 @@ module _ (σ : Signature) where
       let e : length σ.symbols - 0 ≡ length σ.symbols = omega arith in
       rw e (omega (arith, get_or-replicate {A = ℕ} 8 a 0 0 h))
 
-  pub counts-small : (f : ℕ) (counts : List ℕ) → CountedTo f counts → length σ.symbols < 256 → Small counts
+  pub counts-small : (f : ℕ) (counts : List ℕ) → CountedTo f counts → length σ.symbols < 256 → (a : ℕ) → a < 8 →
+      get_or counts a 0 < 256
   counts-small f counts c h a l = omega (arith, c a l, arity_count-le σ a 0 (length σ.symbols))
 
-  pub counts_step : (f : ℕ) (counts more : List ℕ) → f < length σ.symbols → CountedTo f counts →
-      OneMore counts (symbol_of σ f).arity more → CountedTo (f + 1) more
-  counts_step f counts more h c m a l =
-      let e : length σ.symbols - f ≡ suc (length σ.symbols - (f + 1)) = omega arith in
-      let d : f + 1 ≡ suc f = omega arith in
-      let k = rw e at (c a l) in
-      rw d (omega (arith, m a l, rw d at k))
+  module _ (f : ℕ) (counts : List ℕ) (h : f < length σ.symbols) (c : CountedTo f counts) where
+    counted : (more : List ℕ) →
+        ((a : ℕ) → a < 8 → get_or more a 0 ≡ cond (eqb (symbol_of σ f).arity a) 1 0 + get_or counts a 0) →
+        CountedTo (f + 1) more
+    counted more m a l =
+        let e : length σ.symbols - f ≡ suc (length σ.symbols - (f + 1)) = omega arith in
+        let d : f + 1 ≡ suc f = omega arith in
+        let k = rw e at (c a l) in
+        rw d (omega (arith, m a l, rw d at k))
+
+    module _ (arity : ℕ) (d : arity ≡ (symbol_of σ f).arity) where
+      pub counts-one : arity < 8 → length counts ≡ 8 → CountedTo (f + 1) (set counts arity (get_or counts arity 0 + 1))
+      counts-one h l =
+          counted (set counts arity (get_or counts arity 0 + 1)) λ a k.
+          rw (← d)
+          (by_test (eqb arity a)
+          (λ e. let t = eqb-true arity a e in
+          rw (e, ← t) (get_or-set_same counts arity (get_or counts arity 0 + 1) 0 (omega arith) ∙ omega arith))
+          λ e. rw e (get_or-set_other counts arity a (get_or counts arity 0 + 1) 0
+          (λ d. eqb-false arity a e (sym d)) ∙ omega arith))
+
+      pub counts-past : 8 ≤ arity → CountedTo (f + 1) counts
+      counts-past h = counted counts λ a k. rw (← d) (rw (ne_eqb arity a (λ e. omega arith)) (omega arith))
 
   pub counts_end : (f : ℕ) (counts : List ℕ) → length σ.symbols ≤ f → CountedTo f counts → ArityCounts σ counts
   counts_end f counts h c a l =

@@ -1,5 +1,5 @@
 -- Sums over symbols, as sums over arities, and capped numbers.
---     capped-add, capped-times      a capped part of a sum or a product
+--     capped-sum, capped-add, capped-times      a capped part of a sum or a product
 --     sum_over, length_over          how many things numbers give
 --     sum_same, sum-none            sums of the same numbers, and of zeros
 --     by-arity, arity_count-le       a sum over symbols is one over arities, each times the symbols that have it
@@ -25,7 +25,7 @@ capped-low n h = omega arith
 capped-high : (n : ℕ) → 65536 ≤ n → capped n ≡ 65536
 capped-high n h = omega arith
 
-capped-sum : (m n : ℕ) → capped (m + capped n) ≡ capped (m + n)
+pub capped-sum : (m n : ℕ) → capped (m + capped n) ≡ capped (m + n)
 capped-sum m n =
     by_order n 65536 (λ h. ap (λ k. capped (m + k)) (capped-low n (omega arith)))
     λ h. capped-high (m + capped n) (omega (arith, capped-high n h)) ∙ sym (capped-high (m + n) (omega arith))

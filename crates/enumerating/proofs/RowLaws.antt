@@ -3,15 +3,16 @@
 --     prefixed-nothing                                   with no front
 --     Next, next-is, next-least, next-end, next_here, next-over      the next symbol, and the search for it
 --     get_or-before, get_or-in                               the words before what is stored, and those that are
---     put-more                                           a row stored word by word
+--     put-row, put-more                                  a row stored at once, and word by word
 use mathlib.Core.List.{List, [], ◌∷◌, ◌++◌, append_assoc, flatten}
 use mathlib.Core.Path.{◌≡◌, refl, sym, ap, ◌∙◌}
 use mathlib.Core.Bool.{true, false}
 use Prim.Native.Nat.{ℕ, suc, zero, ◌+◌, ◌-◌, ◌≤◌, ◌<◌}
 use native.Mathlib.Omega.{arith}
 use lib.Dec.{eqb}
-use lib.ListN.{length, take, set, get_or, length-set}
-use lib.Seq.{sets, take-suc, length-take-le, get_or-set_same, get_or-set_other}
+use lib.ListN.{length, take, drop, set, get_or, length-set}
+use Rattle.std.proofs.Common.{drop-drop}
+use lib.Seq.{sets, sets-eq, take-suc, length-take-le, get_or-set_same, get_or-set_other}
 use borrow.Author.Tests.{eqb-true, eqb-false, eq-eqb, ne_eqb}
 use Rattle.multisets.proofs.Relations.{by_test}
 use Rattle.multisets.proofs.ListLaws.{sets-append}
@@ -143,6 +144,12 @@ get_or-in l at (v ∷ vs) zero h r =
 get_or-in l at (v ∷ vs) (suc i) h r =
     let e : at + suc i ≡ suc at + i = omega arith in
     rw e (get_or-in (set l at v) (suc at) vs i (omega arith) (omega (arith, length-set l at v)))
+
+pub put-row : (out row : List ℕ) (at n : ℕ) → at + length row ≤ length out → n ≡ length row →
+    take at out ++ (row ++ drop n (drop at out)) ≡ sets out at row
+put-row out row at n h e =
+    ap (λ l. take at out ++ (row ++ l)) (drop-drop n at out ∙ ap (λ m. drop (at + m) out) e)
+    ∙ sym (append_assoc (take at out) row (drop (at + length row) out)) ∙ sym (sets-eq row out at h)
 
 pub put-more : (out₀ out row : List ℕ) (at i : ℕ) → out ≡ sets out₀ at (take i row) → i < length row →
     set out (at + i) (get_or row i 0) ≡ sets out₀ at (take (i + 1) row)

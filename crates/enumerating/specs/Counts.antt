@@ -26,10 +26,3 @@ arity_count σ a f (suc n) = cond (eqb (symbol_of σ f).arity a) 1 0 + arity_cou
 -- How many symbols have each arity below 8.
 abbrev pub ArityCounts : Signature → List ℕ → Type 0
 ArityCounts σ counts = (a : ℕ) → a < 8 → get_or counts a 0 ≡ arity_count σ a 0 (length σ.symbols)
-
-abbrev pub Small : List ℕ → Type 0
-Small counts = (a : ℕ) → a < 8 → get_or counts a 0 < 256
-
--- One more at an arity.
-abbrev pub OneMore : List ℕ → ℕ → List ℕ → Type 0
-OneMore counts arity more = (a : ℕ) → a < 8 → get_or more a 0 ≡ cond (eqb arity a) 1 0 + get_or counts a 0

@@ -5,12 +5,11 @@ ghost use Rattle.std.specs.Prelude.{◌≡◌, ◌≤◌, ◌*◌, length};
 ghost use Rattle.symbols.specs.Table.{signature_of, max_table_words};
 ghost use Rattle.operations.specs.Enumerating.{counted_terms, counted, listed_terms, listed, term_count, is_size};
 ghost use Rattle.operations.specs.Replies.{outcome};
-ghost use Rattle.operations.specs.Enums.{count_reply, number_reply};
-ghost use Rattle.enumerating.specs.Counts.{Cells};
+ghost use Rattle.operations.specs.Enums.{reply_of};
 
-use answers::{Answer, refusal};
-use format::{NO_ROOM_FOR_TERMS, SIZE_OUT_OF_RANGE};
-use operations::{CountReply, NumberReply, TermCount};
+use counts::RowCounts;
+use format::ErrorCode;
+use operations::Error;
 
 mod counts;
 mod rows;
@@ -19,50 +18,53 @@ mod walk;
 // The most terms that are counted.
 const MAX_TERMS: u32 = 65535;
 
-// How many terms there are, by their number up to 65,536.
-fn term_count(number: u32) -> TermCount
+// How many terms there are, by their number up to 65,536; none where there are more than are counted.
+fn term_count(number: u32) -> Option<usize>
     ensures { result ≡ term_count number }
 {
     if number <= MAX_TERMS {
-        TermCount::Exactly {
-            terms: number as usize,
-        }
+        Some(number as usize)
     } else {
-        TermCount::More
+        None
     }
 }
+
+// The most nodes of a term that is listed.
+const MAX_SIZE: usize = 7;
+
+// The error of another size.
+const OUTSIDE: Error = Error {
+    code: ErrorCode::SizeOutOfRange,
+    input: 0,
+    offset: 0,
+};
 
 // Whether terms of n nodes are counted and listed.
 fn is_size(n: usize) -> bool
     ensures { result ≡ is_size n }
 {
-    if n == 0 {
-        return false;
-    }
-    n <= rows::MAX_SIZE
+    0 < n && n <= MAX_SIZE
 }
 
 // How many ground terms of n nodes there are under a symbol table.
-fn count_under(table: &[u16], n: usize) -> CountReply
+fn count_under(table: &[u16], n: usize) -> Result<Option<usize>, Error>
     requires { length table.now ≤ max_table_words }
-    ensures { count_reply result ≡ counted_terms (signature_of table.now) n }
+    ensures { reply_of result ≡ counted_terms (signature_of table.now) n }
 {
-    if !is_size(n) {
-        return CountReply::Refused(refusal(SIZE_OUT_OF_RANGE, 0, 0));
+    if is_size(n) {
+        Ok(term_count(RowCounts::new(table).at(n, 1)))
+    } else {
+        Err(OUTSIDE)
     }
-    let cells = counts::row_counts(table);
-    CountReply::Accepted(term_count(counts::cell_at(&cells, n, 1)))
 }
 
 // How many ground terms of n nodes there are under a packed rule file.
-pub fn count(book: &[u8], n: usize) -> CountReply
-    ensures { count_reply result ≡ counted book.now n }
+pub fn count(book: &[u8], n: usize) -> Result<Option<usize>, Error>
+    ensures { reply_of result ≡ counted book.now n }
 {
     let mut table = [0u16; symbols::TABLE_WORDS];
-    match inputs::read_book(book, &mut table) {
-        Answer::Fault { code, offset } => CountReply::Refused(refusal(code, 0, offset)),
-        Answer::Got { value: _, next } => count_under(&table[..next], n),
-    }
+    let front = inputs::read_book(book, &mut table)?;
+    count_under(&table[..front], n)
 }
 
 // How many words so many terms of n nodes have.
@@ -74,40 +76,36 @@ fn words_of(n: usize, number: u32) -> usize
 }
 
 // Lists the ground terms of n nodes under a symbol table, one after another.
-fn list_under(table: &[u16], words: &mut [u16], n: usize) -> NumberReply
+fn list_under(table: &[u16], words: &mut [u16], n: usize) -> Result<usize, Error>
     requires { length table.now ≤ max_table_words }
-    ensures result_value { number_reply result
+    ensures result_value { reply_of result
         ≡ (outcome (listed_terms (signature_of table.now) words.old n) words.old).reply }
     ensures words_after { words.new
         ≡ (outcome (listed_terms (signature_of table.now) words.old n) words.old).output }
 {
     if !is_size(n) {
-        return NumberReply::Refused(refusal(SIZE_OUT_OF_RANGE, 0, 0));
+        return Err(OUTSIDE);
     }
-    let cells = counts::row_counts(table);
-    let number = counts::cell_at(&cells, n, 1);
-    if number > MAX_TERMS {
-        return NumberReply::Refused(refusal(NO_ROOM_FOR_TERMS, 1, 0));
+    let counts = RowCounts::new(table);
+    let number = counts.at(n, 1);
+    if number > MAX_TERMS || words.len() < words_of(n, number) {
+        return Err(Error {
+            code: ErrorCode::NoRoomForTerms,
+            input: 1,
+            offset: 0,
+        });
     }
-    if words.len() < words_of(n, number) {
-        return NumberReply::Refused(refusal(NO_ROOM_FOR_TERMS, 1, 0));
-    }
-    if number == 0 {
-        return NumberReply::Accepted(0);
-    }
-    let mut blocks = [0usize; walk::BLOCKS];
-    let mut row = [0u16; rows::MAX_SIZE];
-    NumberReply::Accepted(walk::walk(table, &cells, &mut blocks, n, 1, &mut row, n, words, 0))
+    let mut blocks = [None; counts::CELLS];
+    let mut row = [0u16; MAX_SIZE];
+    Ok(counts.walk(&mut blocks, n, 1, &mut row[..n], words, 0))
 }
 
 // Lists the ground terms of n nodes under a packed rule file, one after another.
-pub fn list(book: &[u8], words: &mut [u16], n: usize) -> NumberReply
-    ensures result_value { number_reply result ≡ (listed book.now words.old n).reply }
+pub fn list(book: &[u8], words: &mut [u16], n: usize) -> Result<usize, Error>
+    ensures result_value { reply_of result ≡ (listed book.now words.old n).reply }
     ensures words_after { words.new ≡ (listed book.now words.old n).output }
 {
     let mut table = [0u16; symbols::TABLE_WORDS];
-    match inputs::read_book(book, &mut table) {
-        Answer::Fault { code, offset } => NumberReply::Refused(refusal(code, 0, offset)),
-        Answer::Got { value: _, next } => list_under(&table[..next], words, n),
-    }
+    let front = inputs::read_book(book, &mut table)?;
+    list_under(&table[..front], words, n)
 }

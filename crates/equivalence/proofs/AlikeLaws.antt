@@ -23,7 +23,7 @@ use Rattle.terms.proofs.TermLaws.{row-arguments, size-pos}
 use Rattle.terms.proofs.EquivalenceLaws.{is_equivalent-app, is_equivalent-equivalence, is_equivalent_to-depth}
 use Rattle.symbols.specs.Table.{signature_of}
 use Rattle.subterms.specs.Parts.{part_at, parts_at, elements_at, Stands}
-use Rattle.equivalence.specs.Offsets.{Offsets, First, deleted, alike_at, rows_alike, elements_alike, terms_at}
+use Rattle.equivalence.specs.Offsets.{AtOffsets, First, deleted, alike_at, rows_alike, elements_alike, terms_at}
 use Rattle.subterms.specs.Parts.{root_word}
 use Rattle.equivalence.specs.Keys.{BothPrepared, size_in}
 use Rattle.symbols.proofs.TableLaws.{few-at}
@@ -191,7 +191,7 @@ module _ {table s skeys t tkeys : List ℕ} (S : BothPrepared table s skeys t tk
         rw (rows_step (omega arith), d, ← q) (by_test r (λ z. rw z) λ z. rw z)
 
   module _ (f : ℕ) {i n : ℕ} (a : Stands (signature_of table) s i n) {offsets : List ℕ} {m : ℕ}
-      (P : Offsets (signature_of table) t offsets m (terms_at table t offsets m)) where
+      (P : AtOffsets (signature_of table) t offsets m (terms_at table t offsets m)) where
     pub cancelled-none : n ≡ 0 → eqb m 0 ≡ elements_alike table f s i n (terms_at table t offsets m)
     cancelled-none e =
         let σ = signature_of table in
@@ -226,7 +226,7 @@ pub record Going (table : List ℕ) (f : ℕ) (s t : List ℕ) (i n : ℕ) (offs
     (at owed left : ℕ) : Type 0 where
   pub ahead : i ≤ at
   pub terms : Stands (signature_of table) s at owed
-  pub rest : Offsets (signature_of table) t offsets left (terms_at table t offsets left)
+  pub rest : AtOffsets (signature_of table) t offsets left (terms_at table t offsets left)
   pub same : elements_alike table f s at owed (terms_at table t offsets left)
       ≡ elements_alike table f s i n (terms_at table t offsets₀ m)
 

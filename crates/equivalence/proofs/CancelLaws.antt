@@ -1,8 +1,7 @@
 -- The cancelling of equivalent terms at two lists of offsets: what one step of the scan does.
 --     Cancelling                           what is kept and what is still ahead answer for the whole
---     cancelling-start, -done              where the scan begins and ends
 --     cancelling-kept, cancelling-spent    a term without a partner, and with one
-use mathlib.Core.List.{List, [], ◌∷◌, ◌++◌, map, append_assoc, append-nil}
+use mathlib.Core.List.{List, [], ◌∷◌, ◌++◌, map, append_assoc}
 use mathlib.Core.Path.{◌≡◌, refl, ap, ◌∙◌}
 use Prim.Native.Nat.{ℕ, suc, zero, ◌+◌, ◌-◌, ◌≤◌, ◌<◌}
 use native.Mathlib.Omega.{arith}
@@ -15,7 +14,7 @@ use Rattle.terms.specs.Term.{Term}
 use Rattle.terms.specs.Equivalence.{is_equivalent}
 use Rattle.symbols.specs.Table.{signature_of}
 use Rattle.subterms.specs.Parts.{part_at}
-use Rattle.equivalence.specs.Offsets.{Offsets, First, deleted, alike_at, terms_at, left_at}
+use Rattle.equivalence.specs.Offsets.{AtOffsets, First, deleted, alike_at, terms_at, left_at}
 use Rattle.equivalence.proofs.OffsetLaws.{offset-added}
 use Rattle.equivalence.proofs.RemovalLaws.{removed-none, removed-one, removed-offsets}
 
@@ -37,42 +36,20 @@ pub record Cancelling (table s t ps₀ : List ℕ) (n : ℕ) (qs₀ : List ℕ) 
     pub behind : kept ≤ k
     pub within : k ≤ n
     pub fewer : m ≤ m₀
-    pub left : Offsets (signature_of table) s ps n (terms_at table s ps n)
-    pub right : Offsets (signature_of table) t qs m (terms_at table t qs m)
+    pub left : AtOffsets (signature_of table) s ps n (terms_at table s ps n)
+    pub right : AtOffsets (signature_of table) t qs m (terms_at table t qs m)
     pub same_left : terms_at table s ps kept ++ (left_from table s ps k n t qs m).left ≡ (left_at table s ps₀ n t qs₀ m₀).left
     pub same_right : (left_from table s ps k n t qs m).right ≡ (left_at table s ps₀ n t qs₀ m₀).right
 
-pub cancelling-start : (table s t ps : List ℕ) (n : ℕ) (qs : List ℕ) (m : ℕ) →
-    Offsets (signature_of table) s ps n (terms_at table s ps n) → Offsets (signature_of table) t qs m
-    (terms_at table t qs m) →
-    Cancelling table s t ps n qs m ps qs 0 m 0
-cancelling-start table s t ps n qs m P Q = record {
-  behind = omega arith;
-  within = omega arith;
-  fewer = omega arith;
-  left = P;
-  right = Q;
-  same_left = refl;
-  same_right = refl;
-}
-
 module _ {table s t ps₀ : List ℕ} {n : ℕ} {qs₀ : List ℕ} {m₀ : ℕ} {ps qs : List ℕ} {k m kept : ℕ}
     (C : Cancelling table s t ps₀ n qs₀ m₀ ps qs k m kept) where
-  kept-offsets : Offsets (signature_of table) s ps kept (terms_at table s ps kept)
+  kept-offsets : AtOffsets (signature_of table) s ps kept (terms_at table s ps kept)
   kept-offsets = record {
     room = C.left.room;
     few = omega (arith, C.left.few, C.behind, C.within);
     inside = λ x y. C.left.inside x (omega (arith, C.behind, C.within));
     there = refl;
   }
-
-  pub cancelling-done : k ≡ n → Offsets (signature_of table) s ps kept (left_at table s ps₀ n t qs₀ m₀).left
-      × Offsets (signature_of table) t qs m (left_at table s ps₀ n t qs₀ m₀).right
-  cancelling-done e =
-      let d : rest_from table s ps k n ≡ [] = rw e (ap (map (part_at (signature_of table) s)) (drop-taken ps n)) in
-      let a = rw (d, append-nil) at C.same_left in
-      let b = rw d at C.same_right in
-      (rw (← a) kept-offsets, rw (← b) C.right)
 
   module _ (l : k < n) where
     abbrev first : Term
@@ -99,7 +76,7 @@ module _ {table s t ps₀ : List ℕ} {n : ℕ} {qs₀ : List ℕ} {m₀ : ℕ} 
         (ap (drop (k + 1)) (take-set-lt n ps kept (get_or ps k 0) (omega (arith, C.behind)))
         ∙ drop-set-lt (k + 1) (take n ps) kept (get_or ps k 0) (omega (arith, C.behind)))
 
-    stored-offsets : Offsets (signature_of table) s stored n (terms_at table s stored n)
+    stored-offsets : AtOffsets (signature_of table) s stored n (terms_at table s stored n)
     stored-offsets =
         let P = C.left in
         let h = C.behind in

@@ -2,7 +2,7 @@
 --     elements-few                     an AC symbol's flattening has at most 64 elements
 --     Listing                          what is listed and what is ahead make up the whole
 --     listing-own, listing-other       one step of the scan
-use mathlib.Core.List.{List, ◌∷◌, ◌++◌, append_assoc, append-nil}
+use mathlib.Core.List.{List, ◌∷◌, ◌++◌, append_assoc}
 use mathlib.Core.Path.{◌≡◌, refl, ap}
 use Prim.Native.Nat.{ℕ, ◌+◌, ◌-◌, ◌*◌, ◌≤◌, ◌<◌}
 use native.Mathlib.Omega.{arith}
@@ -18,7 +18,7 @@ use Rattle.symbols.specs.Table.{signature_of}
 use Rattle.symbols.proofs.TableLaws.{few-at}
 use Rattle.subterms.specs.Parts.{part_at, parts_at, elements_at, Stands}
 use Rattle.equivalence.specs.Keys.{Prepared, size_in}
-use Rattle.equivalence.specs.Offsets.{Offsets, terms_at}
+use Rattle.equivalence.specs.Offsets.{AtOffsets, terms_at}
 use Rattle.subterms.proofs.PartLaws.{symbol}
 use Rattle.subterms.proofs.FormedLaws.{part-formed}
 use Rattle.equivalence.proofs.OffsetLaws.{offset-added, offsets-length}
@@ -57,23 +57,12 @@ elements-few table {t} P j f small h e v two d =
 
 pub record Listing (table : List ℕ) (f : ℕ) (t : List ℕ) (j n : ℕ) (offsets : List ℕ) (at owed k : ℕ) : Type 0 where
   pub terms : Stands (signature_of table) t at owed
-  pub listed : Offsets (signature_of table) t offsets k (terms_at table t offsets k)
+  pub listed : AtOffsets (signature_of table) t offsets k (terms_at table t offsets k)
   pub same : terms_at table t offsets k ++ elements_at (signature_of table) f t at owed
       ≡ elements_at (signature_of table) f t j n
 
-pub listing_start : (table : List ℕ) (f : ℕ) (t : List ℕ) (j n : ℕ) (offsets : List ℕ) →
-    Stands (signature_of table) t j n → length offsets ≡ 64 → Listing table f t j n offsets j n 0
-listing_start table f t j n offsets s e = record {
-  terms = s;
-  listed = record { room = e; few = omega arith; inside = λ k h. absurd (omega arith); there = refl };
-  same = refl;
-}
-
 module _ {table : List ℕ} {f : ℕ} {t : List ℕ} {j n : ℕ} {offsets : List ℕ} {at owed k : ℕ} {keys : List ℕ}
     (P : Prepared (signature_of table) t keys) (L : Listing table f t j n offsets at owed k) where
-  pub listing-done : owed ≡ 0 → Offsets (signature_of table) t offsets k (elements_at (signature_of table) f t j n)
-  listing-done e = rw (← L.same, e, append-nil) L.listed
-
   module _ (p : 0 < owed) where
     pub listing-own : {a : ℕ} → get_or t at 0 ≡ f → f < 256 → a ≡ (symbol_of (signature_of table) f).arity →
         Listing table f t j n offsets (at + 1) (a + (owed - 1)) k

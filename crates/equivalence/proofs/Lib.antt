@@ -1,4 +1,5 @@
 -- The laws that the functions' proofs cite, in reading order.
+pub mod PreparedLaws
 pub mod KeyLaws
 pub mod OffsetLaws
 pub mod StepLaws

@@ -18,7 +18,7 @@ use Rattle.terms.specs.Term.{Term}
 use Rattle.terms.specs.Equivalence.{is_equivalent}
 use Rattle.symbols.specs.Table.{signature_of}
 use Rattle.subterms.specs.Parts.{part_at}
-use Rattle.equivalence.specs.Offsets.{Offsets, First, deleted, terms_at}
+use Rattle.equivalence.specs.Offsets.{AtOffsets, First, deleted, terms_at}
 
 module _ {A : Type 0} (p : A → Bool) (g : ℕ → A) where
   pub remove-none : (qs : List ℕ) → ((k : ℕ) → k < length qs → p (g (get_or qs k 0)) ≡ false) → remove p (map g qs) ≡
@@ -59,7 +59,7 @@ deleted-inside n (a ∷ l) (suc k) h (suc p) q = deleted-inside n l k (λ x y. h
 
 -- The terms at offsets, less the first that is equivalent to x.
 module _ (table : List ℕ) (x : Term) {t offsets : List ℕ} {m k : ℕ}
-    (P : Offsets (signature_of table) t offsets m (terms_at table t offsets m))
+    (P : AtOffsets (signature_of table) t offsets m (terms_at table t offsets m))
     (F : First (λ (k : ℕ). is_equivalent (signature_of table) x (part_at (signature_of table) t (get_or offsets k 0))) m k)
   where
     taken-length : length (take m offsets) ≡ m
@@ -82,7 +82,7 @@ module _ (table : List ℕ) (x : Term) {t offsets : List ℕ} {m k : ℕ}
           (rw (get_or-take m offsets k 0 l) (F.found l)))
 
       pub removed-offsets : length out ≡ length offsets →
-          Offsets (signature_of table) t out (m - 1) (terms_at table t out (m - 1))
+          AtOffsets (signature_of table) t out (m - 1) (terms_at table t out (m - 1))
       removed-offsets z =
           let l : length (take (m - 1) out) ≡ m - 1 = length-take-le (m - 1) out (omega (arith, P.room, P.few)) in
           record {

@@ -1,5 +1,5 @@
 -- Lists of offsets of parts, and what the AC-equivalence test answers of parts.
-use Rattle.std.specs.Prelude.{List, [], ◌∷◌, map, Bool, true, false, ◌≡◌, ℕ, suc, zero, ◌≤◌, ◌<◌, length, get_or, take}
+use Rattle.std.specs.Prelude.{List, [], ◌∷◌, map, Bool, true, false, ◌≡◌, ℕ, suc, zero, ◌≤◌, ◌<◌, length, get_or, take, Option, Some, None}
 use Rattle.multisets.specs.Multiset.{Rest, cancel, row_equal, multiset_equal}
 use Rattle.terms.specs.Signature.{Signature}
 use Rattle.terms.specs.Term.{Term}
@@ -8,7 +8,7 @@ use Rattle.symbols.specs.Table.{signature_of}
 use Rattle.subterms.specs.Parts.{part_at, parts_at, elements_at}
 
 -- The first m of offsets are offsets in ws, and the terms there are ts.
-pub record Offsets (σ : Signature) (ws offsets : List ℕ) (m : ℕ) (ts : List Term) : Type 0 where
+pub record AtOffsets (σ : Signature) (ws offsets : List ℕ) (m : ℕ) (ts : List Term) : Type 0 where
   pub room : length offsets ≡ 64
   pub few : m ≤ 64
   pub inside : (k : ℕ) → k < m → get_or offsets k 0 < length ws
@@ -19,6 +19,11 @@ pub record First (p : ℕ → Bool) (m r : ℕ) : Type 0 where
   pub within : r ≤ m
   pub before : (k : ℕ) → k < r → p k ≡ false
   pub found : r < m → p r ≡ true
+
+-- The index of the first number below m that passes the test.
+abbrev pub Found : (ℕ → Bool) → ℕ → Option ℕ → Type 0
+Found p m None = First p m m
+Found p m (Some r) = (r < m) × First p m r
 
 -- The list less the element at an index.
 abbrev pub deleted : ℕ → List ℕ → List ℕ
@@ -46,7 +51,7 @@ module _ (table : List ℕ) where
 
   -- The first m of offsets are offsets in ws.
   abbrev pub OffsetsIn : List ℕ → List ℕ → ℕ → Type 0
-  OffsetsIn ws offsets m = Offsets (signature_of table) ws offsets m (terms_at ws offsets m)
+  OffsetsIn ws offsets m = AtOffsets (signature_of table) ws offsets m (terms_at ws offsets m)
 
   -- What is left of the terms at the n offsets ps and at the m offsets qs once equivalent pairs are cancelled.
   abbrev pub left_at : List ℕ → List ℕ → ℕ → List ℕ → List ℕ → ℕ → Rest Term

@@ -1,6 +1,5 @@
 // AC-equivalence of decoded terms, and the cancelling of AC-equivalent pairs: node words in prefix order, with the keys
-// of all parts beside them. Throughout, s and t are the words of the left and of the right term, skeys and tkeys their
-// keys.
+// of all parts beside them.
 #![tactic(auto)]
 
 pub mod cancel;

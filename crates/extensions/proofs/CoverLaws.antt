@@ -8,10 +8,10 @@ use mathlib.Core.Path.{◌≡◌, refl, sym, ◌∙◌}
 use mathlib.Core.Bool.{Bool, true, false, cond}
 use Prim.Native.Nat.{ℕ, suc, zero, ◌+◌, ◌≤◌, ◌<◌}
 use native.Mathlib.Omega.{arith}
-use lib.Dec.{eqb}
 use lib.ListN.{length, get_or, take}
 use lib.Seq.{get_or-take, length-take-le}
 use Rattle.multisets.specs.Multiset.{some, every, is_empty, cancel, multiset_equal, multiset_greater}
+use lib.Dec.{eqb}
 use borrow.Author.Tests.{eqb-true}
 use Rattle.multisets.proofs.Relations.{by_test, by_order}
 use Rattle.multisets.proofs.MultisetLaws.{sum}
@@ -21,7 +21,7 @@ use Rattle.terms.specs.Equivalence.{is_equivalent}
 use Rattle.terms.specs.Order.{is_greater}
 use Rattle.symbols.specs.Table.{signature_of}
 use Rattle.subterms.specs.Parts.{part_at}
-use Rattle.equivalence.specs.Offsets.{Offsets, terms_at}
+use Rattle.equivalence.specs.Offsets.{AtOffsets, terms_at}
 use Rattle.equivalence.proofs.OffsetLaws.{offsets-length}
 use Rattle.extensions.specs.Compared.{greater_at, covered, multiset_outcome}
 use Rattle.extensions.proofs.MeasureLaws.{cancel-within}
@@ -109,7 +109,7 @@ module _ (table : List ℕ) where
   abbrev pub some_above : List ℕ → List ℕ → ℕ → List ℕ → ℕ → Bool
   some_above s ps n t q = some (λ (a : Term). is_greater σ a (part_at σ t q)) (terms_at table s ps n)
 
-  module _ {s ps : List ℕ} {n : ℕ} (P : Offsets σ s ps n (terms_at table s ps n)) (t : List ℕ) (q : ℕ) where
+  module _ {s ps : List ℕ} {n : ℕ} (P : AtOffsets σ s ps n (terms_at table s ps n)) (t : List ℕ) (q : ℕ) where
     pub above-none : ((k : ℕ) → k < n → greater_at table s (get_or ps k 0) t q ≡ false) → some_above s ps n t q ≡ false
     above-none h =
         let e = length-take-le n ps (omega (arith, P.room, P.few)) in
@@ -122,7 +122,7 @@ module _ (table : List ℕ) where
         some_at (λ a. is_greater σ a (part_at σ t q)) (part_at σ s) (take n ps) k (omega arith)
         (rw (get_or-take n ps k 0 h) f)
 
-  module _ (s ps : List ℕ) (n : ℕ) {t qs : List ℕ} {m : ℕ} (Q : Offsets σ t qs m (terms_at table t qs m)) where
+  module _ (s ps : List ℕ) (n : ℕ) {t qs : List ℕ} {m : ℕ} (Q : AtOffsets σ t qs m (terms_at table t qs m)) where
     abbrev test : Term → Bool
     test y = some (λ (x : Term). is_greater σ x y) (terms_at table s ps n)
 
@@ -152,8 +152,8 @@ module _ (table : List ℕ) where
   filled (a ∷ l) e = refl
 
   module _ {s t : List ℕ} (xs ys : List Term) {ps qs : List ℕ} {a b : ℕ}
-      (P : Offsets σ s ps a (cancel (is_equivalent σ) xs ys).left)
-      (Q : Offsets σ t qs b (cancel (is_equivalent σ) xs ys).right) where
+      (P : AtOffsets σ s ps a (cancel (is_equivalent σ) xs ys).left)
+      (Q : AtOffsets σ t qs b (cancel (is_equivalent σ) xs ys).right) where
     pub multiset_outcome-equal : a ≡ 0 → b ≡ 0 → 1 ≡ multiset_outcome table xs ys
     unfolding multiset_outcome multiset_equal multiset_greater
     multiset_outcome-equal d e = rw (empty _ (offsets-length P ∙ d), empty _ (offsets-length Q ∙ e))

@@ -18,9 +18,12 @@ use Rattle.multisets.specs.Multiset.{multiset_equal}
 use Rattle.terms.specs.Order.{root_above, root_below, low_part}
 use Rattle.multisets.proofs.MultisetLaws.{sum}
 use Rattle.symbols.specs.Table.{signature_of}
-use Rattle.equivalence.specs.Offsets.{Offsets, terms_at, left_at}
+use Rattle.equivalence.specs.Offsets.{AtOffsets, terms_at, left_at}
 use Rattle.equivalence.proofs.OffsetLaws.{offsets-length}
-use Rattle.extensions.specs.Compared.{Parted, multiset_outcome, high_outcome, low_outcome}
+use Rattle.extensions.specs.declared.parts.Parts.{Parts}
+use Rattle.extensions.specs.declared.compare.Outcome.{Outcome}
+use Rattle.extensions.specs.declared.compare.Outcome.TheVariants.{Above, Equivalent, Neither}
+use Rattle.extensions.specs.Compared.{outcome_number, Parted, multiset_outcome, high_outcome, low_outcome}
 use Rattle.extensions.proofs.MeasureLaws.{choose-sum, joined-sum, above-variables}
 
 abbrev picked : Bool → Bool → ℕ
@@ -116,42 +119,38 @@ module _ (table : List ℕ) (f : ℕ) (ss ts : List Term) where
 
 -- ---- by the offsets of the parts
 
-module _ {σ : Signature} {f : ℕ} {ws : List ℕ} {ts : List Term} {above below vars : List ℕ} {a b v all : ℕ}
-    (B : Parted σ f ws ts above below vars a b v all) where
-  pub parted-few : a + v ≤ length ts
+module _ {σ : Signature} {f : ℕ} {ws : List ℕ} {ts : List Term} {p : Parts} (B : Parted σ f ws ts p) where
+  pub parted-few : p.above.count + p.variables.count ≤ length ts
   parted-few = omega (arith, offsets-length B.high, offsets-length B.vars, above-variables σ f ts)
 
-module _ (table : List ℕ) {f : ℕ} {s t : List ℕ} {ss ts : List Term}
-    {sabove sbelow svars tabove tbelow tvars : List ℕ}
-    {a b v m a' b' v' m' : ℕ}
-    (A : Parted (signature_of table) f s ss sabove sbelow svars a b v m)
-    (B : Parted (signature_of table) f t ts tabove tbelow tvars a' b' v' m') where
+module _ (table : List ℕ) {f : ℕ} {s t : List ℕ} {ss ts : List Term} {p q : Parts}
+    (A : Parted (signature_of table) f s ss p) (B : Parted (signature_of table) f t ts q) where
   -- The high part of the right with the variables that the left does not cancel.
   pub joined-offsets : {out : List ℕ} {r : ℕ} →
-      Offsets (signature_of table) t out r (terms_at table t tabove a' ++ (left_at table s svars v t
-      tvars v').right) →
-      Offsets (signature_of table) t out r (joined_high (signature_of table) (is_equivalent (signature_of table)) f ss ts)
+      AtOffsets (signature_of table) t out r (terms_at table t q.above.bytes q.above.count
+      ++ (left_at table s p.variables.bytes p.variables.count t q.variables.bytes q.variables.count).right) →
+      AtOffsets (signature_of table) t out r (joined_high (signature_of table) (is_equivalent (signature_of table)) f ss ts)
   joined-offsets h = rw (A.vars.there, B.vars.there, B.high.there) at h
 
   module _ {out : List ℕ} {r : ℕ}
-      (J : Offsets (signature_of table) t out r (joined_high (signature_of table) (is_equivalent (signature_of table)) f ss
+      (J : AtOffsets (signature_of table) t out r (joined_high (signature_of table) (is_equivalent (signature_of table)) f ss
       ts)) where
-    high-of : {c : ℕ} → c ≡ multiset_outcome table (terms_at table s sabove a) (terms_at table t out r) → c ≡ high_outcome table f
-        ss ts
+    high-of : {c : ℕ} → c ≡ multiset_outcome table (terms_at table s p.above.bytes p.above.count) (terms_at table t out r) →
+        c ≡ high_outcome table f ss ts
     high-of h = h ∙ ap₂ (multiset_outcome table) A.high.there J.there
 
-    pub high-nodes : sum size (terms_at table s sabove a) + sum size (terms_at table t out r) ≤ sum size ss + sum size
-        ts
+    pub high-nodes : sum size (terms_at table s p.above.bytes p.above.count) + sum size (terms_at table t out r)
+        ≤ sum size ss + sum size ts
     high-nodes =
         rw (A.high.there, J.there)
         (omega (arith, choose-sum size (root_above (signature_of table) f) ss, joined-sum (signature_of table) f ss ts))
 
-  low_of : {c : ℕ} → c ≡ multiset_outcome table (terms_at table s sbelow b) (terms_at table t tbelow b') →
-      c ≡ low_outcome table f ss ts
+  low_of : {c : ℕ} → c ≡ multiset_outcome table (terms_at table s p.below.bytes p.below.count)
+      (terms_at table t q.below.bytes q.below.count) → c ≡ low_outcome table f ss ts
   low_of h = h ∙ ap₂ (multiset_outcome table) A.low.there B.low.there
 
-  pub low-nodes : sum size (terms_at table s sbelow b) + sum size (terms_at table t tbelow b') ≤ sum size ss + sum
-      size ts
+  pub low-nodes : sum size (terms_at table s p.below.bytes p.below.count)
+      + sum size (terms_at table t q.below.bytes q.below.count) ≤ sum size ss + sum size ts
   low-nodes =
       rw (A.low.there, B.low.there)
       (omega (
@@ -162,16 +161,13 @@ module _ (table : List ℕ) {f : ℕ} {s t : List ℕ} {ss ts : List Term}
 
 -- ---- each way that the mark is decided, by the offsets
 
-module _ (table : List ℕ) {f : ℕ} {s t : List ℕ} {ss ts : List Term}
-    {sabove sbelow svars tabove tbelow tvars : List ℕ}
-    {a b v m a' b' v' m' : ℕ}
-    (A : Parted (signature_of table) f s ss sabove sbelow svars a b v m)
-    (B : Parted (signature_of table) f t ts tabove tbelow tvars a' b' v' m') {out : List ℕ} {r : ℕ}
-    (J : Offsets (signature_of table) t out r (terms_at table t tabove a' ++ (left_at table s svars v t
-    tvars v').right))
-    {c : ℕ} (h : c ≡ multiset_outcome table (terms_at table s sabove a) (terms_at table t out r)) where
+module _ (table : List ℕ) {f : ℕ} {s t : List ℕ} {ss ts : List Term} {p q : Parts}
+    (A : Parted (signature_of table) f s ss p) (B : Parted (signature_of table) f t ts q) {out : List ℕ} {r : ℕ}
+    (J : AtOffsets (signature_of table) t out r (joined_high (signature_of table) (is_equivalent (signature_of table)) f ss
+    ts))
+    {c : ℕ} (h : c ≡ multiset_outcome table (terms_at table s p.above.bytes p.above.count) (terms_at table t out r)) where
   high : c ≡ high_outcome table f ss ts
-  high = high-of table A B (joined-offsets table A B J) h
+  high = high-of table A B J h
 
   pub parts-four : c ≡ 2 → 4 ≡ flat table f ss ts
   parts-four e = flat-four table f ss ts (sym high ∙ e)
@@ -179,24 +175,32 @@ module _ (table : List ℕ) {f : ℕ} {s t : List ℕ} {ss ts : List Term}
   pub parts_none : c ≡ 0 → 0 ≡ flat table f ss ts
   parts_none e = flat-none table f ss ts (sym high ∙ e)
 
-  module _ (p : c ≡ 2 → ⊥) (q : c ≡ 0 → ⊥) where
-    pub parts-five : m' < m → 5 ≡ flat table f ss ts
-    parts-five l =
-        flat-five table f ss ts (λ z. p (high ∙ z)) (λ z. q (high ∙ z)) (omega (arith, A.whole, B.whole))
+  module _ (one : c ≡ 1) where
+    not-two : high_outcome table f ss ts ≡ 2 → ⊥
+    not-two z = absurd (omega (arith, high, z))
 
-    pub parts-fewer : m < m' → 0 ≡ flat table f ss ts
-    parts-fewer l =
-        flat-fewer table f ss ts (λ z. p (high ∙ z)) (λ z. q (high ∙ z)) (omega (arith, A.whole, B.whole))
+    not-none : high_outcome table f ss ts ≡ 0 → ⊥
+    not-none z = absurd (omega (arith, high, z))
 
-    module _ (l : m ≤ m') (k : m' ≤ m) {d : ℕ} (e : d ≡ multiset_outcome table (terms_at table s sbelow b)
-        (terms_at table t tbelow b'))
+    pub parts-five : q.all < p.all → 5 ≡ flat table f ss ts
+    parts-five l = flat-five table f ss ts not-two not-none (omega (arith, A.whole, B.whole))
+
+    pub parts-fewer : p.all < q.all → 0 ≡ flat table f ss ts
+    parts-fewer l = flat-fewer table f ss ts not-two not-none (omega (arith, A.whole, B.whole))
+
+    module _ (l : p.all ≤ q.all) (k : q.all ≤ p.all) {d : ℕ}
+        (e : d ≡ multiset_outcome table (terms_at table s p.below.bytes p.below.count)
+        (terms_at table t q.below.bytes q.below.count))
       where
         pub parts-six : d ≡ 2 → 6 ≡ flat table f ss ts
         parts-six g =
-            flat-six table f ss ts (λ z. p (high ∙ z)) (λ z. q (high ∙ z)) (omega (arith, A.whole, B.whole))
-            (sym (low_of table A B e) ∙ g)
+            flat-six table f ss ts not-two not-none (omega (arith, A.whole, B.whole)) (sym (low_of table A B e) ∙ g)
 
         pub parts-level : (d ≡ 2 → ⊥) → 0 ≡ flat table f ss ts
         parts-level g =
-            flat-level table f ss ts (λ z. p (high ∙ z)) (λ z. q (high ∙ z)) (omega (arith, A.whole, B.whole))
-            (λ z. g (low_of table A B e ∙ z))
+            flat-level table f ss ts not-two not-none (omega (arith, A.whole, B.whole)) (λ z. g (low_of table A B e ∙ z))
+
+pub not-above : (o : Outcome) → (o ≡ Above → ⊥) → outcome_number o ≡ 2 → ⊥
+not-above Above n e = n refl
+not-above Equivalent n e = absurd (omega arith)
+not-above Neither n e = absurd (omega arith)

@@ -2,13 +2,13 @@
 --     greater-oftener, -weight, -level                        the variables, the weights, terms of equal weight
 --     at-weight, -differing, -variable, -elements, -rows      the terms at two offsets
 use mathlib.Core.List.{List}
-use mathlib.Core.Path.{◌≡◌, sym, ap, ◌∙◌}
+use mathlib.Core.Path.{◌≡◌, refl, sym, ap, ◌∙◌}
 use mathlib.Core.Bool.{Bool, true, false, cond}
 use Prim.Native.Nat.{ℕ, ◌+◌, ◌≤◌, ◌<◌}
 use native.Mathlib.Omega.{arith}
 use lib.Dec.{ltb, leb, eqb}
 use lib.ListN.{length, get_or}
-use borrow.Author.Tests.{le-ltb, eq-eqb, ne_eqb}
+use borrow.Author.Tests.{lt-ltb, le-ltb, eq-eqb, ne_eqb}
 use Rattle.multisets.proofs.Relations.{by_test}
 use Rattle.terms.specs.Signature.{Signature, symbol_of}
 use Rattle.terms.specs.Term.{Term, weight, variable_count}
@@ -20,9 +20,14 @@ use Rattle.terms.proofs.OftenerLaws.{oftener-some}
 use Rattle.symbols.specs.Table.{signature_of}
 use Rattle.symbols.proofs.TableLaws.{few-at}
 use Rattle.subterms.specs.Parts.{part_at}
+use Rattle.weights.specs.declared.totals.Totals.{Totals}
 use Rattle.measures.specs.Sums.{Scale}
 use Rattle.extensions.specs.Compared.{weight_at, none_oftener_at, higher_mark, is_higher, greater_at, root_at, rows_greater}
-use Rattle.extensions.specs.Compared.{flattened_at}
+use Rattle.extensions.specs.Compared.{flattened_at, mark_or_none}
+use Rattle.operations.specs.declared.Mark.{Mark}
+use Rattle.operations.specs.declared.Mark.TheVariants as mark
+use Rattle.operations.specs.Enums.{mark_number}
+use Rattle.std.proofs.Common.{Option, Some, None, is_some}
 use Rattle.extensions.proofs.RootLaws.{positive, root-variable, root-differing, root-elements, root-rows}
 
 abbrev pub by_none : Bool → ℕ → ℕ → ℕ → ℕ
@@ -53,7 +58,7 @@ module _ (σ : Signature) (s t : Term) where
 higher-mark : (g : ℕ) → 0 < higher_mark g
 higher-mark g = by_test (leb 256 g) (λ e. rw e (omega arith)) λ e. rw e (omega arith)
 
-module _ {table s skeys ssums t tkeys tsums : List ℕ}
+module _ {table s skeys t tkeys : List ℕ} {ssums tsums : List Totals}
     (S : Scale table s skeys ssums t tkeys tsums) (i j : ℕ)
     (few : true ≡ none_oftener_at table s i t j) {x y : ℕ} (p : x ≡ weight_at table s i) (q : y ≡ weight_at table t j) where
   level : x ≡ y → {r : Bool} → r ≡ ltb 0 (root_at table s i t j) → r ≡ greater_at table s i t j
@@ -85,3 +90,23 @@ module _ {table s skeys ssums t tkeys tsums : List ℕ}
       pub at_rows : (symbol_of (signature_of table) (get_or s i 0)).ac ≡ false → {r : Bool} →
           r ≡ rows_greater table s (i + 1) t (j + 1) n → r ≡ greater_at table s i t j
       at_rows c {r} f = level l (positive 3 (omega arith) r ∙ ap (ltb 0) (root-rows table s i t j h k e v d c f))
+
+-- ---- the marks
+
+pub positive-mark : (m : Mark) → 0 < mark_number m
+positive-mark mark.FallsByWeight = omega arith
+positive-mark mark.FallsByRank = omega arith
+positive-mark mark.FallsByArguments = omega arith
+positive-mark mark.FallsByHighTerms = omega arith
+positive-mark mark.FallsByCount = omega arith
+positive-mark mark.FallsByLowTerms = omega arith
+positive-mark mark.VariableAdded = omega arith
+positive-mark mark.LeftLighter = omega arith
+positive-mark mark.SidesEqual = omega arith
+positive-mark mark.NoCase = omega arith
+positive-mark mark.FallsByWrapping = omega arith
+
+-- A mark holds exactly if its number is not 0.
+pub mark-some : (o : Option Mark) → is_some o ≡ ltb 0 (mark_or_none o)
+mark-some (Some m) = sym (lt-ltb 0 (mark_number m) (positive-mark m))
+mark-some None = refl

@@ -1,4 +1,5 @@
 -- The laws that the functions' proofs cite, in reading order.
+pub mod MeasuredLaws
 pub mod MeasureLaws
 mod CoverLaws
 mod SplitLaws

@@ -26,7 +26,7 @@ use Rattle.terms.specs.Order.{variables, root_above, high_part, joined_high}
 use Rattle.symbols.specs.Table.{signature_of}
 use Rattle.subterms.specs.Parts.{part_at, parts_at, elements_at, Stands}
 use Rattle.equivalence.specs.Keys.{Prepared, BothPrepared, size_in}
-use Rattle.equivalence.specs.Offsets.{Offsets, terms_at}
+use Rattle.equivalence.specs.Offsets.{AtOffsets, terms_at}
 use Rattle.subterms.proofs.PartLaws.{total, symbol}
 use Rattle.equivalence.proofs.StepLaws.{row_next, prepared-size}
 use Rattle.equivalence.proofs.AlikeLaws.{ac-small, inner-left, inner-right}
@@ -129,7 +129,7 @@ module _ (σ : Signature) (f : ℕ) (ws : List ℕ) (i n : ℕ) where
   pub elements-sum : sum size (elements_at σ f ws i n) ≤ total (parts_at σ ws i n)
   elements-sum = flat-sums f (arguments (parts_at σ ws i n))
 
-module _ {σ : Signature} {ws ps : List ℕ} {m : ℕ} {l : List Term} (P : Offsets σ ws ps m l) where
+module _ {σ : Signature} {ws ps : List ℕ} {m : ℕ} {l : List Term} (P : AtOffsets σ ws ps m l) where
   pub offset-size : (k : ℕ) → k < m → size (part_at σ ws (get_or ps k 0)) ≤ sum size l
   offset-size k h =
       let e = length-take-le m ps (omega (arith, P.room, P.few)) in

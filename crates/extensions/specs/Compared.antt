@@ -1,5 +1,5 @@
 -- What the functions of the comparison answer of the terms at two offsets, of the n terms there, and of two lists.
-use Rattle.std.specs.Prelude.{List, Bool, cond, ◌&&◌, ◌||◌, ◌≡◌, ℕ, leb, ltb, length}
+use Rattle.std.specs.Prelude.{List, Bool, cond, ◌&&◌, ◌||◌, ◌≡◌, ℕ, leb, ltb, length, Option, Some, None}
 use Rattle.multisets.specs.Multiset.{every, some, multiset_equal, multiset_greater, row_greater}
 use Rattle.terms.specs.Signature.{Signature, symbol_of}
 use Rattle.terms.specs.Term.{Term, variable_count, weight}
@@ -9,15 +9,31 @@ use Rattle.terms.specs.Order.{none_oftener, variables as variables_of, high_part
 use Rattle.terms.specs.Order.{root_mark, is_greater}
 use Rattle.symbols.specs.Table.{signature_of}
 use Rattle.subterms.specs.Parts.{part_at, parts_at, elements_at, Stands}
-use Rattle.equivalence.specs.Offsets.{Offsets}
+use Rattle.equivalence.specs.Offsets.{AtOffsets}
+use Rattle.operations.specs.declared.Mark.{Mark}
+use Rattle.operations.specs.Enums.{mark_number}
+use Rattle.extensions.specs.declared.parts.Parts.{Parts}
+use Rattle.extensions.specs.declared.compare.Outcome.{Outcome}
+use Rattle.extensions.specs.declared.compare.Outcome.TheVariants.{Above, Equivalent, Neither}
 
--- The offsets of the elements above f, of those below f and of the variables, and how many elements there are.
-pub record Parted (σ : Signature) (f : ℕ) (ws : List ℕ) (ts : List Term) (above below variables : List ℕ)
-    (a b v all : ℕ) : Type 0 where
-  pub high : Offsets σ ws above a (high_part σ f ts)
-  pub low : Offsets σ ws below b (low_part σ f ts)
-  pub vars : Offsets σ ws variables v (variables_of ts)
-  pub whole : all ≡ length ts
+-- The parts listed of the elements ts of a flattening for f: those above f, those below f, the variables, and how many
+-- elements there are.
+pub record Parted (σ : Signature) (f : ℕ) (ws : List ℕ) (ts : List Term) (p : Parts) : Type 0 where
+  pub high : AtOffsets σ ws p.above.bytes p.above.count (high_part σ f ts)
+  pub low : AtOffsets σ ws p.below.bytes p.below.count (low_part σ f ts)
+  pub vars : AtOffsets σ ws p.variables.bytes p.variables.count (variables_of ts)
+  pub whole : p.all ≡ length ts
+
+-- The number of a mark, and 0 where none holds.
+abbrev pub mark_or_none : Option Mark → ℕ
+mark_or_none (Some m) = mark_number m
+mark_or_none None = 0
+
+-- The number of an outcome on two multisets.
+abbrev pub outcome_number : Outcome → ℕ
+outcome_number Above = 2
+outcome_number Equivalent = 1
+outcome_number Neither = 0
 
 -- The mark of terms of equal weight, of which the left has the higher root, by the right one's word.
 abbrev pub higher_mark : ℕ → ℕ

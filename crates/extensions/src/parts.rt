@@ -1,150 +1,84 @@
 // The elements of a flattening, split by their roots, and the high part that is compared.
-ghost use Rattle.std.specs.Prelude.{◌≡◌, List, ◌++◌, ◌+◌, ◌≤◌, ◌<◌, length};
-ghost use Rattle.terms.specs.Term.{Term};
+ghost use Rattle.std.specs.Prelude.{◌≡◌, ◌++◌, ◌+◌, ◌≤◌, ◌<◌, length};
 ghost use Rattle.symbols.specs.Table.{signature_of};
 ghost use Rattle.subterms.specs.Parts.{elements_at, Stands};
-ghost use Rattle.equivalence.specs.Keys.{Prepared, BothPrepared};
-ghost use Rattle.equivalence.specs.Offsets.{Offsets, OffsetsIn, terms_at, left_at};
+ghost use Rattle.equivalence.specs.Offsets.{AtOffsets, OffsetsIn, terms_at, left_at};
 ghost use Rattle.extensions.specs.Compared.{Parted};
 
-use equivalence::MAX_ELEMENTS;
-use format::MAX_NODES;
+use equivalence::keys::{Keyed, Pair};
+use equivalence::offsets::Offsets;
+use format::FIRST_VARIABLE;
+use std::cmp::Ordering;
 use symbols::precedence;
 
-#[derive(Clone, Copy)]
-pub struct PartCounts {
-    pub above: usize,
-    pub below: usize,
-    pub variables: usize,
+// The offsets of the elements that stand above the flattening's symbol, of those below it and of the variables, and how
+// many elements there are.
+#[derive(Drop)]
+pub struct Parts {
+    pub above: Offsets,
+    pub below: Offsets,
+    pub variables: Offsets,
     pub all: usize,
 }
 
-// Splits the m elements by their roots: above f, below f, variables.
-fn split(
-    table: &[u16],
-    f: u16,
-    words: &[u16],
-    offsets: &[u8; MAX_ELEMENTS],
-    m: usize,
-    above: &mut [u8; MAX_ELEMENTS],
-    below: &mut [u8; MAX_ELEMENTS],
-    variables: &mut [u8; MAX_ELEMENTS],
-) -> PartCounts
-    requires offsets_in { OffsetsIn table.now words.now offsets.now m }
-    requires above_len { (length above.old ≡ 64) × (length below.old ≡ 64) × (length variables.old ≡ 64) }
-    ensures { Parted (signature_of table.now) f words.now
-        (terms_at table.now words.now offsets.now m)
-        above.new below.new variables.new result.above result.below result.variables result.all }
-{
-    let rank = precedence(table, f);
-    let mut k = 0;
-    let mut a = 0;
-    let mut b = 0;
-    let mut v = 0;
-    while k < m {
-        let p = offsets[k];
-        let word = words[equivalence::offsets::wide_byte(p)];
-        if word >= format::FIRST_VARIABLE {
-            variables[v] = p;
-            v += 1;
-            k += 1;
-        } else {
-            let own = precedence(table, word);
-            if rank < own {
-                above[a] = p;
-                a += 1;
-                k += 1;
-            } else if own < rank {
-                below[b] = p;
-                b += 1;
-                k += 1;
+impl Parts {
+    pub fn empty() -> Parts
+        ensures { (result.above.count ≡ 0) × (result.below.count ≡ 0) × (result.variables.count ≡ 0)
+            × (result.all ≡ 0) }
+    {
+        Parts {
+            above: Offsets::empty(),
+            below: Offsets::empty(),
+            variables: Offsets::empty(),
+            all: 0,
+        }
+    }
+
+    // Lists the parts of the flattenings for f of the n terms at i; what was listed goes.
+    #[inline]
+    pub fn list(&mut self, term: &Keyed, f: u16, i: usize, n: usize)
+        requires stands { Stands (signature_of term.now.table.now) term.now.words.now i n }
+        requires f_bound { (f < 256)
+            × (length (elements_at (signature_of term.now.table.now) f term.now.words.now i n) ≤ 64) }
+        ensures { Parted (signature_of term.now.table.now) f term.now.words.now
+            (elements_at (signature_of term.now.table.now) f term.now.words.now i n) self.new }
+    {
+        let mut elements = Offsets::empty();
+        term.elements(f, i, n, &mut elements);
+        self.above.count = 0;
+        self.below.count = 0;
+        self.variables.count = 0;
+        self.all = elements.count;
+        let rank = precedence(term.table, f);
+        for k in 0..elements.count {
+            let p = elements.get(k);
+            let word = term.words[p];
+            if word >= FIRST_VARIABLE {
+                self.variables.push(p);
             } else {
-                k += 1;
+                match precedence(term.table, word).cmp(&rank) {
+                    Ordering::Greater => self.above.push(p),
+                    Ordering::Less => self.below.push(p),
+                    Ordering::Equal => {}
+                }
             }
         }
     }
-    PartCounts {
-        above: a,
-        below: b,
-        variables: v,
-        all: k,
+}
+
+// Cancels the variables of both sides, and puts what is left of the right ones after the right's high part.
+pub fn join_surplus(pair: &Pair, left: &mut Offsets, right: &mut Offsets, high: &mut Offsets)
+    requires offsets_in { OffsetsIn pair.now.left.table.now pair.now.left.words.now left.old.bytes left.old.count }
+    requires offsets_in_2 { OffsetsIn pair.now.left.table.now pair.now.right.words.now right.old.bytes right.old.count }
+    requires offsets_in_3 { OffsetsIn pair.now.left.table.now pair.now.right.words.now high.old.bytes high.old.count }
+    requires b_bound { high.old.count + right.old.count ≤ 64 }
+    ensures { AtOffsets (signature_of pair.now.left.table.now) pair.now.right.words.now high.new.bytes high.new.count
+        (terms_at pair.now.left.table.now pair.now.right.words.now high.old.bytes high.old.count
+        ++ (left_at pair.now.left.table.now pair.now.left.words.now left.old.bytes left.old.count
+        pair.now.right.words.now right.old.bytes right.old.count).right) }
+{
+    pair.cancel(left, right);
+    for k in 0..right.count {
+        high.push(right.get(k));
     }
-}
-
-// Lists the parts of the flattenings for f of the n terms at i.
-pub fn parts(
-    table: &&[u16],
-    f: u16,
-    words: &&[u16],
-    keys: &[u64; MAX_NODES],
-    i: usize,
-    n: usize,
-    above: &mut [u8; MAX_ELEMENTS],
-    below: &mut [u8; MAX_ELEMENTS],
-    variables: &mut [u8; MAX_ELEMENTS],
-) -> PartCounts
-    requires prepared { Prepared (signature_of table.now.now) words.now.now keys.now
-        × Stands (signature_of table.now.now) words.now.now i n }
-    requires f_bound { (f < 256) × (length (elements_at (signature_of table.now.now) f words.now.now i n) ≤ 64) }
-    requires above_len { (length above.old ≡ 64) × (length below.old ≡ 64) × (length variables.old ≡ 64) }
-    ensures { Parted (signature_of table.now.now) f words.now.now
-        (elements_at (signature_of table.now.now) f words.now.now i n)
-        above.new below.new variables.new result.above result.below result.variables result.all }
-{
-    let mut offsets = [0u8; MAX_ELEMENTS];
-    let m = equivalence::flatten::elements(table, f, words, keys, i, n, &mut offsets);
-    split(*table, f, *words, &offsets, m, above, below, variables)
-}
-
-// Puts the first m of qs after the first k of ps.
-fn join(
-    table: &[u16],
-    t: &[u16],
-    ps: &mut [u8; MAX_ELEMENTS],
-    k: usize,
-    qs: &[u8; MAX_ELEMENTS],
-    m: usize,
-)
-    requires m_bound { k + m ≤ 64 }
-    requires offsets_in { OffsetsIn table.now t.now qs.now m }
-    ensures { (l : List Term) →
-        Offsets (signature_of table.now) t.now ps.old k l →
-        Offsets (signature_of table.now) t.now ps.new (k + m)
-        (l ++ terms_at table.now t.now qs.now m) }
-{
-    let mut x = 0;
-    while x < m {
-        ps[k + x] = qs[x];
-        x += 1;
-    }
-}
-
-// Puts what the left's a variables do not cancel of the right's b after the first k of the right's high part.
-pub fn join_surplus(
-    table: &&[u16],
-    s: &&[u16],
-    skeys: &[u64; MAX_NODES],
-    svars: &mut [u8; MAX_ELEMENTS],
-    a: usize,
-    t: &&[u16],
-    tkeys: &[u64; MAX_NODES],
-    tvars: &mut [u8; MAX_ELEMENTS],
-    b: usize,
-    thigh: &mut [u8; MAX_ELEMENTS],
-    k: usize,
-) -> usize
-    requires both_prepared { BothPrepared table.now.now s.now.now skeys.now t.now.now tkeys.now }
-    requires offsets_in { OffsetsIn table.now.now s.now.now svars.old a }
-    requires offsets_in_2 { OffsetsIn table.now.now t.now.now tvars.old b }
-    requires offsets_in_3 { OffsetsIn table.now.now t.now.now thigh.old k }
-    requires b_bound { k + b ≤ 64 }
-    ensures { Offsets (signature_of table.now.now) t.now.now thigh.new result
-        (terms_at table.now.now t.now.now thigh.old k
-        ++ (left_at table.now.now s.now.now svars.old a
-        t.now.now tvars.old b).right) }
-{
-    let rest = equivalence::cancel::cancel(table, s, skeys, svars, a, t, tkeys, tvars, b);
-    let m = rest.right;
-    join(*table, *t, thigh, k, tvars, m);
-    k + m
 }

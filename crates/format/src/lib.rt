@@ -21,6 +21,9 @@ pub const RULE_COUNT_WIDTH: usize = 10;
 
 pub const ARITY_WIDTH: usize = 3;
 
+// How many arities there are.
+pub const ARITIES: usize = 8;
+
 pub const AC_WIDTH: usize = 1;
 
 pub const RANK_WIDTH: usize = 8;
@@ -45,48 +48,30 @@ pub const VARIABLES: usize = 16;
 // How many words may be a node's.
 pub const NODE_WORDS: usize = 272;
 
-pub const FILE_TOO_LONG: u8 = 1;
-
-pub const FIELD_MISSING: u8 = 2;
-
-pub const WRONG_FORM: u8 = 3;
-
-pub const NO_SYMBOLS: u8 = 4;
-
-pub const VARIABLE_WEIGHTLESS: u8 = 5;
-
-pub const AC_NOT_BINARY: u8 = 6;
-
-pub const WEIGHT_INADMISSIBLE: u8 = 7;
-
-pub const RANK_TAKEN: u8 = 8;
-
-pub const NO_SUCH_SYMBOL: u8 = 9;
-
-pub const TOO_MANY_NODES: u8 = 10;
-
-pub const BAD_PADDING: u8 = 11;
-
-pub const MARKS_TOO_SHORT: u8 = 12;
-
-pub const WORDS_TOO_SHORT: u8 = 13;
-
-pub const WORD_TOO_WIDE: u8 = 14;
-
-pub const WORDS_LEFT_OVER: u8 = 15;
-
-pub const BYTES_TOO_SHORT: u8 = 16;
-
-pub const OLD_FORM: u8 = 17;
-
-pub const VARIABLE_OUT_OF_TURN: u8 = 18;
-
-pub const PAGE_TOO_SHORT: u8 = 19;
-
-pub const SIZE_OUT_OF_RANGE: u8 = 22;
-
-pub const NO_ROOM_FOR_TERMS: u8 = 23;
-
-pub const NO_SUCH_JOB: u8 = 24;
-
-pub const BAD_JOB: u8 = 25;
+// Why an input is refused, by the numbers of the refusals.
+#[derive(Clone, Copy, PartialEq, Eq)]
+pub enum ErrorCode {
+    FileTooLong = 1,
+    FieldMissing = 2,
+    WrongForm = 3,
+    NoSymbols = 4,
+    VariableWeightless = 5,
+    AcNotBinary = 6,
+    WeightInadmissible = 7,
+    RankTaken = 8,
+    NoSuchSymbol = 9,
+    TooManyNodes = 10,
+    BadPadding = 11,
+    MarksTooShort = 12,
+    WordsTooShort = 13,
+    WordTooWide = 14,
+    WordsLeftOver = 15,
+    BytesTooShort = 16,
+    OldForm = 17,
+    VariableOutOfTurn = 18,
+    PageTooShort = 19,
+    SizeOutOfRange = 22,
+    NoRoomForTerms = 23,
+    NoSuchJob = 24,
+    BadJob = 25,
+}

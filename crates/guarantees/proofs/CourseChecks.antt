@@ -1,5 +1,6 @@
 -- The theorems on turns, by computation, for four turns over three jobs. Between the turns the others hand in, take
 -- away, write over a book and write over marks; job 0 is served first and last, and has its marks then.
+use Rattle.std.specs.Prelude.{Option, Some, None}
 use mathlib.Core.List.{List, [], ◌∷◌, ◌++◌}
 use mathlib.Core.Path.{◌≡◌, refl, sym, ◌∙◌}
 use mathlib.Core.Bool.{false, false≢true}
@@ -16,8 +17,6 @@ use Rattle.format.specs.Format.{forest_reader, side_reader, rule_reader, rules_r
 use Rattle.format.specs.Files.{whole_reader, read_bytes_in}
 use Rattle.format.specs.Listing.{listing}
 use Rattle.operations.specs.declared.Job.{Job}
-use Rattle.operations.specs.declared.Turn.{Turn}
-use Rattle.operations.specs.declared.Turn.TheVariants.{Served, Idle}
 use Rattle.operations.specs.Replies.Reply.{accepted}
 use Rattle.operations.specs.Marking.{marked}
 use Rattle.operations.specs.Score.{nearest, score_of}
@@ -85,18 +84,18 @@ second-changes = (refl, refl)
 abbrev finished : Call
 finished = call (whole 2 ∷ whole 2 ∷ bare ∷ []) books marks₀ 1
 
-finished-idle : (run finished).reply ≡ accepted Idle
+finished-idle : (run finished).reply ≡ accepted None
 unfolding turned turn_of first_from is_sound has_left book_marks read_bytes_in whole_reader file_reader body_reader
     symbol_table_reader symbols_reader symbol_reader rules_reader rule_reader side_reader forest_reader bit_field forest_of
 finished-idle = refl
 
 finished-left : (i : ℕ) → i < 3 → has_left finished.buffer (job finished i) ≡ false
-finished-left = (idle-exactly finished Idle finished-idle).0 refl
+finished-left = (idle-exactly finished None finished-idle).0 refl
 
 finished-kept : ((run finished).jobs ≡ finished.jobs) × ((run finished).marks ≡ marks₀)
 finished-kept =
     others-keep-all finished
-    λ i e. let z : accepted Idle ≡ accepted (Served i) = sym finished-idle ∙ e in false≢true (cc)
+    λ i e. let z : accepted None ≡ accepted (Some i) = sym finished-idle ∙ e in false≢true (cc)
 
 -- ---- served within three turns
 
@@ -104,12 +103,12 @@ finished-kept =
 abbrev later : ℕ → Call
 later k = course (suc k)
 
-later-replies : (k : ℕ) → k < 3 → (t : Turn) × ((run (later k)).reply ≡ accepted t)
+later-replies : (k : ℕ) → k < 3 → (t : Option ℕ) × ((run (later k)).reply ≡ accepted t)
 unfolding turned turn_of first_from is_sound has_left book_marks read_bytes_in whole_reader file_reader body_reader
     symbol_table_reader symbols_reader symbol_reader rules_reader rule_reader side_reader forest_reader bit_field forest_of
-later-replies zero h = (Served 1, refl)
-later-replies (suc zero) h = (Served 2, refl)
-later-replies (suc (suc zero)) h = (Served 0, refl)
+later-replies zero h = (Some 1, refl)
+later-replies (suc zero) h = (Some 2, refl)
+later-replies (suc (suc zero)) h = (Some 0, refl)
 later-replies (suc (suc (suc k))) h = absurd (omega arith)
 
 later-kept : (k : ℕ) → suc k < 3 → JobKept later 0 k × PassedOn later 0 k
@@ -121,7 +120,7 @@ later-kept (suc zero) h =
     (record { record-kept = refl; book-kept = refl }, record { number-kept = refl; last-passed = refl })
 later-kept (suc (suc k)) h = absurd (omega arith)
 
-later-served : (k : ℕ) × (k < 3) × ((run (later k)).reply ≡ accepted (Served 0))
+later-served : (k : ℕ) × (k < 3) × ((run (later k)).reply ≡ accepted (Some 0))
 unfolding has_left book_marks read_bytes_in whole_reader file_reader body_reader symbol_table_reader symbols_reader symbol_reader
     rules_reader rule_reader side_reader forest_reader bit_field forest_of
 later-served = served-within later 0 (omega arith) refl later-replies later-kept

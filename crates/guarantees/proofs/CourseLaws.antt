@@ -1,6 +1,7 @@
 -- Many turns over a list of jobs, one after another.
 --     served-by       a job with rules left is served by the turn that its distance tells
 --     marks-alone     the marks of a job, turn by turn, and once all its rules are marked
+use Rattle.std.specs.Prelude.{Option, Some, None}
 use mathlib.Core.List.{List, [], ◌∷◌, ◌++◌}
 use mathlib.Core.Logic.{◌≢◌}
 use mathlib.Core.Path.{◌≡◌, refl, sym, ap, ◌∙◌}
@@ -15,8 +16,6 @@ use lib.Seq.{take-length, take-append_seam}
 use borrow.Author.Tests.{eqb-true, eqb-false}
 use Rattle.multisets.proofs.Relations.{by_test, by_order}
 use Rattle.operations.specs.declared.Job.{Job}
-use Rattle.operations.specs.declared.Turn.{Turn}
-use Rattle.operations.specs.declared.Turn.TheVariants.{Served, Idle}
 use Rattle.operations.specs.declared.Summary.{Summary}
 use Rattle.operations.specs.Replies.{Reply}
 use Rattle.operations.specs.Replies.Reply.{accepted, refused}
@@ -41,18 +40,18 @@ left-kept calls d kept same l = rw (kept.book-kept, ap (λ (j : Job). j.marked) 
 -- By the turn whose number is the distance to the job, at most.
 pub served-by : (b : ℕ) (calls : ℕ → Call) (n d j : ℕ) → j < b → ListN.length (calls 0).jobs ≡ n → j < n →
     left (calls 0) d → onward n (round_after n (calls 0).last) j ≡ d →
-    ((k : ℕ) → k ≤ j → (t : Turn) × ((run (calls k)).reply ≡ accepted t)) →
+    ((k : ℕ) → k ≤ j → (t : Option ℕ) × ((run (calls k)).reply ≡ accepted t)) →
     ((k : ℕ) → k < j → JobKept calls d k × PassedOn calls d k) →
-    (k : ℕ) × (k ≤ j) × ((run (calls k)).reply ≡ accepted (Served d))
+    (k : ℕ) × (k ≤ j) × ((run (calls k)).reply ≡ accepted (Some d))
 served-by zero calls n d j h long near l there replied kept = absurd (omega arith)
 served-by (suc b) calls n d j h long near l there replied kept =
     let (t, e) = replied 0 (omega arith) in
     let a = allowed (calls 0) t e in
     let (p, met) = first_some n (passes (calls 0)) n j (round_after n (calls 0).last) d near there l in
-    let served : (run (calls 0)).reply ≡ accepted (Served p) =
-    e ∙ ap (λ (u : Turn). accepted u) (sym a.turn ∙ rw long met.first) in
+    let served : (run (calls 0)).reply ≡ accepted (Some p) =
+    e ∙ ap (λ (u : Option ℕ). accepted u) (sym a.turn ∙ rw long met.first) in
     by_test (eqb p d)
-    (λ q. (0, omega arith, served ∙ ap (λ (i : ℕ). accepted (Served i)) (eqb-true p d q)))
+    (λ q. (0, omega arith, served ∙ ap (λ (i : ℕ). accepted (Some i)) (eqb-true p d q)))
     λ q. let other : d ≢ p = λ s. eqb-false p d q (sym s) in
     let before : met.steps < j =
     by_order met.steps j (λ o. o) λ o. absurd (eqb-false p d q
@@ -117,12 +116,12 @@ progress-turn : (c : Call) (d : ℕ) (all : List ℕ) → book_marks (book c d) 
     Progress all d (job c d).marked c.marks → Progress all d (job_at (run c).jobs d).marked (run c).marks
 progress-turn c d all b p = go (run c).reply refl
   where
-    kept : ((i : ℕ) → (run c).reply ≢ accepted (Served i)) →
+    kept : ((i : ℕ) → (run c).reply ≢ accepted (Some i)) →
         Progress all d (job_at (run c).jobs d).marked (run c).marks
     kept none = let (x, y) = keeps-all c none in rw (x, y) p
 
-    go : (r : Reply Turn) → (run c).reply ≡ r → Progress all d (job_at (run c).jobs d).marked (run c).marks
-    go (accepted (Served i)) e =
+    go : (r : Reply (Option ℕ)) → (run c).reply ≡ r → Progress all d (job_at (run c).jobs d).marked (run c).marks
+    go (accepted (Some i)) e =
         by_test (eqb i d)
         (λ q. let s = eqb-true i d q in let e' = rw s at e in
         let o = serves-only c d e' in let (less, h) = served-below c d e' in
@@ -136,8 +135,8 @@ progress-turn c d all b p = go (run c).reply refl
           same = ap (take (job c d).marked)
               (stretch-other d i (job c i).marked _ c.marks apart (served-below c i e).1) ∙ p.same;
         })
-    go (accepted Idle) e = kept λ i s. let z : accepted Idle ≡ accepted (Served i) = sym e ∙ s in false≢true (cc)
-    go (refused f) e = kept λ i s. let z : refused f ≡ accepted (Served i) = sym e ∙ s in false≢true (cc)
+    go (accepted None) e = kept λ i s. let z : accepted None ≡ accepted (Some i) = sym e ∙ s in false≢true (cc)
+    go (refused f) e = kept λ i s. let z : refused f ≡ accepted (Some i) = sym e ∙ s in false≢true (cc)
 
 -- From turn to turn the book is the same, and as many of its marks are there as the count says.
 progress-all : (m : ℕ) (calls : ℕ → Call) (d : ℕ) → (job (calls 0) d).marked ≡ 0 →

@@ -1,6 +1,7 @@
 -- Counting and listing by the enumeration of ground terms.
 --     reads-back                                  the words of the terms read as those terms
 --     counts-number, counts-more, lists-terms     what each replies and writes
+use Rattle.std.specs.Prelude.{Some, None}
 use mathlib.Core.List.{List, [], ◌∷◌, ◌++◌, map, flatten, Memᴰ}
 use mathlib.Core.Path.{◌≡◌, refl, ap}
 use Prim.Native.Nat.{ℕ, ◌*◌, ◌≤◌, ◌<◌}
@@ -15,7 +16,6 @@ use Rattle.terms.proofs.EnumerationLaws.{length-terms, spelled-term}
 use Rattle.format.specs.Reading.Reading.{got}
 use Rattle.format.specs.Format.{RuleFile}
 use Rattle.format.specs.Files.{read_bytes}
-use Rattle.operations.specs.declared.TermCount.TheVariants.{Exactly, More}
 use Rattle.operations.specs.Replies.Reply.{accepted}
 use Rattle.operations.specs.Enumerating.{max_size, max_terms, counted_terms, counted, listed_terms, listed}
 
@@ -37,11 +37,11 @@ module _ (bytes : List ℕ) (file : RuleFile) (end : ℕ) (r : read_bytes bytes 
   abbrev terms : List (List ℕ)
   terms = ground_terms file.signature n
 
-  pub counts-number : length terms ≤ max_terms → counted bytes n ≡ accepted (Exactly (length terms))
+  pub counts-number : length terms ≤ max_terms → counted bytes n ≡ accepted (Some (length terms))
   unfolding counted counted_terms
   counts-number k = rw (r, le-leb 1 n h, le-leb n max_size l, le-leb (length terms) max_terms k)
 
-  pub counts-more : max_terms < length terms → counted bytes n ≡ accepted More
+  pub counts-more : max_terms < length terms → counted bytes n ≡ accepted None
   unfolding counted counted_terms
   counts-more k = rw (r, le-leb 1 n h, le-leb n max_size l, lt-leb (length terms) max_terms k)
 

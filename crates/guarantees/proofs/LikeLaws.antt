@@ -34,7 +34,7 @@ use Rattle.format.specs.Statements.{IsTerm}
 use Rattle.format.specs.Format.{is_light}
 use Rattle.format.proofs.LightLaws.{light-same}
 use Rattle.format.proofs.Theorems.{read-term-well-formed, well-formed-reads}
-use Rattle.operations.specs.declared.Error.{Error}
+use Rattle.operations.specs.Replies.{Error}
 use Rattle.operations.specs.Inputs.{Inputs, read_terms}
 use Rattle.operations.specs.Hashing.{fingerprinted_term}
 use Rattle.operations.specs.Comparing.{relation, comparison}

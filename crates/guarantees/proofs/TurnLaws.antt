@@ -3,6 +3,7 @@
 --     marks-are, served-below, serves-only, keeps-all  what a turn does, by its reply
 --     last-listed, none-of-idle, idle-of-none          the last served is a job; a turn that is idle
 --     alone-writes                                     what marking a book alone writes
+use Rattle.std.specs.Prelude.{Option, Some, None}
 use mathlib.Core.List.{List, ◌++◌}
 use mathlib.Core.Logic.{◌≢◌}
 use mathlib.Core.Path.{◌≡◌, refl, sym, ap, ◌∙◌}
@@ -22,8 +23,6 @@ use Rattle.format.specs.Files.{read_bytes}
 use Rattle.format.specs.Statements.IsRead.{from_bytes}
 use Rattle.format.proofs.Theorems.{readable-well-formed}
 use Rattle.operations.specs.declared.Job.{Job}
-use Rattle.operations.specs.declared.Turn.{Turn}
-use Rattle.operations.specs.declared.Turn.TheVariants.{Served, Idle}
 use Rattle.operations.specs.declared.Summary.{Summary}
 use Rattle.operations.specs.Replies.{Reply, ◌>>◌, demand}
 use Rattle.operations.specs.Replies.Reply.{accepted, refused}
@@ -58,25 +57,25 @@ module _ (c : Call) where
   abbrev pub passes : ℕ → Bool
   passes i = has_left c.buffer (job_at c.jobs i)
 
-  abbrev reply : Reply Turn
+  abbrev reply : Reply (Option ℕ)
   reply = turn_of c.jobs c.buffer (ListN.length c.marks) c.last
 
   reply-is : (run c).reply ≡ reply
   unfolding turned
   reply-is = go reply
     where
-      go : (r : Reply Turn) → (after_turn c.jobs c.buffer c.marks r).reply ≡ r
-      go (accepted (Served i)) = refl
-      go (accepted Idle) = refl
+      go : (r : Reply (Option ℕ)) → (after_turn c.jobs c.buffer c.marks r).reply ≡ r
+      go (accepted (Some i)) = refl
+      go (accepted None) = refl
       go (refused e) = refl
 
   -- A turn that is not refused.
-  pub record Allowed (t : Turn) : Type 0 where
+  pub record Allowed (t : Option ℕ) : Type 0 where
     pub within : c.last < number
     pub room : job_marks * number ≤ ListN.length c.marks
     pub turn : next_turn c.jobs c.buffer c.last ≡ t
 
-  pub allowed : (t : Turn) → (run c).reply ≡ accepted t → Allowed t
+  pub allowed : (t : Option ℕ) → (run c).reply ≡ accepted t → Allowed t
   unfolding turn_of
   allowed t e =
       let (ok, a) = demand-then (leb 1 number && leb number max_jobs && ltb c.last number) no_such_job 0 _ t
@@ -89,29 +88,29 @@ module _ (c : Call) where
         turn = cc;
       }
 
-  pub last-listed : (t : Turn) → (run c).reply ≡ accepted t → c.last < number
+  pub last-listed : (t : Option ℕ) → (run c).reply ≡ accepted t → c.last < number
   last-listed t e = (allowed t e).within
 
-  run_of : (r : Reply Turn) → (run c).reply ≡ r → run c ≡ after_turn c.jobs c.buffer c.marks r
+  run_of : (r : Reply (Option ℕ)) → (run c).reply ≡ r → run c ≡ after_turn c.jobs c.buffer c.marks r
   unfolding turned
   run_of r e = ap (after_turn c.jobs c.buffer c.marks) (sym reply-is ∙ e)
 
-  pub keeps-all : ((i : ℕ) → (run c).reply ≢ accepted (Served i)) → ((run c).jobs ≡ c.jobs) × ((run c).marks ≡ c.marks)
+  pub keeps-all : ((i : ℕ) → (run c).reply ≢ accepted (Some i)) → ((run c).jobs ≡ c.jobs) × ((run c).marks ≡ c.marks)
   keeps-all none = go (run c).reply refl
     where
-      go : (r : Reply Turn) → (run c).reply ≡ r → ((run c).jobs ≡ c.jobs) × ((run c).marks ≡ c.marks)
-      go (accepted (Served i)) e = absurd (none i e)
-      go (accepted Idle) e = let o = run_of _ e in (ap (λ x. x.jobs) o, ap (λ x. x.marks) o)
+      go : (r : Reply (Option ℕ)) → (run c).reply ≡ r → ((run c).jobs ≡ c.jobs) × ((run c).marks ≡ c.marks)
+      go (accepted (Some i)) e = absurd (none i e)
+      go (accepted None) e = let o = run_of _ e in (ap (λ x. x.jobs) o, ap (λ x. x.marks) o)
       go (refused f) e = let o = run_of _ e in (ap (λ x. x.jobs) o, ap (λ x. x.marks) o)
 
-  pub none-of-idle : (run c).reply ≡ accepted Idle → (i : ℕ) → i < number → passes i ≡ false
+  pub none-of-idle : (run c).reply ≡ accepted None → (i : ℕ) → i < number → passes i ≡ false
   none-of-idle e i h =
-      let a = allowed Idle e in
+      let a = allowed None e in
       ap passes (sym (onward-distance number c.last a.within i h))
       ∙ first-idle number passes number (round_after number c.last) a.turn _
       (distance-lt number c.last a.within i h)
 
-  pub idle-of-none : (t : Turn) → (run c).reply ≡ accepted t → ((i : ℕ) → i < number → passes i ≡ false) → t ≡ Idle
+  pub idle-of-none : (t : Option ℕ) → (run c).reply ≡ accepted t → ((i : ℕ) → i < number → passes i ≡ false) → t ≡ None
   idle-of-none t e none =
       let a = allowed t e in
       sym a.turn
@@ -153,17 +152,17 @@ alone-writes bytes alone s e = go (read_bytes bytes) refl
 
 -- ---- a turn that serves a job
 
-module _ (c : Call) (i : ℕ) (e : (run c).reply ≡ accepted (Served i)) where
+module _ (c : Call) (i : ℕ) (e : (run c).reply ≡ accepted (Some i)) where
   jobs-are : (run c).jobs ≡ set c.jobs i (counted (job c i))
-  jobs-are = ap (λ (o : TurnOutcome). o.jobs) (run_of c (accepted (Served i)) e)
+  jobs-are = ap (λ (o : TurnOutcome). o.jobs) (run_of c (accepted (Some i)) e)
 
   pub marks-are : (run c).marks ≡
       set c.marks (next_byte c i) (get_or (book_marks (book c i)) (job c i).marked 0)
-  marks-are = ap (λ (o : TurnOutcome). o.marks) (run_of c (accepted (Served i)) e)
+  marks-are = ap (λ (o : TurnOutcome). o.marks) (run_of c (accepted (Some i)) e)
 
   served-left : (i < number c) × (passes c i ≡ true)
   served-left =
-      let a = allowed c (Served i) e in
+      let a = allowed c (Some i) e in
       first_passes (number c) (passes c) (number c) (round_after (number c) c.last) i
       (onward-lt (number c) 1 c.last a.within) a.turn
 
@@ -173,7 +172,7 @@ module _ (c : Call) (i : ℕ) (e : (run c).reply ≡ accepted (Served i)) where
       let h = left_below c.buffer (job c i) served-left.1 in (h, omega (arith, book-few (book c i)))
 
   served-room : next_byte c i < ListN.length c.marks
-  served-room = omega (arith, (allowed c (Served i) e).room, served-left.0, served-below.1)
+  served-room = omega (arith, (allowed c (Some i) e).room, served-left.0, served-below.1)
 
   pub serves-only : ServesOnly c i
   serves-only =

@@ -2,10 +2,8 @@
 -- change all that is not said to be kept. Proofs: proofs/Theorems.antt.
 -- Renders: 02, order 13: "A desk with rules left is served within as many turns as there are desks, whoever else hands
 -- in"; "has the marks that marking alone gives once its count is N".
-use Rattle.std.specs.Prelude.{List, ◌≡◌, ℕ, suc, ◌*◌, ◌<◌, take, drop}
+use Rattle.std.specs.Prelude.{List, ◌≡◌, ℕ, suc, ◌*◌, ◌<◌, take, drop, Option, Some, None}
 use Rattle.std.proofs.Math.ListN
-use Rattle.operations.specs.declared.Turn.{Turn}
-use Rattle.operations.specs.declared.Turn.TheVariants.{Served, Idle}
 use Rattle.operations.specs.declared.Summary.{Summary}
 use Rattle.operations.specs.Replies.{Reply}
 use Rattle.operations.specs.Replies.Reply.{accepted, refused}
@@ -14,9 +12,9 @@ use Rattle.operations.specs.Jobs.{job_marks, job_at}
 use Rattle.guarantees.specs.Turns.{Call, run, job, book, left}
 
 -- What the caller passes on as the last served.
-abbrev pub last_after : ℕ → Reply Turn → ℕ
-last_after last (accepted (Served i)) = i
-last_after last (accepted Idle) = last
+abbrev pub last_after : ℕ → Reply (Option ℕ) → ℕ
+last_after last (accepted (Some i)) = i
+last_after last (accepted None) = last
 last_after last (refused e) = last
 
 -- The stretch of the marks for job d.
@@ -42,9 +40,9 @@ module _ (calls : ℕ → Call) (d : ℕ) where
 abbrev pub ServedWithin : Type 0
 ServedWithin = (calls : ℕ → Call) (d : ℕ) → let n = ListN.length (calls 0).jobs in
     d < n → left (calls 0) d →
-    ((k : ℕ) → k < n → (t : Turn) × ((run (calls k)).reply ≡ accepted t)) →
+    ((k : ℕ) → k < n → (t : Option ℕ) × ((run (calls k)).reply ≡ accepted t)) →
     ((k : ℕ) → suc k < n → JobKept calls d k × PassedOn calls d k) →
-    (k : ℕ) × (k < n) × ((run (calls k)).reply ≡ accepted (Served d))
+    (k : ℕ) × (k < n) × ((run (calls k)).reply ≡ accepted (Some d))
 
 -- A job begun at count 0 has, once its count is N, the marks that marking its book alone writes; turns may be refused,
 -- and the number of jobs and the last served may be any.

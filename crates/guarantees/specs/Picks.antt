@@ -8,7 +8,7 @@ use Rattle.terms.specs.Words.{words}
 use Rattle.terms.specs.Order.{is_greater}
 use Rattle.format.specs.Layout.{max_nodes}
 use Rattle.format.specs.Format.{RuleFile}
-use Rattle.operations.specs.declared.Error.{Error}
+use Rattle.operations.specs.Replies.{Error}
 use Rattle.operations.specs.declared.GreaterSide.{GreaterSide}
 use Rattle.operations.specs.declared.GreaterSide.TheVariants.{Left, Right, Equivalent, Unrelated}
 use Rattle.operations.specs.Replies.{Reply}

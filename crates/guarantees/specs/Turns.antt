@@ -1,11 +1,9 @@
 -- What a reader may rely on of one turn over a list of jobs. Proofs: proofs/Theorems.antt.
 -- Renders: 02, order 13: "Only that desk's count and that byte change"; "It answers idle, changing nothing, if none
 -- has".
-use Rattle.std.specs.Prelude.{List, ◌↔◌, ◌≢◌, ◌≡◌, true, false, ℕ, suc, ◌+◌, ◌*◌, ◌<◌, get_or}
+use Rattle.std.specs.Prelude.{List, ◌↔◌, ◌≢◌, ◌≡◌, true, false, ℕ, suc, ◌+◌, ◌*◌, ◌<◌, get_or, Option, Some, None}
 use Rattle.std.proofs.Math.ListN
 use Rattle.operations.specs.declared.Job.{Job}
-use Rattle.operations.specs.declared.Turn.{Turn}
-use Rattle.operations.specs.declared.Turn.TheVariants.{Served, Idle}
 use Rattle.operations.specs.declared.Summary.{Summary}
 use Rattle.operations.specs.Replies.Reply.{accepted}
 use Rattle.operations.specs.Marking.{marked}
@@ -52,14 +50,14 @@ pub record ServesOnly (c : Call) (i : ℕ) : Type 0 where
   pub other_bytes : (b : ℕ) → b ≢ next_byte c i → get_or (run c).marks b 0 ≡ get_or c.marks b 0
 
 abbrev pub TurnServesOnly : Type 0
-TurnServesOnly = (c : Call) (i : ℕ) → (run c).reply ≡ accepted (Served i) → ServesOnly c i
+TurnServesOnly = (c : Call) (i : ℕ) → (run c).reply ≡ accepted (Some i) → ServesOnly c i
 
 -- A turn that serves none, refused or idle, changes nothing.
 abbrev pub OthersKeepAll : Type 0
-OthersKeepAll = (c : Call) → ((i : ℕ) → (run c).reply ≢ accepted (Served i)) →
+OthersKeepAll = (c : Call) → ((i : ℕ) → (run c).reply ≢ accepted (Some i)) →
     ((run c).jobs ≡ c.jobs) × ((run c).marks ≡ c.marks)
 
 -- Of turns that are not refused, those are idle that find no job with rules left.
 abbrev pub IdleExactly : Type 0
-IdleExactly = (c : Call) (t : Turn) → (run c).reply ≡ accepted t →
-    (t ≡ Idle) ↔ ((i : ℕ) → i < ListN.length c.jobs → has_left c.buffer (job c i) ≡ false)
+IdleExactly = (c : Call) (t : Option ℕ) → (run c).reply ≡ accepted t →
+    (t ≡ None) ↔ ((i : ℕ) → i < ListN.length c.jobs → has_left c.buffer (job c i) ≡ false)

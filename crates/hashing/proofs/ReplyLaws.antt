@@ -5,29 +5,25 @@ use Rattle.std.proofs.Common.{◌≡◌, ℕ, List, take, ap, ◌∙◌}
 use Rattle.terms.specs.Signature.{Signature}
 use Rattle.terms.specs.Words.{term_of}
 use Rattle.terms.specs.Fingerprint.{fingerprint}
-use Rattle.format.specs.Reading.Reading.{got, fault}
+use Rattle.format.specs.Reading.Reading.{got}
 use Rattle.format.specs.Files.{read_bytes, read_term}
 use Rattle.format.specs.Statements.{IsTerm}
 use Rattle.format.proofs.Theorems.{read-term-well-formed}
-use Rattle.operations.specs.Replies.{Reply}
+use Rattle.operations.specs.Replies.{Error, Reply, from_input}
 use Rattle.operations.specs.Replies.Reply.{accepted, refused}
 use Rattle.operations.specs.Hashing.{fingerprinted_term, fingerprinted}
 use Rattle.symbols.specs.Table.{signature_of}
-use Rattle.answers.specs.declared.Answer.TheVariants.{Got, Fault}
-use Rattle.answers.specs.Answer.{end_of}
 use Rattle.inputs.specs.Inputs.{BookAt}
-use Rattle.inputs.proofs.InputLaws.{end-fault, end-got}
 
 module _ (σ : Signature) (words : List ℕ) where
-  pub term-fault : (code offset : ℕ) → Fault offset code ≡ end_of (read_term σ words) →
-      refused (record { code = code; input = 1; offset = offset }) ≡ fingerprinted_term σ words
+  pub term-fault : (e : Error) → from_input 1 (read_term σ words) ≡ refused e → refused e ≡ fingerprinted_term σ words
   unfolding fingerprinted_term
-  term-fault code offset e = rw (end-fault (read_term σ words) code offset e)
+  term-fault e f = rw f
 
-  module _ (value n : ℕ) (e : Got value n ≡ end_of (read_term σ words)) where
+  module _ (n : ℕ) (e : (nodes : List ℕ) × (read_term σ words ≡ got nodes n)) where
     term-read : (read_term σ words ≡ got words n) × IsTerm σ words
     term-read =
-        let (nodes, r) = end-got (read_term σ words) value n e in
+        let (nodes, r) = e in
         let (all, count, term, light) = (read-term-well-formed σ words nodes n).1 r in
         (rw all at r, rw all at term)
 
@@ -39,10 +35,9 @@ module _ (σ : Signature) (words : List ℕ) where
     term-hashed h f = ap accepted f ∙ rw term-read.0
 
 module _ (bytes words : List ℕ) where
-  pub book-fault : (code offset : ℕ) → read_bytes bytes ≡ fault code offset →
-      refused (record { code = code; input = 0; offset = offset }) ≡ fingerprinted bytes words
+  pub book-fault : (e : Error) → from_input 0 (read_bytes bytes) ≡ refused e → refused e ≡ fingerprinted bytes words
   unfolding fingerprinted
-  book-fault code offset e = rw e
+  book-fault e f = rw f
 
   pub book-hashed : (table : List ℕ) (n : ℕ) → BookAt table (read_bytes bytes) n → (r : Reply ℕ) →
       r ≡ fingerprinted_term (signature_of (take n table)) words → r ≡ fingerprinted bytes words

@@ -1,2 +1,3 @@
 -- What the contracts of the fingerprint say.
 pub mod Entries
+pub mod Listed

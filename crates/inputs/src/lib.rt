@@ -9,58 +9,61 @@ ghost use Rattle.words.specs.Terms.{reader_of};
 ghost use Rattle.reader.specs.Promise.{IsTable};
 ghost use Rattle.inputs.specs.Inputs.{TermsRead, BookRead, InputsRead};
 
-use answers::{Answer, refusal};
 use operations::Error;
-use words::front_term;
+use reader::Form;
+use words::{Extent, front_term};
 
-// How many words of the table are its front, and how many words the terms have; or the error.
+// How many words of the table are its front, and how many words the terms have.
 #[derive(Clone, Copy)]
-pub enum Ends {
-    Read {
-        front: usize,
-        left: usize,
-        right: usize,
-    },
-    Refused(Error),
+pub struct Ends {
+    pub front: usize,
+    pub left: usize,
+    pub right: usize,
 }
 
-// Reads the left term and then the right one under a symbol table, each to be all of its words where that is asked.
-fn read_terms(table: &[u16], left: &[u16], right: &[u16], whole: bool) -> Ends
+// Reads the left term and then the right one under a symbol table, each to be as much of its words as is said.
+fn read_terms(table: &[u16], left: &[u16], right: &[u16], extent: Extent) -> Result<Ends, Error>
     requires { IsTable table.now }
     ensures { TermsRead table.now left.now right.now
-        (read_terms (reader_of whole) (signature_of table.now) left.now right.now) result }
+        (read_terms (reader_of extent) (signature_of table.now) left.now right.now) result }
 {
     let arities = symbols::arities(table);
-    match front_term(&arities, left, whole) {
-        Answer::Fault { code, offset } => Ends::Refused(refusal(code, 1, offset)),
-        Answer::Got { value: _, next: l } => match front_term(&arities, right, whole) {
-            Answer::Fault { code, offset } => Ends::Refused(refusal(code, 2, offset)),
-            Answer::Got { value: _, next: r } => Ends::Read {
-                front: table.len(),
-                left: l,
-                right: r,
-            },
-        },
-    }
+    let left = front_term(&arities, left, extent).map_err(|fault| fault.in_input(1))?;
+    let right = front_term(&arities, right, extent).map_err(|fault| fault.in_input(2))?;
+    Ok(Ends {
+        front: table.len(),
+        left,
+        right,
+    })
 }
 
-// Reads a packed rule file, its symbols into the table; in place of an offset, how many words of it are its front.
-pub fn read_book(book: &[u8], table: &mut [u16]) -> Answer
+// Reads a packed rule file, its symbols into the table, and tells how many words of it are its front.
+pub fn read_book(book: &[u8], table: &mut [u16]) -> Result<usize, Error>
     requires { max_table_words ≡ length table.old }
     ensures { BookRead table.new (read_bytes book.now) result }
 {
     let mut none = [0u16; 0];
-    reader::read_packed(book, format::FORM, table, &mut none)
+    let form = Form {
+        number: format::FORM,
+    };
+    let unpacked = reader::read_packed(book, form, table, &mut none).map_err(|fault| fault.in_input(
+        0,
+    ))?;
+    Ok(unpacked.front)
 }
 
 // Reads a packed rule file, its symbols into the table, and then the terms.
-pub fn read_inputs(book: &[u8], left: &[u16], right: &[u16], whole: bool, table: &mut [u16]) -> Ends
+pub fn read_inputs(
+    book: &[u8],
+    left: &[u16],
+    right: &[u16],
+    extent: Extent,
+    table: &mut [u16],
+) -> Result<Ends, Error>
     requires { max_table_words ≡ length table.old }
     ensures { InputsRead table.new left.now right.now
-        (read_inputs (reader_of whole) book.now left.now right.now) result }
+        (read_inputs (reader_of extent) book.now left.now right.now) result }
 {
-    match read_book(book, table) {
-        Answer::Fault { code, offset } => Ends::Refused(refusal(code, 0, offset)),
-        Answer::Got { value: _, next } => read_terms(&table[..next], left, right, whole),
-    }
+    let front = read_book(book, table)?;
+    read_terms(&table[..front], left, right, extent)
 }

@@ -4,6 +4,7 @@
 --     marks-within, margins-within         there are as many marks and margins as rules
 --     fronts-same                          of both
 --     length-kept, stored-fronts           they are those of the file's rules
+use Rattle.std.specs.Prelude.{Result, Ok}
 use mathlib.Core.List.{List}
 use mathlib.Core.Path.{◌≡◌, sym, ap, ◌∙◌}
 use Prim.Native.Nat.{ℕ, ◌+◌, ◌≤◌, ◌<◌}
@@ -16,8 +17,8 @@ use Rattle.multisets.proofs.ListLaws.{front}
 use Rattle.format.specs.Reading.{Reading}
 use Rattle.format.specs.Format.{RuleFile, system_of}
 use Rattle.operations.specs.Marking.{marks_of, margins_of}
-use Rattle.marking.specs.declared.walk.FileMarked.{FileMarked}
-use Rattle.marking.specs.declared.walk.FileMarked.TheVariants.{Marked}
+use Rattle.answers.specs.declared.Fault.{Fault}
+use Rattle.marking.specs.declared.walk.Marked.{Marked}
 use Rattle.marking.specs.Rule.{MarkedAs, WholeMarked}
 use Rattle.marking.proofs.WalkLaws.{stored-front}
 
@@ -36,36 +37,35 @@ module _ (file : RuleFile) (rules decreasing : ℕ) (marks₀ marks : List ℕ) 
     stored-front _ margins₀ margins rules length-kept.1 (omega (arith, m.few)) m.margins,
   )
 
-module _ (reading : Reading RuleFile) (x : FileMarked) (marks₀ marks : List ℕ) (margins₀ margins : List ℤ)
-    (found : WholeMarked reading x marks₀ marks margins₀ margins) (rules decreasing : ℕ)
-    (e : x ≡ Marked rules decreasing) where
-  pub rules-below : (k : ℕ) → 1024 ≤ k → rules < k
-  rules-below k h = let (file, end, read, m) = rw e at found in omega (arith, m.few)
+module _ (reading : Reading RuleFile) (x : Result Marked Fault) (marks₀ marks : List ℕ) (margins₀ margins : List ℤ)
+    (found : WholeMarked reading x marks₀ marks margins₀ margins) (m : Marked) (e : x ≡ Ok m) where
+  pub rules-below : (k : ℕ) → 1024 ≤ k → m.rules < k
+  rules-below k h = let (file, end, read, parts) = rw e at found in omega (arith, parts.few)
 
-  pub decreasing-below : (k : ℕ) → 1024 ≤ k → decreasing < k
-  decreasing-below k h = let (file, end, read, m) = rw e at found in omega (arith, m.few, m.most)
+  pub decreasing-below : (k : ℕ) → 1024 ≤ k → m.decreasing < k
+  decreasing-below k h = let (file, end, read, parts) = rw e at found in omega (arith, parts.few, parts.most)
 
-  pub marks-within : 1023 ≤ length marks₀ → rules ≤ length marks
+  pub marks-within : 1023 ≤ length marks₀ → m.rules ≤ length marks
   marks-within room =
-      let (file, end, read, m) = rw e at found in
-      let n : length marks ≡ length marks₀ = ap length m.marks ∙ simp length-sets in
-      omega (arith, m.few)
+      let (file, end, read, parts) = rw e at found in
+      let n : length marks ≡ length marks₀ = ap length parts.marks ∙ simp length-sets in
+      omega (arith, parts.few)
 
-  pub margins-within : 1023 ≤ length margins₀ → rules ≤ length margins
+  pub margins-within : 1023 ≤ length margins₀ → m.rules ≤ length margins
   margins-within room =
-      let (file, end, read, m) = rw e at found in
-      let n : length margins ≡ length margins₀ = ap length m.margins ∙ simp length-sets in
-      omega (arith, m.few)
+      let (file, end, read, parts) = rw e at found in
+      let n : length margins ≡ length margins₀ = ap length parts.margins ∙ simp length-sets in
+      omega (arith, parts.few)
 
-  pub front_below : (k : ℕ) → 1024 ≤ k → 1023 ≤ length marks₀ → length (take rules marks) < k
-  front_below k h room = omega (arith, rules-below k h, front rules marks (marks-within room))
+  pub front_below : (k : ℕ) → 1024 ≤ k → 1023 ≤ length marks₀ → length (take m.rules marks) < k
+  front_below k h room = omega (arith, rules-below k h, front m.rules marks (marks-within room))
 
-  pub end_below : (at k : ℕ) → at + 1024 ≤ k → 1023 ≤ length marks₀ → at + length (take rules marks) < k
+  pub end_below : (at k : ℕ) → at + 1024 ≤ k → 1023 ≤ length marks₀ → at + length (take m.rules marks) < k
   end_below at k h room = omega (arith, front_below 1024 (omega arith) room)
 
   pub fronts-same : 1023 ≤ length marks₀ → 1023 ≤ length margins₀ →
-      length (take rules margins) ≡ length (take rules marks)
-  fronts-same room room' = sym (front rules margins (margins-within room')) ∙ front rules marks (marks-within room)
+      length (take m.rules margins) ≡ length (take m.rules marks)
+  fronts-same room room' = sym (front m.rules margins (margins-within room')) ∙ front m.rules marks (marks-within room)
 
 pub ruleset walked = (
   rules,

@@ -1,10 +1,12 @@
 -- The text that `marker` prints: of a refusal, and of marked rules.
+use Rattle.std.specs.Prelude.{Result, Ok, Err}
 use mathlib.Core.List.{List, [], ◌∷◌, ◌++◌}
 use mathlib.Core.Path.{◌≡◌}
 use Prim.Native.Nat.{ℕ, ◌≤◌}
 use lib.IntN.{ℤ}
 use lib.ListN.{length, take}
 use lib.Seq.{sets}
+use Rattle.format.specs.Errors.{number_of}
 use Rattle.format.specs.Format.{system_of}
 use Rattle.format.specs.Files.{read_bytes}
 use Rattle.operations.specs.Text.{ascii, decimal, line}
@@ -13,35 +15,37 @@ use Rattle.operations.specs.Marking.{marks_of, margins_of}
 use Rattle.operations.specs.Report.{rule_lines, summary_lines, report}
 use Rattle.text.specs.Put.{Put}
 use Rattle.text.proofs.TextLaws.{put-append, put_first}
-use Rattle.marking.specs.declared.walk.FileMarked.{FileMarked}
-use Rattle.marking.specs.declared.walk.FileMarked.TheVariants.{Marked, Fault}
+use Rattle.answers.specs.declared.Fault.{Fault}
+use Rattle.marking.specs.declared.walk.Marked.{Marked}
 use Rattle.marking.specs.Rule.{WholeMarked}
 use Rattle.marking.proofs.FoundLaws.{length-kept, stored-fronts}
 
-module _ (bytes l : List ℕ) (x : FileMarked) (marks₀ marks : List ℕ) (margins₀ margins : List ℤ)
+module _ (bytes l : List ℕ) (x : Result Marked Fault) (marks₀ marks : List ℕ) (margins₀ margins : List ℤ)
     (all : WholeMarked (read_bytes bytes) x marks₀ marks margins₀ margins) where
-  pub report-refusal : (code offset : ℕ) → x ≡ Fault code offset → (r : ℕ) (out : List ℕ) →
-      r ≡ length (line (ascii "refusal" ∷ decimal code ∷ decimal offset ∷ [])) →
-      out ≡ sets l 0 (line (ascii "refusal" ∷ decimal code ∷ decimal offset ∷ [])) →
+  pub report-refusal : (f : Fault) → x ≡ Err f → (r : ℕ) (out : List ℕ) →
+      r ≡ length (line (ascii "refusal" ∷ decimal (number_of f.code) ∷ decimal f.offset ∷ [])) →
+      out ≡ sets l 0 (line (ascii "refusal" ∷ decimal (number_of f.code) ∷ decimal f.offset ∷ [])) →
       (r ≡ length (report bytes)) × (out ≡ sets l 0 (report bytes))
   unfolding report
-  report-refusal code offset e r out n w = let read = rw e at all in rw read (n, w)
+  report-refusal f e r out n w = let read = rw e at all in rw read (n, w)
 
-  pub report-marks : (rules decreasing : ℕ) → x ≡ Marked rules decreasing → 1023 ≤ length marks₀ →
+  pub report-marks : (m : Marked) → x ≡ Ok m → 1023 ≤ length marks₀ →
       1023 ≤ length margins₀ → (start : ℕ) (l₁ : List ℕ) (stop : ℕ) (l₂ : List ℕ) (r : ℕ) (out : List ℕ) →
-      Put l 0 (line (ascii "rules" ∷ decimal rules ∷ [])) start l₁ →
-      Put l₁ start (rule_lines 0 (take rules marks) (take rules margins)) stop l₂ →
-      Put l₂ stop (summary_lines (record { rules = rules; decreasing = decreasing; score = score_of decreasing rules }))
+      Put l 0 (line (ascii "rules" ∷ decimal m.rules ∷ [])) start l₁ →
+      Put l₁ start (rule_lines 0 (take m.rules marks) (take m.rules margins)) stop l₂ →
+      Put l₂ stop
+      (summary_lines (record { rules = m.rules; decreasing = m.decreasing; score = score_of m.decreasing m.rules }))
       r out → (r ≡ length (report bytes)) × (out ≡ sets l 0 (report bytes))
   unfolding report
-  report-marks rules decreasing e room room' start l₁ stop l₂ r out p q v =
-      let (file, end, read, m) = rw e at all in
-      let (kept, kept') = stored-fronts file rules decreasing marks₀ marks margins₀ margins m room room' in
-      let n = (length-kept file rules decreasing marks₀ marks margins₀ margins m).0 in
-      let head = line (ascii "rules" ∷ decimal rules ∷ []) in
+  report-marks m e room room' start l₁ stop l₂ r out p q v =
+      let (file, end, read, parts) = rw e at all in
+      let (kept, kept') = stored-fronts file m.rules m.decreasing marks₀ marks margins₀ margins parts room room' in
+      let n = (length-kept file m.rules m.decreasing marks₀ marks margins₀ margins parts).0 in
+      let head = line (ascii "rules" ∷ decimal m.rules ∷ []) in
       let body = rule_lines 0 (marks_of (system_of file)) (margins_of (system_of file)) in
-      let tail = summary_lines (record { rules = rules; decreasing = decreasing; score = score_of decreasing rules }) in
+      let tail =
+      summary_lines (record { rules = m.rules; decreasing = m.decreasing; score = score_of m.decreasing m.rules }) in
       let lines : Put l₁ start body stop l₂ = rw (kept, kept') at q in
-      rw (read, n, ← m.falling)
+      rw (read, n, ← parts.falling)
       (put_first l (head ++ (body ++ tail)) r out
       (put-append l 0 head (body ++ tail) start l₁ r out p (put-append l₁ start body tail stop l₂ r out lines v)))

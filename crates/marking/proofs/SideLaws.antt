@@ -1,6 +1,7 @@
 -- The sides of a rule that is read are terms, and what marking it has to show.
 --     side-term        a side that is read from bits is the words of a well-formed term
 --     right-marked, left-unread, left-read, rule-marked     a rule by its sides
+use Rattle.std.specs.Prelude.{Result, Ok, Err}
 use mathlib.Core.List.{List}
 use mathlib.Core.Path.{◌≡◌, sym, ◌∙◌}
 use Prim.Native.Nat.{ℕ}
@@ -19,8 +20,7 @@ use Rattle.format.proofs.CodingLaws.{spells-fit}
 use Rattle.format.proofs.SideLaws.{side-formed, forest-le}
 use Rattle.bits.specs.declared.BitCursor.{BitCursor}
 use Rattle.marking.specs.declared.rule.MarkedRule.{MarkedRule}
-use Rattle.marking.specs.declared.rule.RuleReading.{RuleReading}
-use Rattle.marking.specs.declared.rule.RuleReading.TheVariants.{Got, Fault}
+use Rattle.answers.specs.declared.Fault.{Fault}
 use Rattle.marking.specs.Rule.{Marks, MarksRead}
 use Rattle.marking.proofs.WalkLaws.{sides_themselves}
 
@@ -38,7 +38,7 @@ module _ (σ : Signature) where
   -- A right side that was read, after its left side.
   pub right-marked : (reading : Reading (List ℕ)) (left right : List ℕ) (n : BitCursor) (m : MarkedRule) →
       reading ≡ got right n.at → m.cursor ≡ n → Marks σ (record { left = left; right = right }) m →
-      MarksRead σ (λ (l : List ℕ). record { left = left; right = l }) reading (Got m)
+      MarksRead σ (λ (l : List ℕ). record { left = left; right = l }) reading (Ok m)
   right-marked reading left right n m e same x = (right, rw same e, x)
 
   module _ (unscaled : Unscaled σ) (source : Source) (unused at : ℕ) where
@@ -59,9 +59,9 @@ module _ (σ : Signature) where
       unfolding rule_reader
       left-read = rw (light unused at, e, ← u, light used middle)
 
-      pub rule-marked : (r : RuleReading) →
+      pub rule-marked : (r : Result MarkedRule Fault) →
           MarksRead σ (λ (right : List ℕ). record { left = left; right = right })
           (nodes_reader source max_nodes used σ middle) r →
           MarksRead σ sides_themselves (rule_reader source unused σ at) r
-      rule-marked (Got m) (right, f, x) = (record { left = left; right = right }, left-read ∙ rw f, x)
-      rule-marked (Fault code offset) f = left-read ∙ rw f
+      rule-marked (Ok m) (right, f, x) = (record { left = left; right = right }, left-read ∙ rw f, x)
+      rule-marked (Err x) f = left-read ∙ rw f

@@ -2,6 +2,7 @@
 --     decreasing-append                                     how many marks are those of the order
 --     ListedSoFar, listed-none, listed-fault, listed_more, listed-all     the loop
 --     stored-front, marks-sides, marked-as                  what was stored first; a file whose rules are listed
+use Rattle.std.specs.Prelude.{Ok, Err}
 use mathlib.Core.List.{List, [], ◌∷◌, ◌++◌, map, map-append}
 use mathlib.Core.Path.{◌≡◌, refl, sym, ap, ◌∙◌}
 use Prim.Native.Nat.{ℕ, ◌+◌, ◌≤◌, ◌<◌}
@@ -13,6 +14,7 @@ use Rattle.multisets.specs.Multiset.{choose}
 use Rattle.multisets.proofs.MultisetMaps.{choose-append}
 use Rattle.multisets.proofs.ListLaws.{sets-append}
 use Rattle.terms.specs.Signature.{Signature}
+use Rattle.format.specs.Errors.{number_of}
 use Rattle.format.specs.Reading.{Source}
 use Rattle.format.specs.Reading.Reading.{fault}
 use Rattle.format.specs.Format.{Sides, RuleFile, rule_reader, rules_reader, system_of}
@@ -20,8 +22,8 @@ use Rattle.reader.proofs.RuleLaws.{Done, done_none, done-fault, done_more, done_
 use Rattle.terms.specs.Marks.{is_decreasing}
 use Rattle.operations.specs.Marking.{marks_of, margins_of, decreasing_count}
 use Rattle.marking.specs.declared.rule.MarkedRule.{MarkedRule}
-use Rattle.answers.specs.declared.Answer.TheVariants.{Got, Fault}
-use Rattle.marking.specs.declared.rule.RuleReading.TheVariants as rule
+use Rattle.operations.specs.Enums.{mark_number}
+use Rattle.answers.specs.declared.Fault.{Fault}
 use Rattle.marking.specs.Rule.{sides_mark, sides_margin, MarksRead, Listed, AllMarked, MarkedAs}
 
 abbrev pub sides_themselves : Sides → Sides
@@ -55,33 +57,33 @@ module _ (source : Source) (unused : ℕ) (σ : Signature) (count start : ℕ) (
 
   module _ (i at decreasing : ℕ) (marks : List ℕ) (margins : List ℤ)
       (so : ListedSoFar i at decreasing marks margins) where
-    pub listed-fault : i < count → (code offset : ℕ) (marks' : List ℕ) (margins' : List ℤ) →
-        rule_reader source unused σ at ≡ fault code offset →
-        AllMarked σ (rules_reader source unused σ count start) (Fault offset code) marks₀ marks' margins₀ margins'
-    listed-fault h code offset marks' margins' e =
-        done-fault source unused σ count start i at so.0 so.1 h code offset e
+    pub listed-fault : i < count → (f : Fault) (marks' : List ℕ) (margins' : List ℤ) →
+        rule_reader source unused σ at ≡ fault (number_of f.code) f.offset →
+        AllMarked σ (rules_reader source unused σ count start) (Err f) marks₀ marks' margins₀ margins'
+    listed-fault h f marks' margins' e =
+        done-fault source unused σ count start i at so.0 so.1 h (number_of f.code) f.offset e
 
     pub listed_more : i < count → (n : ℕ) (m : MarkedRule) (marks' : List ℕ) (margins' : List ℤ) →
-        MarksRead σ sides_themselves (rule_reader source unused σ at) (rule.Got m) → n ≡ decreasing_count (m.mark ∷ []) →
-        marks' ≡ set marks i m.mark → margins' ≡ set margins i m.margin →
+        MarksRead σ sides_themselves (rule_reader source unused σ at) (Ok m) →
+        n ≡ decreasing_count (mark_number m.mark ∷ []) → marks' ≡ set marks i (mark_number m.mark) → margins' ≡ set margins i m.margin →
         ListedSoFar (i + 1) m.cursor.at (decreasing + n) marks' margins'
     listed_more h n m marks' margins' (r, e, x) one mark put =
         let (done, d, l, so') = so in
-        let added : map (sides_mark σ) (done ++ (r ∷ [])) ≡ map (sides_mark σ) done ++ (m.mark ∷ []) =
+        let added : map (sides_mark σ) (done ++ (r ∷ [])) ≡ map (sides_mark σ) done ++ (mark_number m.mark ∷ []) =
         map-append (sides_mark σ) done (r ∷ []) ∙ rw x.mark in (
           done ++ (r ∷ []),
           done_more source unused σ count start i at done d h r m.cursor.at e,
           omega (arith, length-append done (r ∷ [])),
           record {
-            falling = rw (added, decreasing-append (map (sides_mark σ) done) (m.mark ∷ []), ← so'.falling, ← one);
-            marks = mark ∙ stored_more (sides_mark σ) marks₀ marks i m.mark done r l so'.marks x.mark;
+            falling = rw (added, decreasing-append (map (sides_mark σ) done) (mark_number m.mark ∷ []), ← so'.falling, ← one);
+            marks = mark ∙ stored_more (sides_mark σ) marks₀ marks i (mark_number m.mark) done r l so'.marks x.mark;
             margins = put
                 ∙ stored_more (sides_margin σ) margins₀ margins i m.margin done r l so'.margins x.margin;
           },
         )
 
     pub listed-all : count ≤ i → (next : ℕ) → next ≡ at →
-        AllMarked σ (rules_reader source unused σ count start) (Got decreasing next) marks₀ marks margins₀
+        AllMarked σ (rules_reader source unused σ count start) (Ok (decreasing, next)) marks₀ marks margins₀
         margins
     listed-all h next same =
         let (done, d, l, so') = so in (done, rw same (done_all source unused σ count start i at done d h), so')

@@ -4,4 +4,7 @@
 pub mod mark;
 pub mod report;
 pub mod rule;
+mod under;
 pub mod walk;
+
+pub use crate::under::Under;

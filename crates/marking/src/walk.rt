@@ -1,119 +1,116 @@
 // The walk over the rules of a packed file: each is read and marked, and its mark and margin are stored.
 ghost use Rattle.std.specs.Prelude.{◌≡◌, [], true, ℕ, ◌*◌, ◌≤◌, ◌<◌, length};
-ghost use Rattle.format.specs.Layout.{form_number, max_bytes};
+ghost use Rattle.format.specs.Layout.{form_number};
 ghost use Rattle.format.specs.Reading.{bit_source};
 ghost use Rattle.format.specs.Forms.{is_taken, unused_of};
 ghost use Rattle.format.specs.Format.{rules_reader};
 ghost use Rattle.format.specs.Files.{read_bytes};
 ghost use Rattle.symbols.specs.Table.{signature_of};
-ghost use Rattle.symbols.specs.Arities.{Arities};
 ghost use Rattle.answers.specs.Answer.{Within};
 ghost use Rattle.bits.specs.Cursor.{told};
-ghost use Rattle.weights.specs.Nodes.{NodeSums};
+ghost use Rattle.reader.specs.Source.Input.{from_bytes};
 ghost use Rattle.reader.specs.File.{rest_reader};
 ghost use Rattle.reader.specs.Promise.{IsTable};
 ghost use Rattle.marking.specs.Rule.{AllMarked, WholeMarked};
 
-use crate::rule::RuleReading;
-use bits::{BitCursor, Read};
-use marks::{decreases, put_margin, put_mark};
+use crate::Under;
+use crate::rule::mark_rule;
+use answers::Fault;
+use bits::{BitCursor, Book};
+use format::{ErrorCode, NODE_WORDS};
+use reader::Form;
+use weights::{Totals, Weighing};
 
-// How many rules a file has and how many of them decrease, or an error's code and offset.
+// How many rules a file has, and how many of them decrease.
 #[derive(Clone, Copy)]
-pub enum FileMarked {
-    Marked { rules: usize, decreasing: usize },
-    Fault { code: u8, offset: usize },
+pub struct Marked {
+    pub rules: usize,
+    pub decreasing: usize,
 }
 
-// Reads that many rules, marks them and counts those that decrease; the value is that count.
+// Reads that many rules, marks them and counts those that decrease. Marks and margins are two lists, and no list of
+// both, since `mark` keeps marks alone: a list of both would be sixteen times as long to clear there.
 pub fn mark_rules(
-    book: &[u8],
-    table: &[u16],
-    arities: &[u32; format::NODE_WORDS],
-    adds: &[u64; weights::NODE_SUMS],
+    book: Book,
+    under: &Under,
     marks: &mut [u8],
     margins: &mut [i64],
     count: usize,
     cursor: BitCursor,
-) -> Read
-    requires book_len_bound { (length book.now ≤ max_bytes) × (cursor.at ≤ 8 * length book.now) }
-    requires table { IsTable table.now × Arities (signature_of table.now) arities.now
-        × NodeSums (signature_of table.now) adds.now }
+) -> Result<(usize, BitCursor), Fault>
+    requires cursor_bound { cursor.at ≤ 8 * length book.bytes.now }
     requires count_in_bounds { (count ≤ length marks.old) × (count < 1024) }
-    ensures all_marked { AllMarked (signature_of table.now)
-        (rules_reader (bit_source book.now) (unused_of form_number) (signature_of table.now) count
-        cursor.at) (told result) marks.old marks.new margins.old margins.new }
-    ensures within { Within count (8 * length book.now) (told result) }
+    ensures all_marked { AllMarked (signature_of under.now.weighing.table.now)
+        (rules_reader (bit_source book.entry.bytes.now) (unused_of form_number)
+        (signature_of under.now.weighing.table.now) count cursor.at)
+        (told result) marks.old marks.new margins.old margins.new }
+    ensures within { Within count (8 * length book.entry.bytes.now) (told result) }
 {
     let mut here = cursor;
     let mut decreasing = 0;
-    let mut i = 0;
-    while i < count {
-        match crate::rule::mark_rule(book, table, arities, adds, here) {
-            RuleReading::Fault { code, offset } => return Read::Fault { code, offset },
-            RuleReading::Got(rule) => {
-                put_mark(marks, i, rule.mark);
-                put_margin(margins, i, rule.margin);
-                decreasing += decreases(rule.mark);
-                here = rule.cursor;
-            }
-        }
-        i += 1;
+    for i in 0..count {
+        let rule = mark_rule(book, under, here)?;
+        let mark = marks::number(rule.mark);
+        marks[i] = mark;
+        marks::put_margin(margins, i, rule.margin);
+        decreasing += marks::decreases(mark);
+        here = rule.cursor;
     }
-    Read::Got {
-        value: decreasing,
-        cursor: here,
-    }
+    Ok((decreasing, here))
 }
 
 // Marks the rules under a symbol table, and reads on to the end of the file.
 fn mark_under(
-    book: &[u8],
+    book: Book,
     table: &[u16],
     marks: &mut [u8],
     margins: &mut [i64],
     count: usize,
     cursor: BitCursor,
-) -> FileMarked
-    requires book_len_bound { (length book.now ≤ max_bytes) × (cursor.at ≤ 8 * length book.now) }
+) -> Result<Marked, Fault>
+    requires cursor_bound { cursor.at ≤ 8 * length book.bytes.now }
     requires table { IsTable table.now × (count < 1024) × (1023 ≤ length marks.old) }
     ensures { (form : ℕ) → is_taken form_number form ≡ true →
         WholeMarked
-        (rest_reader form true book.now [] (signature_of table.now) count cursor.at) result
+        (rest_reader form (from_bytes book.entry.bytes.now) (signature_of table.now) count cursor.at) result
         marks.old marks.new margins.old margins.new }
 {
     let arities = symbols::arities(table);
-    let mut adds = [0u64; weights::NODE_SUMS];
-    weights::nodes::put_node_sums(table, &mut adds);
-    match mark_rules(book, table, &arities, &adds, marks, margins, count, cursor) {
-        Read::Fault { code, offset } => FileMarked::Fault { code, offset },
-        Read::Got { value, cursor } => {
-            if cursor.is_padding(book) {
-                return FileMarked::Marked {
-                    rules: count,
-                    decreasing: value,
-                };
-            }
-            let code = format::BAD_PADDING;
-            let offset = cursor.at;
-            FileMarked::Fault { code, offset }
-        }
+    let mut adds = [Totals::NONE; NODE_WORDS];
+    weights::put_node_sums(table, &mut adds);
+    let weighing = Weighing { table, adds: &adds };
+    let under = Under {
+        arities: &arities,
+        weighing,
+    };
+    let (decreasing, end) = mark_rules(book, &under, marks, margins, count, cursor)?;
+    if !end.is_padding(book) {
+        let code = ErrorCode::BadPadding;
+        let offset = end.at;
+        return Err(Fault { code, offset });
     }
+    let rules = count;
+    Ok(Marked { rules, decreasing })
 }
 
 // Reads a packed file and marks its rules: the marks are stored, and the margins as far as there is room.
-pub fn mark_file(book: &[u8], marks: &mut [u8], margins: &mut [i64]) -> FileMarked
+pub fn mark_file(book: &[u8], marks: &mut [u8], margins: &mut [i64]) -> Result<Marked, Fault>
     requires { 1023 ≤ length marks.old }
     ensures { WholeMarked (read_bytes book.now) result marks.old marks.new
         margins.old margins.new }
 {
     let mut table = [0u16; symbols::TABLE_WORDS];
-    let mut rules = 0;
-    match reader::read_head(book, &[0u16; 0], true, format::FORM, &mut table, &mut rules) {
-        Read::Fault { code, offset } => FileMarked::Fault { code, offset },
-        Read::Got { value, cursor } => {
-            let front = symbols::front(value);
-            mark_under(book, &table[..front], marks, margins, rules, cursor)
-        }
-    }
+    let form = Form {
+        number: format::FORM,
+    };
+    let head = reader::read_head(book, form, &mut table)?;
+    let front = symbols::front(head.symbols);
+    mark_under(
+        Book { bytes: book },
+        &table[..front],
+        marks,
+        margins,
+        head.rules,
+        head.cursor,
+    )
 }

@@ -1,38 +1,36 @@
-// Marks: which of them are those of the order, where they are stored, and the score.
+// Marks: their numbers, which of them are those of the order, how many, where margins are stored, and the score.
 #![tactic(auto)]
 
-ghost use Rattle.std.specs.Prelude.{◌≡◌, [], ◌∷◌, ◌≤◌, ◌<◌, length, set};
+ghost use Rattle.std.specs.Prelude.{◌≡◌, [], ◌∷◌, ◌≤◌, ◌<◌, set};
 ghost use Rattle.terms.specs.Marks.{is_decreasing};
+ghost use Rattle.operations.specs.Enums.{mark_number};
 ghost use Rattle.operations.specs.Marking.{decreasing_count};
 ghost use Rattle.operations.specs.Score.{score_of};
 
-// Is it a mark of the order?
-pub fn is_decreasing(mark: u8) -> bool
-    ensures { result ≡ is_decreasing mark }
+use operations::Mark;
+use std::cmp::Ordering;
+
+// The number of a mark, as it is stored and printed.
+pub fn number(mark: Mark) -> u8
+    ensures { result ≡ mark_number mark }
 {
-    if mark == 0 {
-        return false;
-    }
-    if mark <= operations::FALLS_BY_LOW_TERMS {
-        return true;
-    }
-    mark == operations::FALLS_BY_WRAPPING
+    mark as u8
 }
 
-// 1 for a mark of the order, 0 for another.
-pub fn decreases(mark: u8) -> usize
-    ensures value { result ≡ decreasing_count (mark ∷ []) }
+// Is it the number of a mark of the order?
+pub fn is_decreasing(number: u8) -> bool
+    ensures { result ≡ is_decreasing number }
+{
+    let (first, last) = (Mark::FallsByWeight as u8, Mark::FallsByLowTerms as u8);
+    first <= number && number <= last || number == Mark::FallsByWrapping as u8
+}
+
+// 1 for the number of a mark of the order, 0 for another.
+pub fn decreases(number: u8) -> usize
+    ensures value { result ≡ decreasing_count (number ∷ []) }
     ensures upper_bound { result ≤ 1 }
 {
-    if is_decreasing(mark) { 1 } else { 0 }
-}
-
-// Stores the mark of a rule.
-pub fn put_mark(marks: &mut [u8], index: usize, mark: u8)
-    requires { index < length marks.old }
-    ensures { marks.new ≡ set marks.old index mark }
-{
-    marks[index] = mark;
+    usize::from(is_decreasing(number))
 }
 
 // Stores a margin, where there is room for it.
@@ -45,6 +43,7 @@ pub fn put_margin(margins: &mut [i64], index: usize, margin: i64)
 }
 
 // The percentage of decreasing rules, to the nearest whole number, an exact half to the even one.
+#[tactic(auto, unfolding(operations::specs::Score::score_of, operations::specs::Score::nearest))]
 pub fn score(decreasing: usize, rules: usize) -> usize
     requires { decreasing < 1024 }
     ensures value { result ≡ score_of decreasing rules }
@@ -55,14 +54,9 @@ pub fn score(decreasing: usize, rules: usize) -> usize
     }
     let below = 100 * decreasing / rules;
     let left = 100 * decreasing % rules;
-    if 2 * left < rules {
-        return below;
+    match (2 * left).cmp(&rules) {
+        Ordering::Less => below,
+        Ordering::Greater => below + 1,
+        Ordering::Equal => below + below % 2,
     }
-    if rules < 2 * left {
-        return below + 1;
-    }
-    if below % 2 == 0 {
-        return below;
-    }
-    below + 1
 }

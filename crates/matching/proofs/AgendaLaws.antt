@@ -1,18 +1,16 @@
 -- The agenda: nodes stored after others, and what is pending.
---     stored-node                        a node as its three words are stored
 --     same_nodes, nodes-then             nodes as they were
 --     kept-pending                       what is pending stays so where later words change
 --     extended_none, extended-more       no term before what is pending, and one more
 --     sums-extended                      two pieces of a flattening
---     terms-none, terms-more             the terms that stand at an offset, from the last to the first
---     keys-inside, keys-next, in-keys    their offsets
+--     terms-more                         the terms that stand at an offset, from the last to the first
+--     keys-next, in-keys                 their offsets
 use mathlib.Core.List.{List, [], ◌∷◌, ◌++◌}
 use mathlib.Core.Path.{◌≡◌, refl, sym, ap, ◌∙◌, subst}
-use Prim.Native.Nat.{ℕ, suc, zero, ◌+◌, ◌-◌, ◌*◌, ◌≤◌, ◌<◌}
+use Prim.Native.Nat.{ℕ, suc, zero, ◌+◌, ◌-◌, ◌≤◌, ◌<◌}
 use native.Mathlib.Omega.{arith}
 use native.Mathlib.Nat.{add-zero, suc-add}
-use lib.ListN.{length, get_or, set, length-set}
-use lib.Seq.{get_or-set_same, get_or-set_other}
+use lib.ListN.{length, get_or}
 use mathlib.Core.Bool.{true}
 use Rattle.terms.specs.Signature.{Signature, symbol_of}
 use Rattle.terms.specs.Term.{Term}
@@ -20,66 +18,46 @@ use Rattle.subterms.specs.Parts.{part_at, parts_at, Stands}
 use Rattle.equivalence.specs.Keys.{Prepared, size_in}
 use Rattle.equivalence.proofs.StepLaws.{row_next, prepared-size, step-next}
 use Rattle.pieces.specs.Pieces.{piece_at, IsNormal}
+use Rattle.matching.specs.declared.nodes.Node.{Node}
 use Rattle.matching.specs.Agenda.{IsPending, offset_in, mask_in, next_in, pending_at, ArePending, KeptBelow, Pushed}
 use Rattle.matching.specs.Agenda.{KeptNodes}
 use Rattle.matching.specs.Agenda.{Extended, InKeys}
 
--- ---- one node
-
-pub stored-node : (l : List ℕ) (free i mask next : ℕ) → free < 32 → length l ≡ 96 →
-    Pushed l free i mask next (set (set (set l (3 * free) i) (3 * free + 1) mask) (3 * free + 2) next)
-stored-node l free i mask next h e =
-    let a = set l (3 * free) i in
-    let b = set a (3 * free + 1) mask in
-    let p : length a ≡ 96 = simp length-set e in
-    let q : length b ≡ 96 = simp length-set e in
-    record {
-      offset_stored = get_or-set_other b (3 * free + 2) (3 * free) next 0 (omega arith)
-          ∙ get_or-set_other a (3 * free + 1) (3 * free) mask 0 (omega arith)
-          ∙ get_or-set_same l (3 * free) i 0 (omega arith);
-      mask_stored = get_or-set_other b (3 * free + 2) (3 * free + 1) next 0 (omega arith)
-          ∙ get_or-set_same a (3 * free + 1) mask 0 (omega arith);
-      next_stored = get_or-set_same b (3 * free + 2) next 0 (omega arith);
-      kept = λ k j. get_or-set_other b (3 * free + 2) k next 0 (omega arith)
-          ∙ get_or-set_other a (3 * free + 1) k mask 0 (omega arith) ∙ get_or-set_other l (3 * free) k i 0 (omega arith);
-      room = simp length-set e;
-    }
-
 -- ---- nodes as they were
 
-pub same_nodes : (l : List ℕ) (free : ℕ) → length l ≡ 96 → KeptNodes l free l
+pub same_nodes : (l : List Node) (free : ℕ) → length l ≡ 32 → KeptNodes l free l
 same_nodes l free e = record { same = λ k h. refl; room = e }
 
-pub nodes-then : {old mid new : List ℕ} {free after : ℕ} → KeptNodes old free mid → KeptNodes mid after new →
+pub nodes-then : {old mid new : List Node} {free after : ℕ} → KeptNodes old free mid → KeptNodes mid after new →
     free ≤ after → KeptNodes old free new
 nodes-then h k l = record { same = λ i j. k.same i (omega arith) ∙ h.same i j; room = k.room }
 
 module _ (σ : Signature) (ws : List ℕ) where
   -- ---- what is pending
 
-  pub pending-count : (nodes : List ℕ) (n k free : ℕ) → ArePending σ ws nodes n k free → n ≤ free
+  pub pending-count : (nodes : List Node) (n k free : ℕ) → ArePending σ ws nodes n k free → n ≤ free
   pending-count nodes zero k free a = omega arith
   pending-count nodes (suc n) k free (l, p, a) = omega (arith, pending-count nodes n (next_in nodes k) k a)
 
-  pub kept-pending : (old new : List ℕ) (n k free : ℕ) → KeptBelow old new (3 * free) → ArePending σ ws old n k free →
+  pub kept-pending : (old new : List Node) (n k free : ℕ) → KeptBelow old new free → ArePending σ ws old n k free →
       ArePending σ ws new n k free × (pending_at σ ws new n k ≡ pending_at σ ws old n k)
   kept-pending old new zero k free h a = (tt, refl)
   kept-pending old new (suc n) k free h (l, p, a) =
-      let e = h (3 * k) (omega arith) in
-      let d = h (3 * k + 1) (omega arith) in
-      let g = h (3 * k + 2) (omega arith) in
+      let e : offset_in new k ≡ offset_in old k = ap (λ (n : Node). n.offset) (h k (omega arith)) in
+      let d : mask_in new k ≡ mask_in old k = ap (λ (n : Node). n.mask) (h k (omega arith)) in
+      let g : next_in new k ≡ next_in old k = ap (λ (n : Node). n.next) (h k (omega arith)) in
       let (b, s) = kept-pending old new n (next_in old k) k (λ j m. h j (omega arith)) a in
       (rw (e, d, g) (l, p, b), rw (e, d, g) (ap (◌∷◌ (piece_at σ ws (offset_in old k) (mask_in old k))) s))
 
-  module _ (old : List ℕ) (free head : ℕ) where
-    pub extended_none : length old ≡ 96 → Extended σ ws old free 0 head old head []
+  module _ (old : List Node) (free head : ℕ) where
+    pub extended_none : length old ≡ 32 → Extended σ ws old free 0 head old head []
     extended_none e = record {
       kept = same_nodes old free e;
       pending = λ owed a. let e : 0 + owed ≡ owed = omega arith in rw (e, add-zero) a;
       terms = λ owed a. let e : 0 + owed ≡ owed = omega arith in rw e;
     }
 
-    module _ (mid new : List ℕ) (n rest i mask : ℕ) (ts : List Term) (X : Extended σ ws old free n head mid rest ts)
+    module _ (mid new : List Node) (n rest i mask : ℕ) (ts : List Term) (X : Extended σ ws old free n head mid rest ts)
         (P : Pushed mid (free + n) i mask rest new) (I : IsPending σ ws i mask) where
       more-pending : (owed : ℕ) → ArePending σ ws old owed head free →
           ArePending σ ws new (suc (n + owed)) (free + n) (free + suc n) ×
@@ -108,7 +86,7 @@ module _ (σ : Signature) (ws : List ℕ) where
     apart = n.apart;
   }
 
-  pub sums-extended : (old mid new : List ℕ) (free head i mask rest : ℕ) → length old ≡ 96 →
+  pub sums-extended : (old mid new : List Node) (free head i mask rest : ℕ) → length old ≡ 32 →
       (symbol_of σ (get_or ws i 0)).ac ≡ true → (offset other : ℕ) → IsNormal σ ws i rest offset other →
       Pushed old free offset other head mid →
       (first own : ℕ) → IsNormal σ ws i mask first own → Pushed mid (free + 1) first own free new →
@@ -133,12 +111,8 @@ module _ (σ : Signature) (ws : List ℕ) where
   unfolding piece_at
   whole-piece i = refl
 
-  pub terms-none : (old : List ℕ) (free head i n : ℕ) → n ≡ 0 → length old ≡ 96 →
-      Extended σ ws old free n head old head (parts_at σ ws i n)
-  terms-none old free head i n e l = rw e (extended_none old free head l)
-
   module _ {keys : List ℕ} (P : Prepared σ ws keys) {i n : ℕ} (S : Stands σ ws i n) (p : 0 < n) where
-    pub terms-more : (old mid new : List ℕ) (free head next w : ℕ) → w ≡ size_in keys i →
+    pub terms-more : (old mid new : List Node) (free head next w : ℕ) → w ≡ size_in keys i →
         Extended σ ws old free (n - 1) head mid next (parts_at σ ws (i + w) (n - 1)) →
         Pushed mid (free + (n - 1)) i 0 next new →
         Extended σ ws old free n head new (free + (n - 1)) (parts_at σ ws i n)
@@ -153,14 +127,9 @@ module _ (σ : Signature) (ws : List ℕ) where
 
 -- ---- their offsets
 
-module _ (keys : List ℕ) (i : ℕ) where
-  pub keys-inside : (n : ℕ) → 0 < n → InKeys keys i n → i < 128
-  keys-inside zero p h = absurd (omega arith)
-  keys-inside (suc n) p h = h.0
-
-  pub keys-next : (n w : ℕ) → 0 < n → InKeys keys i n → w ≡ size_in keys i → InKeys keys (i + w) (n - 1)
-  keys-next zero w p h e = absurd (omega arith)
-  keys-next (suc n) w p h e = let d : suc n - 1 ≡ n = omega arith in rw (d, e) h.1
+pub keys-next : (keys : List ℕ) (i n w : ℕ) → 0 < n → InKeys keys i n → w ≡ size_in keys i → InKeys keys (i + w) (n - 1)
+keys-next keys i zero w p h e = absurd (omega arith)
+keys-next keys i (suc n) w p h e = let d : suc n - 1 ≡ n = omega arith in rw (d, e) h.1
 
 pub in-keys : {σ : Signature} {ws keys : List ℕ} → Prepared σ ws keys → (n i : ℕ) → Stands σ ws i n → InKeys keys i n
 in-keys P zero i S = tt

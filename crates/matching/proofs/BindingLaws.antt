@@ -1,5 +1,5 @@
 -- What a pattern's variables are bound to.
---     occurs-none, occurs-here, occurs-later     whether a word occurs among the first ones
+--     occurs_told                                whether a word occurs among the first ones, as `contains` tells
 --     occurs-grows                               and then among more of them
 --     kept-bindings                              where their pieces are as they were, so is what they are bound to
 --     symbol-bindings                            a symbol binds nothing
@@ -12,7 +12,9 @@ use Prim.Native.Nat.{ℕ, suc, zero, ◌+◌, ◌-◌, ◌≤◌, ◌<◌}
 use native.Mathlib.Omega.{arith}
 use native.Mathlib.Numerals.{add-one}
 use lib.Dec.{eqb}
-use lib.ListN.{length, get_or, set, length-set}
+use lib.ListN.{length, get_or, set, length-set, take}
+use Rattle.std.specs.List.{list_any}
+use Rattle.std.proofs.lemmas.List.Folds.{list_any_more}
 use lib.Seq.{get_or-set_same, get_or-set_other}
 use borrow.Author.Tests.{eq-eqb, ne_eqb, eqb-true, eqb-false}
 use Rattle.multisets.proofs.Relations.{by_test}
@@ -33,22 +35,19 @@ use Rattle.matching.specs.Bindings.{occurs_before, Matching, AreBound, bindings_
 -- ---- whether a word occurs
 
 module _ (ps : List ℕ) (w : ℕ) where
-  pub occurs-none : (n : ℕ) → n ≡ 0 → false ≡ occurs_before ps w n
+  occurs-any : (n : ℕ) → n ≤ length ps → list_any (λ (y : ℕ). eqb y w) (take n ps) ≡ occurs_before ps w n
   unfolding occurs_before
-  occurs-none n e = rw e
+  occurs-any zero h = refl
+  occurs-any (suc n) h =
+      let e = rw add-one at (list_any_more (λ (y : ℕ). eqb y w) ps n 0 (omega arith)) in
+      e ∙ rw (occurs-any n (omega arith))
+      (by_test (eqb (get_or ps n 0) w)
+      (λ d. rw d (by_test (occurs_before ps w n) (λ b. rw b) (λ b. rw b)))
+      λ d. rw d (by_test (occurs_before ps w n) (λ b. rw b) (λ b. rw b)))
 
-  pub occurs-here : (n : ℕ) → 0 < n → get_or ps (n - 1) 0 ≡ w → true ≡ occurs_before ps w n
-  unfolding occurs_before
-  occurs-here zero p e = absurd (omega arith)
-  occurs-here (suc n) p e =
-      let d : suc n - 1 ≡ n = omega arith in rw (eq-eqb (get_or ps n 0) w (rw d at e))
-
-  pub occurs-later : (n : ℕ) (r : Bool) → 0 < n → (get_or ps (n - 1) 0 ≡ w → ⊥) → r ≡ occurs_before ps w (n - 1) →
+  pub occurs_told : {n : ℕ} {r : Bool} → n ≤ length ps → r ≡ list_any (λ (y : ℕ). eqb y w) (take n ps) →
       r ≡ occurs_before ps w n
-  unfolding occurs_before
-  occurs-later zero r p d h = absurd (omega arith)
-  occurs-later (suc n) r p d h =
-      let k : suc n - 1 ≡ n = omega arith in rw (ne_eqb (get_or ps n 0) w (rw k at d)) (rw k at h)
+  occurs_told {n} h e = e ∙ occurs-any n h
 
   occurs-own : (n : ℕ) → get_or ps n 0 ≡ w → occurs_before ps w (n + 1) ≡ true
   unfolding occurs_before

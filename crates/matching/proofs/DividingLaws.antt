@@ -1,10 +1,10 @@
 -- A search by the masks that divide a sum, from the greatest down.
---     dividing-piece, dividing-next                 the sums, and the next mask
---     divided-none, divided-found, divided-next     no mask is left; the first gives a match; it gives none
+--     dividing-next                   the next mask
+--     divided-found, divided-next     the first mask gives a match; it gives none
 use mathlib.Core.List.{List}
-use mathlib.Core.Path.{◌≡◌, refl, sym, ◌∙◌}
+use mathlib.Core.Path.{◌≡◌, sym, ◌∙◌}
 use mathlib.Core.Bool.{Bool, true, false, false≢true}
-use Prim.Native.Nat.{ℕ, ◌+◌, ◌-◌, ◌≤◌, ◌<◌}
+use Prim.Native.Nat.{ℕ, ◌+◌, ◌-◌, ◌<◌}
 use native.Mathlib.Omega.{arith}
 use lib.Bits.{bit_and}
 use Rattle.multisets.proofs.Relations.{by_order}
@@ -12,15 +12,11 @@ use Rattle.terms.specs.Signature.{Signature}
 use Rattle.terms.specs.Term.{Term}
 use Rattle.terms.specs.Words.{first_variable}
 use Rattle.simplifying.proofs.MaskLaws.{within-and, within-next}
-use Rattle.pieces.specs.Pieces.{IsPiece}
-use Rattle.matching.specs.Bindings.{AreBound, bindings_at, KeptBindings}
+use Rattle.matching.specs.Bindings.{bindings_at, KeptBindings}
 use Rattle.matching.specs.Search.{Searched, divided, Dividing, Divided}
 use Rattle.matching.proofs.BindingLaws.{occurs-grows, kept-bindings, symbol-bindings}
 
 module _ {σ : Signature} {ws ps : List ℕ} {p i m a : ℕ} (G : Dividing σ ws ps p i m a) where
-  pub dividing-piece : (x : ℕ) → x ≤ m → IsPiece σ ws i x
-  dividing-piece x h = record { inside = G.inside; sum = λ q. (G.root, omega (arith, G.bound)) }
-
   pub dividing-next : {next : ℕ} → next ≡ bit_and (a - 1) m → next < a → Dividing σ ws ps p i m next
   dividing-next {next} e h = record {
     symbol = G.symbol;
@@ -35,14 +31,6 @@ module _ {σ : Signature} {ws ps : List ℕ} {p i m a : ℕ} (G : Dividing σ ws
 
 module _ (σ : Signature) (ws ps : List ℕ) {p i m a : ℕ} (G : Dividing σ ws ps p i m a) (offsets masks : List ℕ)
     (ts : List Term) where
-  pub divided-none : AreBound σ ws offsets masks → a ≡ 0 → Divided σ ws ps p i m a offsets masks ts false offsets masks
-  divided-none B e = record {
-    yes = λ y. absurd (false≢true y);
-    no = λ y x w h q. absurd (omega arith);
-    kept = λ x o. (refl, refl);
-    bound = B;
-  }
-
   module _ (z : a ≡ 0 → ⊥) (us : List Term) (u : us ≡ divided σ ws ps i m a ts) where
     sides : bindings_at σ ws ps (p + 1) offsets masks ≡ bindings_at σ ws ps p offsets masks
     sides = symbol-bindings σ ws ps p G.symbol offsets masks

@@ -37,13 +37,14 @@ use Rattle.subterms.specs.Parts.{parts_at}
 use Rattle.subterms.proofs.PartLaws.{symbol, variable}
 use Rattle.pieces.specs.Pieces.{elements_of, piece_at}
 use Rattle.pieces.proofs.NodeLaws.{whole-node, piece-node}
+use Rattle.matching.specs.declared.nodes.Node.{Node}
 use Rattle.matching.specs.Agenda.{IsPending, ArePending}
 use Rattle.matching.specs.Bindings.{Matching, AreBound, bindings_at, KeptBindings}
 use Rattle.matching.specs.Search.{calls_for, Reached, Searched, divided, Dividing, Divided}
 use Rattle.matching.proofs.BindingLaws.{occurs-grows, symbol-bindings}
 
-pub pending-below : (σ : Signature) (ws nodes : List ℕ) (n k f g : ℕ) → ArePending σ ws nodes n k f → f ≤ g →
-    ArePending σ ws nodes n k g
+pub pending-below : (σ : Signature) (ws : List ℕ) (nodes : List Node) (n k f g : ℕ) → ArePending σ ws nodes n k f →
+    f ≤ g → ArePending σ ws nodes n k g
 pending-below σ ws nodes zero k f g a h = tt
 pending-below σ ws nodes (suc n) k f g (l, p, a) h = (omega arith, p, a)
 

@@ -5,8 +5,7 @@
 --     searched-variable, searched-refused the first piece is a variable's, or is not
 --     searched-empty                      no piece is pending
 --     searching-again, pending-again      after a search that found nothing
---     owed-few, two-arguments, two-fit    how many pieces are pending, and are called for
---     arguments-fit                       the arguments of a symbol
+--     two-arguments, two-fit              an AC symbol calls for two pieces
 --     root-small .. mask-small            a symbol that is the root of a piece: its elements and their masks
 use mathlib.Core.List.{List, [], ◌∷◌}
 use mathlib.Core.Path.{◌≡◌, refl, sym}
@@ -22,23 +21,24 @@ use Rattle.terms.specs.Words.{first_variable}
 use Rattle.subterms.specs.Parts.{Stands}
 use Rattle.equivalence.proofs.StepLaws.{stands-inner}
 use Rattle.pieces.specs.Pieces.{elements_of, piece_at}
+use Rattle.matching.specs.declared.nodes.Node.{Node}
 use Rattle.matching.specs.Agenda.{IsPending, offset_in, mask_in, next_in, pending_at, ArePending, KeptNodes}
 use Rattle.matching.specs.Agenda.{Extended}
 use Rattle.matching.specs.Bindings.{Matching, AreBound, Takes}
 use Rattle.matching.specs.Search.{Searching, Searched}
 use Rattle.matching.proofs.SizeLaws.{elements-few, elements-some}
-use Rattle.matching.proofs.AgendaLaws.{kept-pending, pending-count}
+use Rattle.matching.proofs.AgendaLaws.{kept-pending}
 use Rattle.matching.proofs.FollowLaws.{pending-below, calls-next, step-none, step-one}
 
 -- The first piece that is pending, and those after it.
-pub record FirstPending (σ : Signature) (ws nodes : List ℕ) (owed head free : ℕ) : Type 0 where
+pub record FirstPending (σ : Signature) (ws : List ℕ) (nodes : List Node) (owed head free : ℕ) : Type 0 where
   pub below : head < free
   pub piece : IsPending σ ws (offset_in nodes head) (mask_in nodes head)
   pub others : ArePending σ ws nodes (owed - 1) (next_in nodes head) free
   pub terms : pending_at σ ws nodes owed head ≡
       piece_at σ ws (offset_in nodes head) (mask_in nodes head) ∷ pending_at σ ws nodes (owed - 1) (next_in nodes head)
 
-pub first-pending : {σ : Signature} {ws nodes : List ℕ} (owed head free : ℕ) → (owed ≡ 0 → ⊥) →
+pub first-pending : {σ : Signature} {ws : List ℕ} {nodes : List Node} (owed head free : ℕ) → (owed ≡ 0 → ⊥) →
     ArePending σ ws nodes owed head free → FirstPending σ ws nodes owed head free
 first-pending zero head free d a = absurd (d refl)
 first-pending {σ} {ws} {nodes} (suc n) head free d (l, p, a) =
@@ -50,7 +50,7 @@ first-pending {σ} {ws} {nodes} (suc n) head free d (l, p, a) =
       terms = rw e;
     }
 
-module _ {σ : Signature} {ws ps : List ℕ} {p : ℕ} {offsets masks nodes : List ℕ} {free head owed : ℕ}
+module _ {σ : Signature} {ws ps : List ℕ} {p : ℕ} {offsets masks : List ℕ} {nodes : List Node} {free head owed : ℕ}
     (S : Searching σ ws ps p offsets masks nodes free head owed) where
   pub first_of : (owed ≡ 0 → ⊥) → FirstPending σ ws nodes owed head free
   first_of d = first-pending owed head free d S.pending
@@ -113,16 +113,16 @@ module _ {σ : Signature} {ws ps : List ℕ} {p : ℕ} {offsets masks nodes : Li
     pending = rw e (first_of d).others;
   }
 
-  pub searching-more : p < length ps → {n : ℕ} → n ≡ (symbol_of σ (get_or ps p 0)).arity → {new : List ℕ} {r : ℕ}
-      {ts : List Term} → Extended σ ws nodes free n head new r ts → r < 65536 →
-      Searching σ ws ps (p + 1) offsets masks new (free + n) r (n + owed)
-  searching-more k {n} e X h = record {
+  pub searching-more : p < length ps → {n : ℕ} → n ≡ (symbol_of σ (get_or ps p 0)).arity → {new : List Node} {r : ℕ}
+      {ts : List Term} → Extended σ ws nodes free n head new r ts → {after left : ℕ} →
+      (after ≡ free + n) × (left ≡ n + owed) → r < 65536 → Searching σ ws ps (p + 1) offsets masks new after r left
+  searching-more k {n} e X (a, o) h = record {
     inside = omega arith;
     bound = S.bound;
     room = X.kept.room;
     first = h;
     fits = omega (arith, S.fits, calls-next ps p k σ);
-    pending = X.pending owed S.pending;
+    pending = rw (a, o) (X.pending owed S.pending);
   }
 
   pub searched-empty : p < length ps → owed ≡ 0 →
@@ -131,7 +131,7 @@ module _ {σ : Signature} {ws ps : List ℕ} {p : ℕ} {offsets masks nodes : Li
       rw e (step-none σ ws ps p offsets masks k [] offsets masks (λ x o. (refl, refl)) refl S.bound)
 
   -- Where later nodes change, and the variables that occur before are as they were.
-  pub searching-again : {others rest new : List ℕ} → AreBound σ ws others rest → KeptNodes nodes free new →
+  pub searching-again : {others rest : List ℕ} {new : List Node} → AreBound σ ws others rest → KeptNodes nodes free new →
       Searching σ ws ps p others rest new free head owed
   searching-again {others} {rest} {new} B K = record {
     inside = S.inside;
@@ -142,15 +142,9 @@ module _ {σ : Signature} {ws ps : List ℕ} {p : ℕ} {offsets masks nodes : Li
     pending = (kept-pending σ ws nodes new owed head free K.same S.pending).0;
   }
 
-  pub pending-again : {new : List ℕ} → KeptNodes nodes free new →
+  pub pending-again : {new : List Node} → KeptNodes nodes free new →
       pending_at σ ws new owed head ≡ pending_at σ ws nodes owed head
   pending-again {new} K = (kept-pending σ ws nodes new owed head free K.same S.pending).1
-
-  pub owed-few : owed ≤ 32
-  owed-few = omega (arith, pending-count σ ws nodes owed head free S.pending, S.fits)
-
-  pub arguments-fit : p < length ps → {n : ℕ} → n ≡ (symbol_of σ (get_or ps p 0)).arity → free + n ≤ 32
-  arguments-fit h d = omega (arith, S.fits, calls-next ps p h σ)
 
   -- An AC symbol calls for two arguments.
   module _ {keys : List ℕ} (M : Matching σ ws keys ps) (h : p < length ps)

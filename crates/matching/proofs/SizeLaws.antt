@@ -1,20 +1,18 @@
 -- How many elements a flattening of a subject has, and how many words a piece of it.
 --     elements-few, elements-some     at most half as many elements as words, and one at least
 --     piece-short                     no more words than the subject
---     one-stands, shift-all, shift-some     the term at an offset, and the mask of all elements as code shifts it
+--     one-stands                      the term at an offset
 use mathlib.Core.List.{List, [], ◌∷◌}
 use mathlib.Core.Path.{◌≡◌, sym, ap, ◌∙◌, subst}
 use mathlib.Core.Bool.{true}
-use Prim.Native.Nat.{ℕ, suc, ◌+◌, ◌-◌, ◌*◌, ◌%◌, ◌^◌, ◌≤◌, ◌<◌}
+use Prim.Native.Nat.{ℕ, suc, ◌+◌, ◌*◌, ◌^◌, ◌≤◌, ◌<◌}
 use native.Mathlib.Omega.{arith}
-use lib.Pow.{pow_pos}
 use lib.Dec.{eqb}
 use lib.ListN.{length, get_or}
 use borrow.Author.Tests.{eqb-true, eq-eqb, ne_eqb}
 use Rattle.multisets.proofs.Relations.{by_test, by_order}
 use Rattle.multisets.proofs.MultisetLaws.{sum, sum-append}
 use Rattle.terms.specs.Signature.{Signature, symbol_of}
-use Rattle.format.proofs.PackingLaws.{one_shl}
 use Rattle.terms.specs.Term.{Term, Terms, size, sizes, row, flattening, flattenings, WellFormed, WellFormeds}
 use Rattle.terms.specs.Term.Term.{var, app}
 use Rattle.terms.specs.Term.Terms.{nil, cons}
@@ -29,9 +27,7 @@ use Rattle.simplifying.proofs.SearchLaws.{bunch-size, parted-sum}
 use Rattle.simplifying.proofs.SumLaws.{sum-some}
 use Rattle.subterms.specs.Parts.{part_at, Stands, Complete}
 use Rattle.subterms.proofs.PartLaws.{stand-one, stands}
-use Rattle.equivalence.specs.Offsets.{Offsets}
 use Rattle.equivalence.proofs.StepLaws.{part_small}
-use Rattle.equivalence.proofs.OffsetLaws.{offsets-length}
 use Rattle.pieces.specs.Pieces.{elements_of, piece_at}
 use Rattle.pieces.specs.Subject.{Subject}
 use Rattle.pieces.proofs.NodeLaws.{part-arranged, whole-node}
@@ -113,11 +109,3 @@ module _ {σ : Signature} {ws : List ℕ} (S : Subject σ ws) (c : Complete σ w
 
 pub one-stands : {σ : Signature} {ws : List ℕ} {i : ℕ} → i < length ws → Stands σ ws i 1
 one-stands {σ} {ws} {i} h = stands σ ws i 1 (stand-one σ ws i h) (omega arith)
-
-module _ {σ : Signature} {ws offsets : List ℕ} {count : ℕ} {l : List Term} (P : Offsets σ ws offsets count l)
-    (h : length l ≤ 15) where
-  pub shift-all : 1 * 2 ^ count % 2 ^ 16 - 1 ≡ 2 ^ length l - 1
-  shift-all = rw (one_shl 16 count (omega (arith, offsets-length P)), offsets-length P)
-
-  pub shift-some : 1 ≤ 1 * 2 ^ count % 2 ^ 16
-  shift-some = rw (one_shl 16 count (omega (arith, offsets-length P))) (pow_pos count)

@@ -1,5 +1,5 @@
 -- The beginning of a search, and its end as a match.
---     start-searching, start-found     the part at an offset alone is pending
+--     start-found                      the part at an offset alone is pending
 --     calls-pattern                    how many arguments a pattern calls for
 --     found-match, found_none          what is found is a match, and where nothing is found there is none
 use mathlib.Core.List.Memᴰ
@@ -19,12 +19,13 @@ use Rattle.simplifying.specs.Matching.{Bindings, unbound, matches}
 use Rattle.simplifying.specs.Agenda.{Agenda, agenda, follows}
 use Rattle.simplifying.proofs.AgendaLaws.{follows-words}
 use Rattle.subterms.specs.Parts.{part_at}
+use Rattle.matching.specs.declared.nodes.Node.{Node}
 use Rattle.matching.specs.Agenda.{pending_at, ArePending, Pushed}
-use Rattle.matching.specs.Bindings.{occurs_before, AreBound, bindings_at}
-use Rattle.matching.specs.Search.{calls_for, Reached, Unreached, Searching, Searched, Found}
+use Rattle.matching.specs.Bindings.{occurs_before, bindings_at}
+use Rattle.matching.specs.Search.{calls_for, Reached, Unreached, Searched, Found}
 use Rattle.matching.proofs.AgendaLaws.{whole-pending, whole-piece}
 
-module _ (σ : Signature) (ws ps : List ℕ) {i : ℕ} (h : i < length ws) {old nodes : List ℕ}
+module _ (σ : Signature) (ws ps : List ℕ) {i : ℕ} (h : i < length ws) {old nodes : List Node}
     (P : Pushed old 0 i 0 0 nodes) where
   first-pending : ArePending σ ws nodes 1 0 1
   first-pending =
@@ -35,17 +36,6 @@ module _ (σ : Signature) (ws ps : List ℕ) {i : ℕ} (h : i < length ws) {old 
   first-terms = rw (P.offset_stored, P.mask_stored, whole-piece σ ws i)
 
   module _ (offsets masks : List ℕ) where
-    pub start-searching : AreBound σ ws offsets masks → calls_for σ ps < 32 →
-        Searching σ ws ps 0 offsets masks nodes 1 0 1
-    start-searching B k = record {
-      inside = omega arith;
-      bound = B;
-      room = P.room;
-      first = omega arith;
-      fits = omega arith;
-      pending = first-pending;
-    }
-
     start-bindings : bindings_at σ ws ps 0 offsets masks ≡ unbound
     unfolding occurs_before
     start-bindings = fun_ext λ x. refl

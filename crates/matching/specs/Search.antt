@@ -10,6 +10,7 @@ use Rattle.simplifying.specs.Agenda.{Agenda, agenda, follows}
 use Rattle.simplifying.specs.Pieces.{Covers}
 use Rattle.subterms.specs.Parts.{part_at}
 use Rattle.pieces.specs.Pieces.{elements_of, piece_at}
+use Rattle.matching.specs.declared.nodes.Node.{Node}
 use Rattle.matching.specs.Agenda.{ArePending}
 use Rattle.matching.specs.Bindings.{AreBound, bindings_at, KeptBindings}
 
@@ -31,10 +32,10 @@ module _ (σ : Signature) (ws ps : List ℕ) where
 
   -- What is asked of a search from the word at p on: so many pieces are pending, and there is room for those that are
   -- called for.
-  pub record Searching (p : ℕ) (offsets masks nodes : List ℕ) (free head owed : ℕ) : Type 0 where
+  pub record Searching (p : ℕ) (offsets masks : List ℕ) (nodes : List Node) (free head owed : ℕ) : Type 0 where
     pub inside : p ≤ length ps
     pub bound : AreBound σ ws offsets masks
-    pub room : length nodes ≡ 96
+    pub room : length nodes ≡ 32
     pub first : head < 65536
     pub fits : free + calls_for σ (drop p ps) ≤ 32
     pub pending : ArePending σ ws nodes owed head free

@@ -5,6 +5,8 @@
 pub mod agenda;
 pub mod flattenings;
 pub mod matches;
+pub mod nodes;
 pub mod patterns;
 pub mod search;
+pub mod sought;
 pub mod variables;

@@ -4,30 +4,35 @@ ghost use Rattle.symbols.specs.Table.{signature_of};
 ghost use Rattle.matching.specs.Bindings.{Matching, AreBound};
 ghost use Rattle.matching.specs.Search.{calls_for, Found};
 
-use crate::agenda::{NODES, push};
+use crate::agenda::{NODES, Pending, push};
+use crate::nodes::Node;
 use crate::search::follow;
-use format::MAX_NODES;
-use pieces::VARIABLES;
+use crate::sought::Sought;
+use equivalence::keys::Keyed;
+use pieces::bindings::Bindings;
+use pieces::elements::Piece;
 
 // Finds a match of a pattern with the part at i.
-pub fn find(
-    table: &&[u16],
-    words: &&[u16],
-    keys: &[u64; MAX_NODES],
-    pattern: &&[u16],
-    i: usize,
-    offsets: &mut [u8; VARIABLES],
-    masks: &mut [u16; VARIABLES],
-) -> bool
-    requires cases { Matching (signature_of table.now.now) words.now.now keys.now pattern.now.now }
-    requires are_bound { AreBound (signature_of table.now.now) words.now.now offsets.old masks.old }
-    requires i_in_bounds { (i < length words.now.now) × (calls_for (signature_of table.now.now) pattern.now.now < 32) }
-    ensures { Found (signature_of table.now.now) words.now.now pattern.now.now i result
-        offsets.new masks.new }
+pub fn find(term: &Keyed, pattern: &[u16], i: usize, bindings: &mut Bindings) -> bool
+    requires cases { Matching (signature_of term.now.table.now) term.now.words.now term.now.keys.now pattern.now }
+    requires are_bound { AreBound (signature_of term.now.table.now) term.now.words.now bindings.old.offsets
+        bindings.old.masks }
+    requires i_in_bounds { (i < length term.now.words.now)
+        × (calls_for (signature_of term.now.table.now) pattern.now < 32) }
+    ensures { Found (signature_of term.now.table.now) term.now.words.now pattern.now i result bindings.new.offsets
+        bindings.new.masks }
 {
-    let mut nodes = [0u16; NODES];
-    push(&mut nodes, 0, i, 0, 0);
-    follow(
-        table, words, keys, pattern, 0, offsets, masks, &mut nodes, 1, 0, 1,
-    )
+    let mut nodes = [Node::NONE; NODES];
+    let none = Pending {
+        free: 0,
+        head: 0,
+        owed: 0,
+    };
+    let pending = push(&mut nodes, none, Piece { offset: i, mask: 0 });
+    let sought = Sought {
+        term: *term,
+        pattern,
+        p: 0,
+    };
+    follow(&sought, bindings, &mut nodes, pending)
 }

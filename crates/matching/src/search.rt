@@ -4,235 +4,133 @@ ghost use Rattle.terms.specs.Signature.{symbol_of};
 ghost use Rattle.symbols.specs.Table.{signature_of};
 ghost use Rattle.pieces.specs.Pieces.{piece_at};
 ghost use Rattle.matching.specs.Agenda.{IsPending, pending_at, KeptNodes};
-ghost use Rattle.matching.specs.Bindings.{Matching};
 ghost use Rattle.matching.specs.Search.{Searching, Searched, Dividing, Divided};
 
-use crate::agenda::{NODES, push_sums, push_terms};
+use crate::agenda::{NODES, Pending, first, push_sums, push_terms};
 use crate::flattenings::all_elements;
+use crate::nodes::Node;
+use crate::sought::Sought;
 use crate::variables::bind;
-use format::{FIRST_VARIABLE, MAX_NODES};
-use pieces::VARIABLES;
+use format::FIRST_VARIABLE;
+use pieces::bindings::Bindings;
+use pieces::elements::Piece;
 use pieces::masks::next_within;
-use symbols::{arity, is_ac, wide};
+use symbols::{arity, is_ac};
 
-// Finds a match of the pattern's words from p on with the pieces that are pending: so many, from the index head on.
+// Finds a match of the pattern's words from p on with the pieces that are pending.
 #[cycle(divide_follow_follow_symbol)]
 pub fn follow(
-    table: &&[u16],
-    words: &&[u16],
-    keys: &[u64; MAX_NODES],
-    pattern: &&[u16],
-    p: usize,
-    offsets: &mut [u8; VARIABLES],
-    masks: &mut [u16; VARIABLES],
-    nodes: &mut [u16; NODES],
-    free: usize,
-    head: usize,
-    owed: usize,
+    sought: &Sought,
+    bindings: &mut Bindings,
+    nodes: &mut [Node; NODES],
+    pending: Pending,
 ) -> bool
-    requires cases { Matching (signature_of table.now.now) words.now.now keys.now pattern.now.now }
-    requires searching { Searching (signature_of table.now.now) words.now.now pattern.now.now p offsets.old masks.old
-        nodes.old free head owed }
-    ensures searched { Searched (signature_of table.now.now) words.now.now pattern.now.now p
-        offsets.old masks.old
-        (pending_at (signature_of table.now.now) words.now.now nodes.old owed head)
-        result offsets.new masks.new }
-    ensures kept_nodes { KeptNodes nodes.old free nodes.new }
+    requires searching { let s = sought.now in Searching (signature_of s.term.table.now) s.term.words.now s.pattern.now
+        s.p bindings.old.offsets bindings.old.masks nodes.old pending.free pending.head pending.owed }
+    ensures searched { let s = sought.now in Searched (signature_of s.term.table.now) s.term.words.now s.pattern.now
+        s.p bindings.old.offsets bindings.old.masks
+        (pending_at (signature_of s.term.table.now) s.term.words.now nodes.old pending.owed pending.head)
+        result bindings.new.offsets bindings.new.masks }
+    ensures kept_nodes { KeptNodes nodes.old pending.free nodes.new }
 {
-    if p == pattern.len() {
+    if sought.p == sought.pattern.len() {
         return true;
     }
-    if owed == 0 {
+    if pending.owed == 0 {
         return false;
     }
-    let i = wide(nodes[3 * head]);
-    let mask = nodes[3 * head + 1];
-    let next = wide(nodes[3 * head + 2]);
-    if pattern[p] < FIRST_VARIABLE {
-        return follow_symbol(
-            table,
-            words,
-            keys,
-            pattern,
-            p,
-            i,
-            mask,
-            offsets,
-            masks,
-            nodes,
-            free,
-            next,
-            owed - 1,
-        );
+    let (piece, rest) = first(nodes, pending);
+    if sought.pattern[sought.p] < FIRST_VARIABLE {
+        return follow_symbol(sought, piece, bindings, nodes, rest);
     }
-    if bind(table, words, keys, pattern, p, offsets, masks, i, mask) {
-        return follow(
-            table,
-            words,
-            keys,
-            pattern,
-            p + 1,
-            offsets,
-            masks,
-            nodes,
-            free,
-            next,
-            owed - 1,
-        );
+    if bind(sought, bindings, piece) {
+        return follow(&sought.next(), bindings, nodes, rest);
     }
     false
 }
 
-// The same where the word at p is a symbol, and the piece by i and mask comes before those from the index head on.
+// The same where the word at p is a symbol, and a piece comes before those that are pending.
 #[cycle(divide_follow_follow_symbol)]
 fn follow_symbol(
-    table: &&[u16],
-    words: &&[u16],
-    keys: &[u64; MAX_NODES],
-    pattern: &&[u16],
-    p: usize,
-    i: usize,
-    mask: u16,
-    offsets: &mut [u8; VARIABLES],
-    masks: &mut [u16; VARIABLES],
-    nodes: &mut [u16; NODES],
-    free: usize,
-    head: usize,
-    owed: usize,
+    sought: &Sought,
+    piece: Piece,
+    bindings: &mut Bindings,
+    nodes: &mut [Node; NODES],
+    pending: Pending,
 ) -> bool
-    requires cases { Matching (signature_of table.now.now) words.now.now keys.now pattern.now.now }
-    requires searching { Searching (signature_of table.now.now) words.now.now pattern.now.now p offsets.old masks.old
-        nodes.old free head owed }
-    requires pending { IsPending (signature_of table.now.now) words.now.now i mask
-        × (p < length pattern.now.now) × (get_or pattern.now.now p 0 < 256) }
-    ensures searched { Searched (signature_of table.now.now) words.now.now pattern.now.now p
-        offsets.old masks.old
-        (piece_at (signature_of table.now.now) words.now.now i mask
-        ∷ (pending_at (signature_of table.now.now) words.now.now nodes.old owed
-        head))
-        result offsets.new masks.new }
-    ensures kept_nodes { KeptNodes nodes.old free nodes.new }
+    requires searching { let s = sought.now in Searching (signature_of s.term.table.now) s.term.words.now s.pattern.now
+        s.p bindings.old.offsets bindings.old.masks nodes.old pending.free pending.head pending.owed }
+    requires pending { let s = sought.now in IsPending (signature_of s.term.table.now) s.term.words.now piece.offset
+        piece.mask × (s.p < length s.pattern.now) × (get_or s.pattern.now s.p 0 < 256) }
+    ensures searched { let s = sought.now in Searched (signature_of s.term.table.now) s.term.words.now s.pattern.now
+        s.p bindings.old.offsets bindings.old.masks
+        (piece_at (signature_of s.term.table.now) s.term.words.now piece.offset piece.mask
+        ∷ (pending_at (signature_of s.term.table.now) s.term.words.now nodes.old pending.owed pending.head))
+        result bindings.new.offsets bindings.new.masks }
+    ensures kept_nodes { KeptNodes nodes.old pending.free nodes.new }
 {
-    let word = pattern[p];
-    if words[i] != word {
+    let i = piece.offset;
+    let word = sought.pattern[sought.p];
+    if sought.term.words[i] != word {
         return false;
     }
-    if is_ac(*table, word) {
-        if mask == 0 {
-            let all = all_elements(table, words, keys, i);
-            return divide(
-                table,
-                words,
-                keys,
-                pattern,
-                p,
-                i,
-                all,
-                next_within(all, all),
-                offsets,
-                masks,
-                nodes,
-                free,
-                head,
-                owed,
-            );
-        }
-        return divide(
-            table,
-            words,
-            keys,
-            pattern,
-            p,
-            i,
-            mask,
-            next_within(mask, mask),
-            offsets,
-            masks,
-            nodes,
-            free,
-            head,
-            owed,
-        );
+    if is_ac(sought.term.table, word) {
+        let all = if piece.mask == 0 {
+            all_elements(&sought.term, i)
+        } else {
+            piece.mask
+        };
+        let sum = Piece {
+            offset: i,
+            mask: all,
+        };
+        return divide(sought, sum, next_within(all, all), bindings, nodes, pending);
     }
-    let n = arity(*table, word);
-    let first = push_terms(keys, i + 1, n, nodes, free, head);
-    follow(
-        table,
-        words,
-        keys,
-        pattern,
-        p + 1,
-        offsets,
-        masks,
+    let after = push_terms(
+        sought.term.keys,
+        i + 1,
+        arity(sought.term.table, word),
         nodes,
-        free + n,
-        first,
-        n + owed,
-    )
+        pending,
+    );
+    follow(&sought.next(), bindings, nodes, after)
 }
 
-// The same where the elements at i that the mask all takes are divided in two, by the masks from a down.
+// The same where the elements that a sum's mask takes are divided in two, by the masks from a down.
 #[cycle(divide_follow_follow_symbol)]
 fn divide(
-    table: &&[u16],
-    words: &&[u16],
-    keys: &[u64; MAX_NODES],
-    pattern: &&[u16],
-    p: usize,
-    i: usize,
-    all: u16,
+    sought: &Sought,
+    sum: Piece,
     a: u16,
-    offsets: &mut [u8; VARIABLES],
-    masks: &mut [u16; VARIABLES],
-    nodes: &mut [u16; NODES],
-    free: usize,
-    head: usize,
-    owed: usize,
+    bindings: &mut Bindings,
+    nodes: &mut [Node; NODES],
+    pending: Pending,
 ) -> bool
-    requires cases { Matching (signature_of table.now.now) words.now.now keys.now pattern.now.now }
-    requires searching { Searching (signature_of table.now.now) words.now.now pattern.now.now p offsets.old masks.old
-        nodes.old free head owed }
-    requires dividing { Dividing (signature_of table.now.now) words.now.now pattern.now.now p i all a }
-    requires p_value { (symbol_of (signature_of table.now.now) (get_or pattern.now.now p 0)).ac ≡ true }
-    ensures divided { Divided (signature_of table.now.now) words.now.now pattern.now.now p i all
-        a offsets.old masks.old
-        (pending_at (signature_of table.now.now) words.now.now nodes.old owed head)
-        result offsets.new masks.new }
-    ensures kept_nodes { KeptNodes nodes.old free nodes.new }
+    requires searching { let s = sought.now in Searching (signature_of s.term.table.now) s.term.words.now s.pattern.now
+        s.p bindings.old.offsets bindings.old.masks nodes.old pending.free pending.head pending.owed }
+    requires dividing { let s = sought.now in Dividing (signature_of s.term.table.now) s.term.words.now s.pattern.now
+        s.p sum.offset sum.mask a }
+    requires p_value { let s = sought.now in
+        (symbol_of (signature_of s.term.table.now) (get_or s.pattern.now s.p 0)).ac ≡ true }
+    ensures divided { let s = sought.now in Divided (signature_of s.term.table.now) s.term.words.now s.pattern.now s.p
+        sum.offset sum.mask a bindings.old.offsets bindings.old.masks
+        (pending_at (signature_of s.term.table.now) s.term.words.now nodes.old pending.owed pending.head)
+        result bindings.new.offsets bindings.new.masks }
+    ensures kept_nodes { KeptNodes nodes.old pending.free nodes.new }
 {
     if a == 0 {
         return false;
     }
-    let first = push_sums(table, words, keys, i, a, all - a, nodes, free, head);
-    if follow(
-        table,
-        words,
-        keys,
-        pattern,
-        p + 1,
-        offsets,
-        masks,
-        nodes,
-        free + 2,
-        first,
-        2 + owed,
-    ) {
+    let after = push_sums(&sought.term, sum.offset, a, sum.mask - a, nodes, pending);
+    if follow(&sought.next(), bindings, nodes, after) {
         return true;
     }
     divide(
-        table,
-        words,
-        keys,
-        pattern,
-        p,
-        i,
-        all,
-        next_within(a, all),
-        offsets,
-        masks,
+        sought,
+        sum,
+        next_within(a, sum.mask),
+        bindings,
         nodes,
-        free,
-        head,
-        owed,
+        pending,
     )
 }

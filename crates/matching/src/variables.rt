@@ -3,43 +3,34 @@ ghost use Rattle.std.specs.Prelude.{◌≤◌, ◌<◌, length, get_or};
 ghost use Rattle.symbols.specs.Table.{signature_of};
 ghost use Rattle.pieces.specs.Pieces.{piece_at};
 ghost use Rattle.matching.specs.Agenda.{IsPending};
-ghost use Rattle.matching.specs.Bindings.{Matching, AreBound, Takes};
+ghost use Rattle.matching.specs.Bindings.{AreBound, Takes};
 
 use crate::patterns::occurs_before;
-use equivalence::offsets::wide_byte;
-use format::{FIRST_VARIABLE, MAX_NODES};
-use pieces::VARIABLES;
+use crate::sought::Sought;
+use format::FIRST_VARIABLE;
+use pieces::bindings::Bindings;
 use pieces::comparison::same_piece;
-use symbols::wide;
+use pieces::elements::Piece;
 
 // Binds the variable at the offset p of the pattern to a piece; where it occurs before p, tells whether the piece is
 // the one that it is bound to.
-pub fn bind(
-    table: &&[u16],
-    words: &&[u16],
-    keys: &[u64; MAX_NODES],
-    pattern: &&[u16],
-    p: usize,
-    offsets: &mut [u8; VARIABLES],
-    masks: &mut [u16; VARIABLES],
-    i: usize,
-    mask: u16,
-) -> bool
-    requires cases { Matching (signature_of table.now.now) words.now.now keys.now pattern.now.now }
-    requires are_bound { AreBound (signature_of table.now.now) words.now.now offsets.old masks.old }
-    requires pending { IsPending (signature_of table.now.now) words.now.now i mask }
-    requires p_in_bounds { (p < length pattern.now.now) × (256 ≤ get_or pattern.now.now p 0) }
-    ensures { Takes (signature_of table.now.now) words.now.now pattern.now.now p
-        offsets.old masks.old
-        (piece_at (signature_of table.now.now) words.now.now i mask) result offsets.new
-        masks.new }
+pub fn bind(sought: &Sought, bindings: &mut Bindings, piece: Piece) -> bool
+    requires are_bound { let s = sought.now in AreBound (signature_of s.term.table.now) s.term.words.now
+        bindings.old.offsets bindings.old.masks }
+    requires pending { let s = sought.now in IsPending (signature_of s.term.table.now) s.term.words.now piece.offset
+        piece.mask }
+    requires p_in_bounds { let s = sought.now in
+        (s.p < length s.pattern.now) × (256 ≤ get_or s.pattern.now s.p 0) }
+    ensures { let s = sought.now in Takes (signature_of s.term.table.now) s.term.words.now s.pattern.now s.p
+        bindings.old.offsets bindings.old.masks
+        (piece_at (signature_of s.term.table.now) s.term.words.now piece.offset piece.mask) result
+        bindings.new.offsets bindings.new.masks }
 {
-    let word = pattern[p];
-    let x = wide(word - FIRST_VARIABLE);
-    if occurs_before(*pattern, word, p) {
-        return same_piece(table, words, keys, wide_byte(offsets[x]), masks[x], i, mask);
+    let word = sought.pattern[sought.p];
+    let x = (word - FIRST_VARIABLE) as usize;
+    if occurs_before(sought.pattern, word, sought.p) {
+        return same_piece(&sought.term, bindings.get(x), piece);
     }
-    offsets[x] = i as u8;
-    masks[x] = mask;
+    bindings.set(x, piece);
     true
 }

@@ -1,3 +1,2 @@
--- The laws that the functions' proofs cite, in reading order.
+-- The laws of weighing parts of terms.
 mod SumLaws
-mod StoreLaws

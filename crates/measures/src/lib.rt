@@ -3,5 +3,5 @@
 
 pub mod sums;
 
-// How many numbers are stored for the offsets in a term and the one past it, three for each.
-pub const SUMS: usize = 387;
+// How many sums are stored for a term: those from each offset on, and those from its end on.
+pub const SUMS: usize = format::MAX_NODES + 1;

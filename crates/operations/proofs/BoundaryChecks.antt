@@ -1,4 +1,5 @@
 -- The numbers that cross the C boundary, by computation: the code and the three values of each answer and of a refusal.
+use Rattle.std.specs.Prelude.{Some, None}
 use mathlib.Core.Path.{◌≡◌, refl}
 use mathlib.Core.List.{List, [], ◌∷◌}
 use Prim.Native.Nat.{ℕ}
@@ -8,10 +9,8 @@ use Rattle.operations.specs.Replies.Reply.{accepted, refused}
 use Rattle.operations.specs.declared.Relation.{Relation}
 use Rattle.operations.specs.declared.Relation.TheVariants.{Greater, Less, Equivalent, Unrelated}
 use Rattle.operations.specs.declared.GreaterSide.TheVariants as side
-use Rattle.operations.specs.declared.TermCount.TheVariants as counted
-use Rattle.operations.specs.declared.Turn.TheVariants as turn
-use Rattle.operations.specs.Boundary.{code_of, values_of, number_values, comparison_values, side_values, count_values}
-use Rattle.operations.specs.Boundary.{summary_values, turn_values}
+use Rattle.operations.specs.Boundary.{code_of, values_of, number_values, comparison_values, side_values}
+use Rattle.operations.specs.Boundary.{optional_values, summary_values}
 
 -- The code, then the values.
 abbrev crosses : {A : Type 0} → (A → List ℤ) → Reply A → List ℤ
@@ -25,8 +24,8 @@ numbers =
     compares Greater (pos 2) ∷ compares Less (negsuc 0) ∷ compares Equivalent (pos 0) ∷ compares Unrelated (pos 7) ∷
     crosses side_values (accepted (side.Left 3)) ∷ crosses side_values (accepted (side.Right 5)) ∷
     crosses side_values (accepted side.Equivalent) ∷ crosses side_values (accepted side.Unrelated) ∷
-    crosses count_values (accepted (counted.Exactly 65535)) ∷ crosses count_values (accepted counted.More) ∷
-    crosses turn_values (accepted (turn.Served 31)) ∷ crosses turn_values (accepted turn.Idle) ∷
+    crosses optional_values (accepted (Some 65535)) ∷ crosses optional_values (accepted None) ∷
+    crosses optional_values (accepted (Some 31)) ∷ crosses optional_values (accepted None) ∷
     crosses summary_values (accepted (record { rules = 8; decreasing = 3; score = 38 })) ∷
     crosses number_values (accepted 17) ∷
     crosses number_values (refused (record { code = 15; input = 2; offset = 128 })) ∷

@@ -1,5 +1,6 @@
 -- What counting and listing give back under the file of ComparingChecks, symbol 0 of arity 1 and the constant 1: a term
 -- of each size, and each error in its order.
+use Rattle.std.specs.Prelude.{Some, None}
 use mathlib.Core.Path.{◌≡◌, refl}
 use mathlib.Core.List.{List, [], ◌∷◌, map, flatten}
 use Prim.Native.Nat.{ℕ}
@@ -9,7 +10,6 @@ use Rattle.format.specs.Reading.{bit_field}
 use Rattle.format.specs.Symbols.{symbol_reader, symbols_reader, symbol_table_reader}
 use Rattle.format.specs.Format.{forest_reader, side_reader, rule_reader, rules_reader, body_reader, file_reader}
 use Rattle.format.specs.Files.{whole_reader, read_bytes_in}
-use Rattle.operations.specs.declared.TermCount.TheVariants.{Exactly, More}
 use Rattle.operations.specs.Replies.{Outcome}
 use Rattle.operations.specs.Replies.Reply.{accepted, refused}
 use Rattle.operations.specs.Enumerating.{term_count, counted_terms, counted, listed_terms, listed}
@@ -46,13 +46,13 @@ unfolding listed listed_terms ground_rows flatten read_bytes_in whole_reader fil
 cases-hold = refl
 
 counts-hold : map (counted book) (1 ∷ 7 ∷ 8 ∷ []) ≡
-    accepted (Exactly 1) ∷ accepted (Exactly 1) ∷
+    accepted (Some 1) ∷ accepted (Some 1) ∷
     refused (record { code = 22; input = 0; offset = 0 }) ∷ []
 unfolding counted counted_terms ground_rows read_bytes_in whole_reader file_reader body_reader symbol_table_reader symbols_reader
     symbol_reader rules_reader rule_reader side_reader forest_reader forest_of bit_field
 counts-hold = refl
 
-limits : map term_count (0 ∷ 65535 ∷ 65536 ∷ []) ≡ Exactly 0 ∷ Exactly 65535 ∷ More ∷ []
+limits : map term_count (0 ∷ 65535 ∷ 65536 ∷ []) ≡ Some 0 ∷ Some 65535 ∷ None ∷ []
 limits = refl
 
 faulty-book : counted (0x10 ∷ []) 0 ≡ refused (record { code = 17; input = 0; offset = 0 })

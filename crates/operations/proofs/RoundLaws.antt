@@ -3,6 +3,7 @@
 --     distance, distance-lt                how many steps after the one after `last` an index is met
 --     onward-distance, distance-onward     the two undo each other
 --     first_some, first-none, first_passes, first-idle      which index is the first, by what passes
+use Rattle.std.specs.Prelude.{Some, None}
 use mathlib.Core.Path.{◌≡◌, refl, ap, ◌∙◌}
 use mathlib.Core.Bool.{Bool, true, false, cond, false≢true}
 use Prim.Native.Nat.{ℕ, suc, zero, ◌+◌, ◌-◌, ◌≤◌, ◌<◌}
@@ -11,7 +12,6 @@ use native.Mathlib.Omega.{arith}
 use lib.Dec.{ltb}
 use borrow.Author.Tests.{lt-ltb, le-ltb}
 use Rattle.multisets.proofs.Relations.{by_test, by_order}
-use Rattle.operations.specs.declared.Turn.TheVariants.{Served, Idle}
 use Rattle.operations.specs.Turns.{round_after, first_from}
 
 module _ (n : ℕ) where
@@ -90,7 +90,7 @@ module _ (n : ℕ) where
   module _ (passes : ℕ → Bool) where
     -- Index p is the first from i on, and is met by step j.
     pub record Met (i j k p : ℕ) : Type 0 where
-      pub first : first_from n passes i k ≡ Served p
+      pub first : first_from n passes i k ≡ Some p
       pub steps : ℕ
       pub soon : steps ≤ j
       pub there : onward i steps ≡ p
@@ -115,24 +115,24 @@ module _ (n : ℕ) where
           },
         )
 
-    pub first-none : (k i : ℕ) → i < n → ((j : ℕ) → j < n → passes j ≡ false) → first_from n passes i k ≡ Idle
+    pub first-none : (k i : ℕ) → i < n → ((j : ℕ) → j < n → passes j ≡ false) → first_from n passes i k ≡ None
     unfolding first_from
     first-none zero i h none = refl
     first-none (suc k) i h none = rw (none i h) (first-none k (round_after n i) (after-lt i h) none)
 
-    pub first_passes : (k i p : ℕ) → i < n → first_from n passes i k ≡ Served p → (p < n) × (passes p ≡ true)
+    pub first_passes : (k i p : ℕ) → i < n → first_from n passes i k ≡ Some p → (p < n) × (passes p ≡ true)
     unfolding first_from
     first_passes zero i p h e = absurd (false≢true (cc))
     first_passes (suc k) i p h e =
         by_test (passes i)
-        (λ y. let s : Served i ≡ Served p = rw y at e in let q : i ≡ p = cc in rw (← q) (h, y))
+        (λ y. let s : Some i ≡ Some p = rw y at e in let q : i ≡ p = cc in rw (← q) (h, y))
         λ y. first_passes k (round_after n i) p (after-lt i h) (rw y at e)
 
-    pub first-idle : (k i : ℕ) → first_from n passes i k ≡ Idle → (x : ℕ) → x < k → passes (onward i x) ≡ false
+    pub first-idle : (k i : ℕ) → first_from n passes i k ≡ None → (x : ℕ) → x < k → passes (onward i x) ≡ false
     unfolding first_from
     first-idle zero i e x h = absurd (omega arith)
     first-idle (suc k) i e zero h =
-        by_test (passes i) (λ y. let s : Served i ≡ Idle = rw y at e in absurd (false≢true (cc))) λ y. y
+        by_test (passes i) (λ y. let s : Some i ≡ None = rw y at e in absurd (false≢true (cc))) λ y. y
     first-idle (suc k) i e (suc x) h =
-        by_test (passes i) (λ y. let s : Served i ≡ Idle = rw y at e in absurd (false≢true (cc)))
+        by_test (passes i) (λ y. let s : Some i ≡ None = rw y at e in absurd (false≢true (cc)))
         λ y. first-idle k (round_after n i) (rw y at e) x (omega arith)

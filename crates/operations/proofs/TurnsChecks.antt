@@ -1,4 +1,5 @@
 -- What turns give back for two jobs that share the listing: which is served, its count and its mark; and the refusals.
+use Rattle.std.specs.Prelude.{Option, Some, None}
 use mathlib.Core.Path.{◌≡◌, refl}
 use mathlib.Core.List.{List, [], ◌∷◌}
 use Prim.Native.Nat.{ℕ}
@@ -13,8 +14,6 @@ use Rattle.format.specs.Format.{forest_reader, side_reader, rule_reader, rules_r
 use Rattle.format.specs.Files.{whole_reader, read_bytes_in}
 use Rattle.format.specs.Listing.{listing}
 use Rattle.operations.specs.declared.Job.{Job}
-use Rattle.operations.specs.declared.Turn.{Turn}
-use Rattle.operations.specs.declared.Turn.TheVariants.{Served, Idle}
 use Rattle.operations.specs.Replies.{Reply}
 use Rattle.operations.specs.Replies.Reply.{accepted, refused}
 use Rattle.operations.specs.Jobs.{book_marks, is_sound, has_left}
@@ -29,11 +28,11 @@ room = replicate 2046 7
 abbrev marks-at : ℕ → TurnOutcome → ℕ
 marks-at b o = get_or o.marks b 0
 
-abbrev refusal : ℕ → ℕ → ℕ → Reply Turn
+abbrev refusal : ℕ → ℕ → ℕ → Reply (Option ℕ)
 refusal code input offset = refused (record { code = code; input = input; offset = offset })
 
 -- The last served was the second: the first has a rule left, whose mark is 10.
-round-to-first : turn_of (whole 1 ∷ whole 0 ∷ []) listing 2046 1 ≡ accepted (Served 0)
+round-to-first : turn_of (whole 1 ∷ whole 0 ∷ []) listing 2046 1 ≡ accepted (Some 0)
 unfolding turn_of first_from is_sound has_left book_marks read_bytes_in whole_reader file_reader body_reader symbol_table_reader
     symbols_reader symbol_reader rules_reader rule_reader side_reader forest_reader forest_of bit_field
 round-to-first = refl
@@ -51,7 +50,7 @@ unfolding turned turn_of first_from is_sound has_left book_marks read_bytes_in w
     row_greater multiset_equal multiset_greater
 second-marked = refl
 
-none_left : turn_of (whole 2 ∷ whole 2 ∷ []) listing 2046 0 ≡ accepted Idle
+none_left : turn_of (whole 2 ∷ whole 2 ∷ []) listing 2046 0 ≡ accepted None
 unfolding turn_of first_from is_sound has_left book_marks read_bytes_in whole_reader file_reader body_reader symbol_table_reader
     symbols_reader symbol_reader rules_reader rule_reader side_reader forest_reader forest_of bit_field
 none_left = refl

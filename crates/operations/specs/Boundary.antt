@@ -1,7 +1,7 @@
 -- The numbers by which a reply crosses the C boundary: a code, and three values.
 -- Renders: 01, "Replies and refusals": "A refusal gives a number, which lent input is at fault (0 the first) and a
 -- place", and the reply of each operation.
-use Rattle.std.specs.Prelude.{List, [], ◌∷◌, ℕ, ℤ, pos}
+use Rattle.std.specs.Prelude.{List, [], ◌∷◌, ℕ, ℤ, pos, Option, Some, None}
 use Rattle.operations.specs.Replies.{Reply}
 use Rattle.operations.specs.Replies.Reply.{accepted, refused}
 use Rattle.operations.specs.declared.Relation.{Relation}
@@ -9,11 +9,7 @@ use Rattle.operations.specs.declared.Relation.TheVariants.{Greater, Less, Equiva
 use Rattle.operations.specs.declared.Comparison.{Comparison}
 use Rattle.operations.specs.declared.GreaterSide.{GreaterSide}
 use Rattle.operations.specs.declared.GreaterSide.TheVariants as side
-use Rattle.operations.specs.declared.TermCount.{TermCount}
-use Rattle.operations.specs.declared.TermCount.TheVariants as counted
 use Rattle.operations.specs.declared.Summary.{Summary}
-use Rattle.operations.specs.declared.Turn.{Turn}
-use Rattle.operations.specs.declared.Turn.TheVariants as turn
 
 module _ {A : Type 0} where
   -- 0, or the error's code.
@@ -44,13 +40,10 @@ side_values (side.Right n) = pos 2 ∷ pos n ∷ pos 0 ∷ []
 side_values side.Equivalent = pos 3 ∷ pos 0 ∷ pos 0 ∷ []
 side_values side.Unrelated = pos 4 ∷ pos 0 ∷ pos 0 ∷ []
 
-abbrev pub count_values : TermCount → List ℤ
-count_values (counted.Exactly n) = pos 1 ∷ pos n ∷ pos 0 ∷ []
-count_values counted.More = pos 2 ∷ pos 0 ∷ pos 0 ∷ []
+-- A number that may be none: of terms, or of the job of a turn.
+abbrev pub optional_values : Option ℕ → List ℤ
+optional_values (Some n) = pos 1 ∷ pos n ∷ pos 0 ∷ []
+optional_values None = pos 2 ∷ pos 0 ∷ pos 0 ∷ []
 
 abbrev pub summary_values : Summary → List ℤ
 summary_values s = pos s.rules ∷ pos s.decreasing ∷ pos s.score ∷ []
-
-abbrev pub turn_values : Turn → List ℤ
-turn_values (turn.Served i) = pos 1 ∷ pos i ∷ pos 0 ∷ []
-turn_values turn.Idle = pos 2 ∷ pos 0 ∷ pos 0 ∷ []

@@ -4,13 +4,11 @@
 -- "22 n outside 1 to 7, after the book; 23 words (input 1) fewer than n times the number, or the number is "more",
 -- after 22."
 use mathlib.Core.List.{List, flatten}
-use Rattle.std.specs.Prelude.{Bool, cond, ◌&&◌, ℕ, ◌*◌, length, leb}
+use Rattle.std.specs.Prelude.{Bool, cond, ◌&&◌, ℕ, ◌*◌, length, leb, Option, Some, None}
 use Rattle.terms.specs.Signature.{Signature}
 use Rattle.terms.specs.Enumeration.{ground_terms}
 use Rattle.format.specs.Errors.{size_out_of_range, no_room_for_terms}
 use Rattle.format.specs.Files.{read_bytes}
-use Rattle.operations.specs.declared.TermCount.{TermCount}
-use Rattle.operations.specs.declared.TermCount.TheVariants.{Exactly, More}
 use Rattle.operations.specs.Replies.{Reply, Written, Outcome, ◌>>=◌, ◌>>◌, from_input, demand, outcome}
 use Rattle.operations.specs.Replies.Reply.{accepted}
 
@@ -25,17 +23,17 @@ abbrev pub is_size : ℕ → Bool
 is_size n = leb 1 n && leb n max_size
 
 -- 02: a number up to 65,535, or "more".
-abbrev pub term_count : ℕ → TermCount
-term_count number = cond (leb number max_terms) (Exactly number) More
+abbrev pub term_count : ℕ → Option ℕ
+term_count number = cond (leb number max_terms) (Some number) None
 
 -- Counting, under a signature.
-unfoldable pub counted_terms : Signature → ℕ → Reply TermCount
+unfoldable pub counted_terms : Signature → ℕ → Reply (Option ℕ)
 counted_terms σ n = do
   demand (is_size n) size_out_of_range 0
   accepted (term_count (length (ground_terms σ n)))
 
 -- 02: the book, then n.
-unfoldable pub counted : List ℕ → ℕ → Reply TermCount
+unfoldable pub counted : List ℕ → ℕ → Reply (Option ℕ)
 counted bytes n = do
   file ← from_input 0 (read_bytes bytes)
   counted_terms file.signature n

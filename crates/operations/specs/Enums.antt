@@ -1,47 +1,33 @@
 -- What the replies of the functions stand for.
 -- Renders: 01, "What form each place needs": "When an answer is an enum, a definition gives this paper's number and
 -- values for each of its cases".
-use Rattle.std.specs.Prelude.{ℕ}
-use Rattle.operations.specs.declared.NumberReply.{NumberReply}
-use Rattle.operations.specs.declared.NumberReply.TheVariants as count
-use Rattle.operations.specs.declared.Comparison.{Comparison}
-use Rattle.operations.specs.declared.CompareReply.{CompareReply}
-use Rattle.operations.specs.declared.CompareReply.TheVariants as compare
-use Rattle.operations.specs.declared.GreaterSide.{GreaterSide}
-use Rattle.operations.specs.declared.PickReply.{PickReply}
-use Rattle.operations.specs.declared.PickReply.TheVariants as pick
-use Rattle.operations.specs.declared.TermCount.{TermCount}
-use Rattle.operations.specs.declared.CountReply.{CountReply}
-use Rattle.operations.specs.declared.CountReply.TheVariants as counting
-use Rattle.operations.specs.declared.Summary.{Summary}
-use Rattle.operations.specs.declared.MarkReply.{MarkReply}
-use Rattle.operations.specs.declared.MarkReply.TheVariants as mark
-use Rattle.operations.specs.declared.Turn.{Turn}
-use Rattle.operations.specs.declared.TurnReply.{TurnReply}
-use Rattle.operations.specs.declared.TurnReply.TheVariants as turn
-use Rattle.operations.specs.Replies.{Reply}
+use Rattle.std.specs.Prelude.{ℕ, Result, Ok, Err}
+use Rattle.format.specs.Errors.{number_of}
+use Rattle.operations.specs.declared.Error as code
+use Rattle.operations.specs.declared.Mark.{Mark}
+use Rattle.operations.specs.declared.Mark.TheVariants as mark
+use Rattle.operations.specs.Replies.{Error, Reply}
 use Rattle.operations.specs.Replies.Reply.{accepted, refused}
 
-abbrev pub number_reply : NumberReply → Reply ℕ
-number_reply (count.Accepted n) = accepted n
-number_reply (count.Refused e) = refused e
+-- 01's refusal that an error of the code stands for.
+abbrev pub error_of : code.Error → Error
+error_of e = record { code = number_of e.code; input = e.input; offset = e.offset }
 
-abbrev pub compare_reply : CompareReply → Reply Comparison
-compare_reply (compare.Accepted c) = accepted c
-compare_reply (compare.Refused e) = refused e
+-- The reply that the result of an operation stands for.
+abbrev pub reply_of : {A : Type 0} → Result A code.Error → Reply A
+reply_of (Ok a) = accepted a
+reply_of (Err e) = refused (error_of e)
 
-abbrev pub pick_reply : PickReply → Reply GreaterSide
-pick_reply (pick.Accepted s) = accepted s
-pick_reply (pick.Refused e) = refused e
-
-abbrev pub count_reply : CountReply → Reply TermCount
-count_reply (counting.Accepted n) = accepted n
-count_reply (counting.Refused e) = refused e
-
-abbrev pub mark_reply : MarkReply → Reply Summary
-mark_reply (mark.Accepted s) = accepted s
-mark_reply (mark.Refused e) = refused e
-
-abbrev pub turn_reply : TurnReply → Reply Turn
-turn_reply (turn.Accepted t) = accepted t
-turn_reply (turn.Refused e) = refused e
+-- 01's and 02's number of each mark.
+abbrev pub mark_number : Mark → ℕ
+mark_number mark.FallsByWeight = 1
+mark_number mark.FallsByRank = 2
+mark_number mark.FallsByArguments = 3
+mark_number mark.FallsByHighTerms = 4
+mark_number mark.FallsByCount = 5
+mark_number mark.FallsByLowTerms = 6
+mark_number mark.VariableAdded = 7
+mark_number mark.LeftLighter = 8
+mark_number mark.SidesEqual = 9
+mark_number mark.NoCase = 10
+mark_number mark.FallsByWrapping = 11

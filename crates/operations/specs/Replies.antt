@@ -3,8 +3,13 @@
 -- place", "a place not named is 0", "Nothing lent is changed", "later ones are unchanged".
 use Rattle.std.specs.Prelude.{List, ◌++◌, Bool, cond, ℕ, length, drop}
 use Rattle.format.specs.Reading.{Reading}
-use Rattle.operations.specs.declared.Error.{Error}
 use Rattle.format.specs.Reading.Reading.{got, fault}
+
+-- 01's refusal: a number, an input and a place.
+pub record Error : Type 0 where
+  pub code : ℕ
+  pub input : ℕ
+  pub offset : ℕ
 
 -- An answer, or 01's refusal: a number, an input and a place.
 pub data Reply (A : Type 0) : Type 0 where

@@ -2,13 +2,13 @@
 -- Renders: 01, "Sample book and cases": what `marker` prints, "Each ends in byte 10"; 02, order 5: "right-set",
 -- "left-set", "spaces".
 use Rattle.std.specs.Prelude.{List, [], ◌∷◌, ◌++◌, cond, ℕ, suc, zero, ◌+◌, ◌-◌, ◌/◌, ◌%◌, ℤ, pos, negsuc, ltb, length, replicate}
-use Prim.Native.Char.{code}
+use Prim.Native.Char.{code as char_code}
 use Prim.Native.String.{String, [] as []ˢ, ◌∷◌ as ◌∷ˢ◌}
 
 -- The codes of the characters.
 abbrev pub ascii : String → List ℕ
 ascii []ˢ = []
-ascii (c ∷ˢ s) = code c ∷ ascii s
+ascii (c ∷ˢ s) = char_code c ∷ ascii s
 
 -- The decimal digits of n, at most k of them.
 unfoldable pub digits : ℕ → ℕ → List ℕ

@@ -1,5 +1,6 @@
 -- The mark of two terms, 1 to 11, and their relation.
 --     whole-seven, -one, -eight, -root, -higher, -ten    each way that the mark is decided
+--     whole-arguments                                    by the mark of the arguments
 --     same-few                                           with the same root it is at most 6
 --     greater-falls                                      the marks of the order
 --     relation-greater, -equivalent, -less, -unrelated   the relation, by the marks both ways
@@ -27,13 +28,17 @@ use Rattle.terms.proofs.EquivalenceLaws.{is_equivalent-app-var, is_equivalent-eq
 use Rattle.terms.proofs.OrderLaws.{is_greater-unfolds}
 use Rattle.terms.proofs.OftenerLaws.{oftener-some}
 use Rattle.operations.specs.declared.Relation.TheVariants.{Greater, Less, Equivalent, Unrelated}
+use Rattle.operations.specs.declared.Mark.{Mark}
+use Rattle.operations.specs.declared.Mark.TheVariants.{FallsByWeight, FallsByRank, FallsByArguments, FallsByHighTerms, FallsByCount, FallsByLowTerms, VariableAdded, LeftLighter, SidesEqual, NoCase, FallsByWrapping}
+use Rattle.operations.specs.Enums.{mark_number}
 use Rattle.operations.specs.Comparing.{relation}
+use Rattle.std.proofs.Common.{Option, Some, None, unwrap_or}
 use Rattle.terms.specs.Marks.{is_decreasing}
 use Rattle.symbols.specs.Table.{signature_of}
 use Rattle.subterms.proofs.PartLaws.{symbol}
-use Rattle.extensions.specs.Compared.{higher_mark, root_at}
+use Rattle.extensions.specs.Compared.{higher_mark, root_at, mark_or_none}
 use Rattle.extensions.proofs.RootLaws.{root-variable}
-use Rattle.extensions.proofs.GreaterLaws.{by_none, root, unfolds}
+use Rattle.extensions.proofs.GreaterLaws.{by_none, root, unfolds, positive-mark}
 use Rattle.order.proofs.EquivalentLaws.{level, mark-of-equivalent}
 
 abbrev by_mark : ℕ → Bool → ℕ → ℕ → Bool → ℕ
@@ -85,6 +90,11 @@ module _ (σ : Signature) (s t : Term) where
 
       pub whole-ten : m ≤ 0 → false ≡ is_equivalent σ s t → 10 ≡ mark σ s t
       whole-ten k a = rw (level-mark, le-ltb 0 m k, ← a, ne_eqb m 11 (λ z. omega arith))
+
+    pub whole-arguments : x ≡ y → (o : Option Mark) → mark_or_none o ≡ root σ s t → root σ s t ≤ 6 →
+        false ≡ is_equivalent σ s t → mark_number (unwrap_or o NoCase) ≡ mark σ s t
+    whole-arguments l (Some m) h k a = whole-root l h (positive-mark m) (omega arith)
+    whole-arguments l None h k a = whole-ten l h (omega arith) a
 
 -- ---- which marks are the order's
 
@@ -228,3 +238,16 @@ module _ (σ : Signature) (s t : Term) where
       Unrelated ≡ relation σ s t
   unfolding relation
   level-unrelated e d c = rw (← e, ← d, ← c)
+
+pub not-nine : (m : Mark) → (m ≡ SidesEqual → ⊥) → mark_number m ≡ 9 → ⊥
+not-nine SidesEqual n e = n refl
+not-nine FallsByWeight n e = absurd (omega arith)
+not-nine FallsByRank n e = absurd (omega arith)
+not-nine FallsByArguments n e = absurd (omega arith)
+not-nine FallsByHighTerms n e = absurd (omega arith)
+not-nine FallsByCount n e = absurd (omega arith)
+not-nine FallsByLowTerms n e = absurd (omega arith)
+not-nine VariableAdded n e = absurd (omega arith)
+not-nine LeftLighter n e = absurd (omega arith)
+not-nine NoCase n e = absurd (omega arith)
+not-nine FallsByWrapping n e = absurd (omega arith)

@@ -1,8 +1,7 @@
 -- Two whole terms: what is known of their words, and what is prepared of them.
 --     table-small                              the table
 --     left-some, left-complete, turned, ..     their words, and the two turned round
---     whole-sides, whole-scale                 both sides, prepared, with their sums
---     level-turned, scales-turned              the two turned round
+--     level-turned                             the two of equal weight, turned round
 use mathlib.Core.List.{List}
 use mathlib.Core.Path.{sym}
 use Prim.Native.Nat.{ℕ, ◌≤◌, ◌<◌}
@@ -12,10 +11,8 @@ use Rattle.symbols.specs.Table.{signature_of}
 use Rattle.symbols.proofs.TableLaws.{few-at}
 use Rattle.reader.specs.Promise.{Decoded}
 use Rattle.subterms.specs.Parts.{Complete}
-use Rattle.equivalence.specs.Keys.{Prepared, BothPrepared}
 use Rattle.subterms.proofs.FormedLaws.{term-some, term-complete}
 use Rattle.weights.specs.declared.totals.Totals.{Totals}
-use Rattle.measures.specs.Sums.{SummedUp, Scale}
 use Rattle.order.specs.Whole.{Level}
 
 module _ {table s t : List ℕ} (S : Decoded table s t) where
@@ -37,17 +34,6 @@ module _ {table s t : List ℕ} (S : Decoded table s t) where
   pub turned : Decoded table t s
   turned = record { symbols = S.symbols; left = S.right; right = S.left }
 
-  module _ {skeys tkeys : List ℕ} (P : Prepared (signature_of table) s skeys)
-      (Q : Prepared (signature_of table) t tkeys) where
-    pub whole-sides : BothPrepared table s skeys t tkeys
-    whole-sides = record { small = table-small; binary = S.symbols.admissible.ac_binary; left = P; right = Q }
-
--- Both sides prepared, with their sums.
-pub whole-scale : {table s skeys ssums t tkeys tsums : List ℕ} → Decoded table s t →
-    BothPrepared table s skeys t tkeys → SummedUp (signature_of table) s ssums → SummedUp (signature_of table) t tsums →
-    Scale table s skeys ssums t tkeys tsums
-whole-scale S P x y = record { admissible = S.symbols.admissible; sides = P; left = x; right = y }
-
 pub level-turned : {table s t : List ℕ} {a b : Totals} → Level table s a t b → Level table t b s a
 level-turned L = record {
   decoded = turned L.decoded;
@@ -56,14 +42,3 @@ level-turned L = record {
   level = sym L.level;
   root = sym L.root;
 }
-
-pub scales-turned : {table s skeys ssums t tkeys tsums : List ℕ} →
-    Scale table s skeys ssums t tkeys tsums → Scale table t tkeys tsums s skeys ssums
-scales-turned W =
-    let S = W.sides in
-    record {
-      admissible = W.admissible;
-      sides = record { small = S.small; binary = S.binary; left = S.right; right = S.left };
-      left = W.right;
-      right = W.left;
-    }

@@ -1,130 +1,80 @@
 // The mark of two whole terms.
-ghost use Rattle.std.specs.Prelude.{◌≡◌, ◌<◌, length, get_or};
+ghost use Rattle.std.specs.Prelude.{◌≡◌};
 ghost use Rattle.symbols.specs.Table.{signature_of};
-ghost use Rattle.equivalence.specs.Keys.{BothPrepared};
-ghost use Rattle.equivalence.specs.Offsets.{alike_at};
+ghost use Rattle.operations.specs.Enums.{mark_number};
 ghost use Rattle.reader.specs.Promise.{Decoded};
-ghost use Rattle.weights.specs.Nodes.{NodeSums};
 ghost use Rattle.weights.specs.Totals.{Totalled};
-ghost use Rattle.measures.specs.Sums.{Scale};
-ghost use Rattle.extensions.specs.Compared.{higher_mark, root_at};
+ghost use Rattle.extensions.specs.Compared.{higher_mark};
 ghost use Rattle.order.specs.Whole.{SameRoot, mark_of};
 
-use equivalence::equivalence::equivalent;
-use equivalence::keys::prepare;
-use extensions::compare::{flattened, higher, rows_greater};
-use format::{MAX_NODES, VARIABLES};
+use crate::Weighed;
+use crate::level::{arguments_mark, paired, prepare_both};
+use extensions::{Measured, higher};
+use format::MAX_NODES;
 use measures::SUMS;
 use measures::sums::sum_up;
-use weights::NODE_SUMS;
-use weights::totals::{Totals, first_oftener};
-
-// The mark by the arguments of two whole terms with the same root: 3 to 6, or 0.
-pub fn arguments_mark(
-    table: &[u16],
-    s: &[u16],
-    skeys: &[u64; MAX_NODES],
-    ssums: &[u64; SUMS],
-    t: &[u16],
-    tkeys: &[u64; MAX_NODES],
-    tsums: &[u64; SUMS],
-) -> u8
-    requires scale { Scale table.now s.now skeys.now ssums.now t.now tkeys.now tsums.now }
-    requires s_nonzero { (0 < length s.now) × (0 < length t.now) × (get_or s.now 0 0 ≡ get_or t.now 0 0) }
-    ensures { result ≡ root_at table.now s.now 0 t.now 0 }
-{
-    let f = s[0];
-    let n = symbols::arity(table, f);
-    if symbols::is_ac(table, f) {
-        return flattened(&table, &s, skeys, ssums, 1, &t, tkeys, tsums, 1, f, n);
-    }
-    if rows_greater(&table, &s, skeys, ssums, 1, &t, tkeys, tsums, 1, n) {
-        return operations::FALLS_BY_ARGUMENTS;
-    }
-    0
-}
-
-// Writes the keys of both terms, and tells whether they are equivalent.
-pub fn prepare_both(
-    table: &[u16],
-    s: &[u16],
-    skeys: &mut [u64; MAX_NODES],
-    t: &[u16],
-    tkeys: &mut [u64; MAX_NODES],
-) -> bool
-    requires decoded { Decoded table.now s.now t.now }
-    requires skeys_len { (length skeys.old ≡ 128) × (length tkeys.old ≡ 128) }
-    ensures value { result ≡ alike_at table.now s.now 0 t.now 0 }
-    ensures both_prepared { BothPrepared table.now s.now skeys.new t.now
-        tkeys.new }
-{
-    prepare(table, s, skeys);
-    prepare(table, t, tkeys);
-    equivalent(&table, &s, skeys, 0, &t, tkeys, 0)
-}
+use operations::Mark;
+use weights::{Totals, Weighing};
 
 // The mark of two terms of equal weight with the same root, where no variable occurs oftener in the right one.
-fn mark_prepared(table: &[u16], adds: &[u64; NODE_SUMS], s: &[u16], t: &[u16]) -> u8
-    requires { Decoded table.now s.now t.now × SameRoot table.now s.now t.now
-        × NodeSums (signature_of table.now) adds.now }
-    ensures { result ≡ mark_of table.now s.now t.now }
+fn mark_level(weighing: &Weighing, left: &[u16], right: &[u16]) -> Mark
+    requires { Decoded weighing.now.table.now left.now right.now × SameRoot weighing.now.table.now left.now right.now }
+    ensures { mark_number result ≡ mark_of weighing.now.table.now left.now right.now }
 {
-    let mut skeys = [0u64; MAX_NODES];
-    let mut tkeys = [0u64; MAX_NODES];
-    if prepare_both(table, s, &mut skeys, t, &mut tkeys) {
-        return operations::SIDES_EQUAL;
+    let mut left_keys = [0u64; MAX_NODES];
+    let mut right_keys = [0u64; MAX_NODES];
+    if prepare_both(weighing.table, left, &mut left_keys, right, &mut right_keys) {
+        return Mark::SidesEqual;
     }
-    let mut ssums = [0u64; SUMS];
-    let mut tsums = [0u64; SUMS];
-    sum_up(table, adds, s, &mut ssums);
-    sum_up(table, adds, t, &mut tsums);
-    let m = arguments_mark(table, s, &skeys, &ssums, t, &tkeys, &tsums);
-    if m > 0 { m } else { operations::NO_CASE }
+    let pair = paired(weighing.table, left, &left_keys, right, &right_keys);
+    let mut left_sums = [Totals::NONE; SUMS];
+    let mut right_sums = [Totals::NONE; SUMS];
+    sum_up(weighing, left, &mut left_sums);
+    sum_up(weighing, right, &mut right_sums);
+    let terms = Measured {
+        pair,
+        left_sums: &left_sums,
+        right_sums: &right_sums,
+    };
+    arguments_mark(&terms).unwrap_or(Mark::NoCase)
 }
 
 // The mark where the left of two terms of equal weight has the higher root, by the right one's word.
-fn higher_mark(g: u16) -> u8
-    ensures { result ≡ higher_mark g }
+fn higher_mark(g: u16) -> Mark
+    ensures { mark_number result ≡ higher_mark g }
 {
     if g >= format::FIRST_VARIABLE {
-        return operations::FALLS_BY_WRAPPING;
+        Mark::FallsByWrapping
+    } else {
+        Mark::FallsByRank
     }
-    operations::FALLS_BY_RANK
 }
 
-// The mark of two terms with these totals, 1 to 11.
-pub fn mark(
-    table: &[u16],
-    adds: &[u64; NODE_SUMS],
-    s: &[u16],
-    stotal: Totals,
-    t: &[u16],
-    ttotal: Totals,
-) -> u8
-    requires decoded { Decoded table.now s.now t.now }
-    requires totalled { Totalled (signature_of table.now) s.now stotal
-        × Totalled (signature_of table.now) t.now ttotal
-        × NodeSums (signature_of table.now) adds.now }
-    ensures { result ≡ mark_of table.now s.now t.now }
+// The mark of two terms.
+pub fn mark(weighing: &Weighing, left: &Weighed, right: &Weighed) -> Mark
+    requires decoded { Decoded weighing.now.table.now left.now.words.now right.now.words.now }
+    requires totalled { Totalled (signature_of weighing.now.table.now) left.now.words.now left.now.total
+        × Totalled (signature_of weighing.now.table.now) right.now.words.now right.now.total }
+    ensures { mark_number result ≡ mark_of weighing.now.table.now left.now.words.now right.now.words.now }
 {
-    let x = stotal.weight;
-    let y = ttotal.weight;
-    if first_oftener(stotal, ttotal) < VARIABLES {
-        return operations::VARIABLE_ADDED;
+    if left.total.first_oftener(right.total).is_some() {
+        return Mark::VariableAdded;
     }
+    let x = left.total.weight;
+    let y = right.total.weight;
     if y < x {
-        return operations::FALLS_BY_WEIGHT;
+        return Mark::FallsByWeight;
     }
     if x < y {
-        return operations::LEFT_LIGHTER;
+        return Mark::LeftLighter;
     }
-    let f = s[0];
-    let g = t[0];
+    let f = left.words[0];
+    let g = right.words[0];
     if f == g {
-        return mark_prepared(table, adds, s, t);
+        return mark_level(weighing, left.words, right.words);
     }
-    if higher(table, f, g) {
+    if higher(weighing.table, f, g) {
         return higher_mark(g);
     }
-    operations::NO_CASE
+    Mark::NoCase
 }

@@ -3,6 +3,7 @@
 --     kept-fit                                 they fit
 --     page-refused, page-short, page-written   the ends of the operation
 --     board-page, board-refusal, refusal-text  the text of the program
+use Rattle.std.specs.Prelude.{Result, Ok, Err}
 use mathlib.Core.List.{List, [], ◌∷◌, map}
 use mathlib.Core.Path.{◌≡◌, refl, sym, ap, ◌∙◌}
 use Prim.Native.Nat.{ℕ, ◌*◌, ◌≤◌, ◌<◌}
@@ -15,23 +16,22 @@ use borrow.Author.Tests.{le-leb, lt-leb}
 use Rattle.terms.specs.Signature.{Signature}
 use Rattle.terms.specs.Order.{mark, margin}
 use Rattle.terms.specs.Rewriting.{Rule}
-use Rattle.format.specs.Errors.{page_too_short}
+use Rattle.format.specs.Errors.{number_of, page_too_short}
 use Rattle.format.specs.Reading.{Reading}
 use Rattle.format.specs.Reading.Reading.{got, fault}
 use Rattle.format.specs.Format.{RuleFile, system_of}
 use Rattle.format.specs.Files.{read_bytes}
 use Rattle.format.specs.Statements.IsRead.{from_bytes}
 use Rattle.format.proofs.Theorems.{readable-well-formed}
-use Rattle.operations.specs.declared.Error.{Error}
-use Rattle.operations.specs.Replies.{Reply}
+use Rattle.operations.specs.Replies.{Error, Reply}
 use Rattle.operations.specs.Replies.Reply.{accepted, refused}
 use Rattle.operations.specs.Report.{refusal_line}
 use Rattle.operations.specs.Page.{AllFit, page}
 use Rattle.operations.specs.Paging.{entry_of, entries_of, line_bytes, paged, board}
 use Rattle.operations.proofs.EntryLaws.{book-fits}
 use Rattle.operations.proofs.PageLaws.{length-page}
-use Rattle.marking.specs.declared.walk.FileMarked.{FileMarked}
-use Rattle.marking.specs.declared.walk.FileMarked.TheVariants.{Marked, Fault}
+use Rattle.answers.specs.declared.Fault.{Fault}
+use Rattle.marking.specs.declared.walk.Marked.{Marked}
 use Rattle.marking.specs.Rule.{MarkedAs, WholeMarked}
 use Rattle.marking.proofs.FoundLaws.{stored-fronts}
 use Rattle.paging.specs.Entries.{entries}
@@ -48,50 +48,50 @@ page-fault : (bytes output : List ℕ) (code offset : ℕ) → read_bytes bytes 
 unfolding paged
 page-fault bytes output code offset e = (rw e, rw e)
 
-module _ (bytes : List ℕ) (x : FileMarked) (marks₀ marks : List ℕ) (margins₀ margins : List ℤ)
+module _ (bytes : List ℕ) (x : Result Marked Fault) (marks₀ marks : List ℕ) (margins₀ margins : List ℤ)
     (all : WholeMarked (read_bytes bytes) x marks₀ marks margins₀ margins) where
-  pub page-refused : (output : List ℕ) (code offset : ℕ) → x ≡ Fault code offset → (error : Error) →
-      error ≡ record { code = code; input = 0; offset = offset } →
+  pub page-refused : (output : List ℕ) (f : Fault) → x ≡ Err f → (error : Error) →
+      error ≡ record { code = number_of f.code; input = 0; offset = f.offset } →
       (refused error ≡ (paged bytes output).reply) × (output ≡ (paged bytes output).output)
-  page-refused output code offset e error d = rw d (page-fault bytes output code offset (rw e at all))
+  page-refused output f e error d = rw d (page-fault bytes output (number_of f.code) f.offset (rw e at all))
 
-  module _ (rules decreasing : ℕ) (e : x ≡ Marked rules decreasing) where
-    pub page-short : (output : List ℕ) → length output < line_bytes * rules → (error : Error) →
-        error ≡ record { code = page_too_short; input = 1; offset = 0 } →
-        (refused error ≡ (paged bytes output).reply) × (output ≡ (paged bytes output).output)
+  module _ (m : Marked) (e : x ≡ Ok m) where
+    pub page-short : (output : List ℕ) → length output < line_bytes * m.rules →
+        (refused (record { code = page_too_short; input = 1; offset = 0 }) ≡ (paged bytes output).reply)
+        × (output ≡ (paged bytes output).output)
     unfolding paged
-    page-short output h error d =
-        let (file, end, read, m) = rw e at all in
-        let no = lt-leb (line_bytes * length file.rules) (length output) (omega (arith, m.count)) in
-        rw (read, no, d) (refl, refl)
+    page-short output h =
+        let (file, end, read, parts) = rw e at all in
+        let no = lt-leb (line_bytes * length file.rules) (length output) (omega (arith, parts.count)) in
+        rw (read, no) (refl, refl)
 
     module _ (room : 1023 ≤ length marks₀) (room' : 1023 ≤ length margins₀) where
       -- The entries that were kept are those of the file.
       kept-entries : (file : RuleFile) × (end : ℕ) × (read_bytes bytes ≡ got file end) ×
-          MarkedAs file rules decreasing marks₀ marks margins₀ margins ×
-          (entries (take rules marks) (take rules margins) ≡ entries_of (system_of file))
+          MarkedAs file m.rules m.decreasing marks₀ marks margins₀ margins ×
+          (entries (take m.rules marks) (take m.rules margins) ≡ entries_of (system_of file))
       kept-entries =
-          let (file, end, read, m) = rw e at all in
-          let (kept, kept') = stored-fronts file rules decreasing marks₀ marks margins₀ margins m room room' in
-          (file, end, read, m, rw (kept, kept') (entries-map file.signature (system_of file).rules))
+          let (file, end, read, parts) = rw e at all in
+          let (kept, kept') = stored-fronts file m.rules m.decreasing marks₀ marks margins₀ margins parts room room' in
+          (file, end, read, parts, rw (kept, kept') (entries-map file.signature (system_of file).rules))
 
-      pub kept-fit : AllFit (entries (take rules marks) (take rules margins))
+      pub kept-fit : AllFit (entries (take m.rules marks) (take m.rules margins))
       kept-fit =
-          let (file, end, read, m, kept) = kept-entries in rw kept (book-fits file (from_bytes bytes end read))
+          let (file, end, read, parts, kept) = kept-entries in rw kept (book-fits file (from_bytes bytes end read))
 
-      pub page-written : (output out : List ℕ) → line_bytes * rules ≤ length output →
-          out ≡ sets output 0 (page (entries (take rules marks) (take rules margins))) →
-          (accepted (line_bytes * rules) ≡ (paged bytes output).reply) × (out ≡ (paged bytes output).output)
+      pub page-written : (output out : List ℕ) → line_bytes * m.rules ≤ length output →
+          out ≡ sets output 0 (page (entries (take m.rules marks) (take m.rules margins))) →
+          (accepted (line_bytes * m.rules) ≡ (paged bytes output).reply) × (out ≡ (paged bytes output).output)
       unfolding paged
       page-written output out h w =
-          let (file, end, read, m, kept) = kept-entries in
+          let (file, end, read, parts, kept) = kept-entries in
           let es = entries_of (system_of file) in
-          let fits = le-leb (line_bytes * length file.rules) (length output) (omega (arith, m.count)) in
-          let k : length es ≡ rules =
-          length-map (system_of file).rules _ ∙ length-map file.rules _ ∙ sym m.count in
+          let fits = le-leb (line_bytes * length file.rules) (length output) (omega (arith, parts.count)) in
+          let k : length es ≡ m.rules =
+          length-map (system_of file).rules _ ∙ length-map file.rules _ ∙ sym parts.count in
           let n : length (page es) ≡ line_bytes * length es =
-          length-page es (omega (arith, m.few)) (book-fits file (from_bytes bytes end read)) in (
-            rw (read, fits) (ap (λ (n : ℕ). accepted (line_bytes * n)) m.count),
+          length-page es (omega (arith, parts.few)) (book-fits file (from_bytes bytes end read)) in (
+            rw (read, fits) (ap (λ (n : ℕ). accepted (line_bytes * n)) parts.count),
             w ∙ rw (read, fits, kept, sets-eq (page es) output 0 (omega arith), zero-add),
           )
 

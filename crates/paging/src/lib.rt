@@ -1,19 +1,18 @@
 // A page for the notice board: a line for each rule of a rule file.
 #![tactic(auto)]
 
-ghost use Rattle.std.specs.Prelude.{◌≡◌, ◌+◌, ◌^◌, ◌≤◌, ◌<◌, length};
+ghost use Rattle.std.specs.Prelude.{◌≡◌, ◌^◌, ◌≤◌, ◌<◌, length};
 ghost use Rattle.std.proofs.lemmas.List.Edits.{sets};
-ghost use Rattle.operations.specs.Text.{left_set};
-ghost use Rattle.operations.specs.Page.{words_for, columns, page_line, page as page_of, Fits, AllFit};
+ghost use Rattle.operations.specs.Page.{words_for, page_line, page as page_of, Fits, AllFit};
 ghost use Rattle.operations.specs.Paging.{paged, board as boardText};
-ghost use Rattle.operations.specs.Enums.{number_reply};
-ghost use Rattle.text.specs.Put.{Put};
+ghost use Rattle.operations.specs.Enums.{reply_of};
+ghost use Rattle.text.specs.Put.{Pushed};
 ghost use Rattle.paging.specs.Entries.{entries};
 
-use answers::refusal;
-use marking::walk::FileMarked;
-use operations::NumberReply;
-use text::put_left_set;
+use format::{ErrorCode, MAX_RULES};
+use marking::walk::{Marked, mark_file};
+use operations::Error;
+use text::Text;
 
 const NUMBER_WIDTH: usize = 4;
 
@@ -30,71 +29,75 @@ const LINE_BYTES: usize = 65;
 // Room for the page of any file.
 pub const PAGE_BYTES: usize = 66495;
 
-// The words for a mark, in their columns.
-fn put_words(out: &mut [u8], at: usize, mark: u8) -> usize
-    requires { (at < 2 ^ 30) × (1 ≤ mark) × (mark ≤ 11) }
-    ensures put { Put out.old at (left_set (columns 6 45) (words_for mark)) result out.new }
-    ensures value { result ≡ at + 40 }
+// The words for a mark, by its number: the walk over a file stores marks as the bytes that callers in C have.
+fn words(mark: u8) -> &'static [u8]
+    requires { (1 ≤ mark) × (mark ≤ 11) }
+    ensures value { result.now ≡ words_for mark }
+    ensures short { length result.now ≤ 40 }
 {
     match mark {
-        1 => put_left_set(out, at, WORDS_WIDTH, b"falls by weight"),
-        2 => put_left_set(out, at, WORDS_WIDTH, b"falls by rank"),
-        3 => put_left_set(out, at, WORDS_WIDTH, b"falls by arguments"),
-        4 => put_left_set(out, at, WORDS_WIDTH, b"falls by high terms"),
-        5 => put_left_set(out, at, WORDS_WIDTH, b"falls by count"),
-        6 => put_left_set(out, at, WORDS_WIDTH, b"falls by low terms"),
-        7 => put_left_set(out, at, WORDS_WIDTH, b"variable added"),
-        8 => put_left_set(out, at, WORDS_WIDTH, b"left lighter"),
-        9 => put_left_set(out, at, WORDS_WIDTH, b"sides equal"),
-        10 => put_left_set(out, at, WORDS_WIDTH, b"no case"),
-        _ => put_left_set(out, at, WORDS_WIDTH, b"falls by wrapping"),
+        1 => b"falls by weight",
+        2 => b"falls by rank",
+        3 => b"falls by arguments",
+        4 => b"falls by high terms",
+        5 => b"falls by count",
+        6 => b"falls by low terms",
+        7 => b"variable added",
+        8 => b"left lighter",
+        9 => b"sides equal",
+        10 => b"no case",
+        _ => b"falls by wrapping",
     }
 }
 
 // The line of a rule.
-fn put_line(out: &mut [u8], at: usize, number: usize, mark: u8, margin: i64) -> usize
-    requires { (at < 2 ^ 20) × (number < 10 ^ 4) × Fits (record { mark = mark; margin = margin }) }
-    ensures { Put out.old at (page_line number (record { mark = mark; margin = margin })) result out.new }
+fn push_line(text: &mut Text, number: usize, mark: u8, margin: i64)
+    requires { (text.old.end < 2 ^ 20) × (number < 10 ^ 4) × Fits (record { mark = mark; margin = margin }) }
+    ensures { Pushed text.old (page_line number (record { mark = mark; margin = margin })) text.new }
 {
-    let column_5 = text::put_right_set(out, at, NUMBER_WIDTH, number as i64);
-    let column_6 = text::put_byte(out, column_5, b' ');
-    let column_46 = put_words(out, column_6, mark);
-    let column_47 = text::put_byte(out, column_46, b' ');
-    let column_59 = text::put_right_set(out, column_47, MARGIN_WIDTH, margin);
-    text::put_bytes(out, column_59, b"      \n")
+    text.push_right_set(NUMBER_WIDTH, number as i64);
+    text.push_byte(b' ');
+    text.push_left_set(WORDS_WIDTH, words(mark));
+    text.push_byte(b' ');
+    text.push_right_set(MARGIN_WIDTH, margin);
+    text.push_bytes(b"      \n");
 }
 
 // The lines of all rules, by their marks and margins.
-fn put_lines(out: &mut [u8], marks: &[u8], margins: &[i64])
+fn push_lines(text: &mut Text, marks: &[u8], margins: &[i64])
     requires all_fit { AllFit (entries marks.now margins.now) }
     requires marks_len_bound { (length marks.now < 1024) × (length margins.now ≡ length marks.now) }
-    ensures { out.new
-        ≡ sets out.old 0 (page_of (entries marks.now margins.now)) }
+    requires end_bound { text.old.end < 2 ^ 19 }
+    ensures { Pushed text.old (page_of (entries marks.now margins.now)) text.new }
 {
-    let mut i = 0;
-    while i < marks.len() {
-        put_line(out, LINE_BYTES * i, FIRST_RULE + i, marks[i], margins[i]);
-        i += 1;
+    for (i, &mark) in marks.iter().enumerate() {
+        push_line(text, FIRST_RULE + i, mark, margins[i]);
     }
 }
 
 // Puts the marks and margins of a packed file on the front of a page. They are kept elsewhere until no fault is left to
 // find.
-pub fn page(book: &[u8], page: &mut [u8]) -> NumberReply
-    ensures result_value { number_reply result ≡ (paged book.now page.old).reply }
+pub fn page(book: &[u8], page: &mut [u8]) -> Result<usize, Error>
+    ensures result_value { reply_of result ≡ (paged book.now page.old).reply }
     ensures page_after { page.new ≡ (paged book.now page.old).output }
 {
-    let mut marks = [0u8; format::MAX_RULES];
-    let mut margins = [0i64; format::MAX_RULES];
-    match marking::walk::mark_file(book, &mut marks, &mut margins) {
-        FileMarked::Fault { code, offset } => NumberReply::Refused(refusal(code, 0, offset)),
-        FileMarked::Marked { rules, .. } => {
+    let mut marks = [0u8; MAX_RULES];
+    let mut margins = [0i64; MAX_RULES];
+    match mark_file(book, &mut marks, &mut margins) {
+        Err(fault) => Err(fault.in_input(0)),
+        Ok(Marked { rules, .. }) => {
             let count = LINE_BYTES * rules;
             if page.len() < count {
-                return NumberReply::Refused(refusal(format::PAGE_TOO_SHORT, 1, 0));
+                let code = ErrorCode::PageTooShort;
+                return Err(Error {
+                    code,
+                    input: 1,
+                    offset: 0,
+                });
             }
-            put_lines(page, &marks[..rules], &margins[..rules]);
-            NumberReply::Accepted(count)
+            let mut text = Text::new(page);
+            push_lines(&mut text, &marks[..rules], &margins[..rules]);
+            Ok(count)
         }
     }
 }
@@ -105,9 +108,13 @@ pub fn board(book: &[u8], out: &mut [u8; PAGE_BYTES]) -> usize
     ensures out_after { out.new ≡ sets out.old 0 (boardText book.now) }
 {
     match page(book, out) {
-        NumberReply::Accepted(count) => count,
-        NumberReply::Refused(error) => {
-            lines::put_refusal(out, lines::long(error.code), error.offset as u64)
+        Ok(count) => count,
+        Err(error) => {
+            lines::put_refusal(
+                out,
+                u64::from(answers::number(error.code)),
+                error.offset as u64,
+            )
         }
     }
 }

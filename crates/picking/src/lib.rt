@@ -2,28 +2,34 @@
 #![tactic(auto)]
 
 ghost use Rattle.std.specs.Prelude.{◌≡◌};
-ghost use Rattle.operations.specs.Picking.{picked, of_greater, greater_part};
-ghost use Rattle.operations.specs.Enums.{pick_reply};
+ghost use Rattle.operations.specs.Picking.{side_of, picked, of_greater, greater_part};
+ghost use Rattle.operations.specs.Enums.{reply_of};
 
 use comparing::Related;
-use operations::{GreaterSide, PickReply, Relation};
+use operations::{Error, GreaterSide, Relation};
+use words::Extent;
+
+// The side that the relation of two terms makes the greater one.
+fn side_of(related: Related) -> GreaterSide
+    ensures { result ≡ side_of related.found.relation related.left related.right }
+{
+    match related.found.relation {
+        Relation::Greater => GreaterSide::Left {
+            words: related.left,
+        },
+        Relation::Less => GreaterSide::Right {
+            words: related.right,
+        },
+        Relation::Equivalent => GreaterSide::Equivalent,
+        Relation::Unrelated => GreaterSide::Unrelated,
+    }
+}
 
 // Says which of the terms at the fronts of two slices is the greater one under a packed rule file.
-pub fn greater_side(book: &[u8], left: &[u16], right: &[u16]) -> PickReply
-    ensures { pick_reply result ≡ picked book.now left.now right.now }
+pub fn greater_side(book: &[u8], left: &[u16], right: &[u16]) -> Result<GreaterSide, Error>
+    ensures { reply_of result ≡ picked book.now left.now right.now }
 {
-    match comparing::relate(book, left, right, false) {
-        Related::Refused(error) => PickReply::Refused(error),
-        Related::Read { found, left, right } => {
-            let relation = found.relation;
-            match relation {
-                Relation::Greater => PickReply::Accepted(GreaterSide::Left { words: left }),
-                Relation::Less => PickReply::Accepted(GreaterSide::Right { words: right }),
-                Relation::Equivalent => PickReply::Accepted(GreaterSide::Equivalent),
-                Relation::Unrelated => PickReply::Accepted(GreaterSide::Unrelated),
-            }
-        }
-    }
+    Ok(side_of(comparing::relate(book, left, right, Extent::Front)?))
 }
 
 // The front part of whichever slice has the greater term, or the empty one.
@@ -34,12 +40,10 @@ pub fn greater_part<'a>(book: &[u8], left: &'a [u16], right: &'a [u16]) -> &'a [
         (λ _. right.entry.ref_ptr) left.entry.ref_ptr }
 {
     match greater_side(book, left, right) {
-        PickReply::Accepted(side) => match side {
-            GreaterSide::Left { words } => &left[..words],
-            GreaterSide::Right { words } => &right[..words],
-            GreaterSide::Equivalent => &left[..0],
-            GreaterSide::Unrelated => &left[..0],
-        },
-        PickReply::Refused(_) => &left[..0],
+        Ok(GreaterSide::Left { words }) => &left[..words],
+        Ok(GreaterSide::Right { words }) => &right[..words],
+        Ok(GreaterSide::Equivalent) => &left[..0],
+        Ok(GreaterSide::Unrelated) => &left[..0],
+        Err(_) => &left[..0],
     }
 }

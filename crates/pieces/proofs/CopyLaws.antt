@@ -1,22 +1,19 @@
--- Words copied one by one.
---     store-none, store-more, store_then     no word, one word before others, some before others
---     copy-none, copy_more                   words of a list
-use mathlib.Core.List.{List, [], ◌∷◌, ◌++◌}
-use mathlib.Core.Path.{◌≡◌, refl, sym, ap, ◌∙◌, subst}
-use Prim.Native.Nat.{ℕ, suc, ◌+◌, ◌-◌, ◌≤◌, ◌<◌}
+-- Words put one after another.
+--     store-none, store_then     no word, some words before others
+--     put-none, put_then         the same with the offset after them
+use mathlib.Core.List.{List, [], ◌∷◌, ◌++◌, append_assoc}
+use mathlib.Core.Path.{◌≡◌, refl, sym, ap, ◌∙◌}
+use Prim.Native.Nat.{ℕ, suc, ◌+◌, ◌≤◌}
 use native.Mathlib.Omega.{arith}
 use native.Mathlib.Nat.{add-zero, suc-add, add-suc}
-use native.Mathlib.Numerals.{add-one}
-use lib.ListN.{length, get_or, take, drop, set}
-use lib.Seq.{sets, drop-cons}
-use Rattle.pieces.specs.Buffer.{Stored}
+use lib.ListN.{length, length-append, length-drop, set, take, drop}
+use lib.Seq.{sets, sets-eq, drop-drop, length-take-le}
+use borrow.Rule.Slice.PartMut.{put_mid}
+use Rattle.pieces.specs.Buffer.{Stored, Put}
 
 module _ (l : List ℕ) (at : ℕ) where
   pub store-none : length l ≡ 48 → Stored l at [] l
   store-none e = record { stored = refl; room = e }
-
-  pub store-more : (w : ℕ) (ws out : List ℕ) → Stored (set l at w) (at + 1) ws out → Stored l at (w ∷ ws) out
-  store-more w ws out h = record { stored = h.stored ∙ simp add-one; room = h.room }
 
 sets-append : (l : List ℕ) (i : ℕ) (xs ys : List ℕ) → sets l i (xs ++ ys) ≡ sets (sets l i xs) (i + length xs) ys
 sets-append l i [] ys = rw add-zero
@@ -29,17 +26,28 @@ store_then l at vs ws mid out h k = record {
   room = k.room;
 }
 
-pub copy-none : (l ws : List ℕ) (from count at : ℕ) → count ≡ 0 → length l ≡ 48 →
-    Stored l at (take count (drop from ws)) l
-copy-none l ws from count at e h = rw e (store-none l at h)
+-- ---- words put one after another
 
-pub copy_more : (l ws out : List ℕ) (from count at : ℕ) → 0 < count → from + count ≤ length ws →
-    Stored (set l at (get_or ws from 0)) (at + 1) (take (count - 1) (drop (from + 1) ws)) out →
-    Stored l at (take count (drop from ws)) out
-copy_more l ws out from count at p h s =
-    let d : count ≡ suc (count - 1) = omega arith in
-    let k : drop from ws ≡ get_or ws from 0 ∷ drop (from + 1) ws = rw add-one (drop-cons ws from 0 (omega arith)) in
-    let e : take count (drop from ws) ≡ get_or ws from 0 ∷ take (count - 1) (drop (from + 1) ws) =
-    ap (λ (n : ℕ). take n (drop from ws)) d ∙ ap (take (suc (count - 1))) k in
-    subst (λ (vs : List ℕ). Stored l at vs out) (sym e)
-    (store-more l at (get_or ws from 0) (take (count - 1) (drop (from + 1) ws)) out s)
+pub put-none : (l : List ℕ) (at : ℕ) → length l ≡ 48 → Put l at [] at l
+put-none l at h = record { after = omega arith; there = store-none l at h }
+
+pub put_then : {l : List ℕ} {at : ℕ} {vs us : List ℕ} {n : ℕ} {mid : List ℕ} {r : ℕ} {out : List ℕ} →
+    Put l at vs n mid → Put mid n us r out → Put l at (vs ++ us) r out
+put_then {l} {at} {vs} {us} {n} {mid} {r} {out} p q =
+    let s : Stored mid (at + length vs) us out = rw (← p.after) q.there in
+    record {
+      after = omega (arith, p.after, q.after, length-append vs us);
+      there = store_then l at vs us mid out p.there s;
+    }
+
+pub put_extended : {l ws vs : List ℕ} {at k : ℕ} → length l ≡ 48 → at + length ws ≤ 48 → k ≡ length ws → vs ≡ ws →
+    Put l at ws (at + length ws) (put_mid at k l vs)
+put_extended {l} {ws} {vs} {at} {k} e h d f =
+    let rest : drop k (drop at l) ≡ drop (at + length ws) l = rw (d, drop-drop (length ws) at l) in
+    record {
+      after = omega arith;
+      there = record {
+        stored = rw (f, rest, sets-eq ws l at (omega arith)) (sym (append_assoc (take at l) ws (drop (at + length ws) l)));
+        room = simp (length-append, length-drop) (omega (arith, length-take-le at l (omega arith), ap length f));
+      };
+    }

@@ -2,15 +2,19 @@
 --     whole_words, whole-fits, whole_room, put_whole     a whole part
 --     sum-masked, sum-words                              a sum
 --     one-element, more-elements                         a sum of one element is a whole part
---     instance-none, -symbol, -next, -variable, -after   a pattern, word by word
+--     symbol-first, variable-first                       the instance of a pattern, word by word
+--     filled_from                                        a pattern's words from an offset on
+--     Measured, measured-more, -done                     how many words it has
+--     Filling, filling-room, -more, -done                what is put
 use mathlib.Core.List.{List, [], ◌∷◌, ◌++◌, flat_map}
 use mathlib.Core.Path.{◌≡◌, refl, sym, ap, ◌∙◌}
-use Prim.Native.Nat.{ℕ, ◌+◌, ◌-◌, ◌≤◌, ◌<◌}
+use Prim.Native.Nat.{ℕ, ◌+◌, ◌-◌, ◌*◌, ◌≤◌, ◌<◌}
 use native.Mathlib.Omega.{arith}
 use native.Mathlib.Numerals.{add-one}
 use lib.Bits.{bit_and}
-use lib.ListN.{length, get_or, take, drop, set, length-append, drop_of_length-le}
+use lib.ListN.{length, get_or, take, drop, length-append, length-drop, drop_of_length-le}
 use lib.Seq.{drop-cons}
+use Rattle.std.proofs.lemmas.List.{get_or-drop}
 use borrow.Author.Tests.{eq-eqb, ne_eqb, lt-ltb, le-ltb}
 use Rattle.terms.specs.Signature.{Signature}
 use Rattle.terms.specs.Term.{Term, size}
@@ -20,75 +24,75 @@ use Rattle.simplifying.specs.Masks.{masked}
 use Rattle.simplifying.proofs.MaskLaws.{masked-some, masked-one, masked-two}
 use Rattle.simplifying.proofs.PoolingLaws.{empty-list}
 use Rattle.simplifying.proofs.SumLaws.{words-sum}
-use Rattle.subterms.specs.Parts.{part_at}
+use Rattle.simplifying.specs.Holes.{image_words}
+use Rattle.subterms.specs.Parts.{part_at, elements_at}
 use Rattle.subterms.proofs.PartLaws.{stand-one, stands}
 use Rattle.equivalence.specs.Keys.{Prepared, size_in}
 use Rattle.equivalence.proofs.StepLaws.{prepared-size, part_small}
-use Rattle.pieces.specs.Buffer.{Stored, Put}
-use Rattle.pieces.specs.Sums.{sum_words, Masked, IsFirst}
-use Rattle.pieces.specs.Pieces.{elements_of, piece_at, IsPiece, instance_from, Filled, Instance, IsNormal}
-use Rattle.pieces.proofs.CopyLaws.{store-none, store-more, store_then}
+use Rattle.pieces.specs.Buffer.{Put}
+use Rattle.pieces.specs.Sums.{sum_words, Masked, IsTaken}
+use Rattle.pieces.specs.Pieces.{elements_of, piece_at, image_at, IsPiece, instance_words, Filled, IsNormal}
+use Rattle.pieces.proofs.CopyLaws.{put-none, put_then}
 use Rattle.pieces.proofs.PutLaws.{part-words}
 
 module _ {σ : Signature} {ws keys : List ℕ} (P : Prepared σ ws keys) {i mask : ℕ} (I : IsPiece σ ws i mask) where
   -- ---- a whole part
 
-  module _ (z : mask ≡ 0) {w : ℕ} (d : w ≡ size_in keys i) where
-    sized : w ≡ size (part_at σ ws i)
-    sized = d ∙ prepared-size P i I.inside
+  module _ (z : mask ≡ 0) {e : ℕ} (d : e ≡ i + size_in keys i) where
+    sized : e - i ≡ size (part_at σ ws i)
+    sized = omega (arith, prepared-size P i I.inside)
 
-    whole_words : words (piece_at σ ws i mask) ≡ take w (drop i ws)
+    whole_words : words (piece_at σ ws i mask) ≡ take (e - i) (drop i ws)
     unfolding piece_at
     whole_words = rw (eq-eqb mask 0 z, sized) (sym (part-words σ ws i P.complete I.inside))
 
-    pub whole-fits : i + w ≤ length ws
-    whole-fits = omega (arith, sized, part_small σ ws P.complete i I.inside)
+    pub whole-fits : e ≤ length ws
+    whole-fits = omega (arith, prepared-size P i I.inside, part_small σ ws P.complete i I.inside)
 
-    pub whole_length : length (words (piece_at σ ws i mask)) ≡ w
+    pub whole_length : length (words (piece_at σ ws i mask)) ≡ e - i
     unfolding piece_at
     whole_length = rw (eq-eqb mask 0 z) (length-words (part_at σ ws i) ∙ sym sized)
 
-    pub whole_room : (at : ℕ) → at + length (words (piece_at σ ws i mask)) ≤ 48 → at + w ≤ 48
-    whole_room at h = omega (arith, whole_length)
+    pub whole_room : (at : ℕ) → at + length (words (piece_at σ ws i mask)) ≤ 48 →
+        at + length (take (e - i) (drop i ws)) ≤ 48
+    whole_room at h = rw (← whole_words) h
 
-    pub put_whole : (l : List ℕ) (at : ℕ) (out : List ℕ) → Stored l at (take w (drop i ws)) out →
-        Put l at (words (piece_at σ ws i mask)) (at + w) out
-    put_whole l at out s = record { after = omega (arith, whole_length); there = rw whole_words s }
+    pub put_whole : {l : List ℕ} {at r : ℕ} {out : List ℕ} → Put l at (take (e - i) (drop i ws)) r out →
+        Put l at (words (piece_at σ ws i mask)) r out
+    put_whole p = rw whole_words p
 
   -- ---- a sum
 
-  module _ (some : mask ≡ 0 → ⊥) where
-    positive : 0 < mask
-    positive = omega (arith, some)
-
-    pub sum-masked : Masked σ (get_or ws i 0) ws keys i 1 mask
+  module _ (some : 0 < mask) where
+    pub sum-masked : Masked σ (get_or ws i 0) ws i 1 mask
     sum-masked = record {
-      symbol = (I.sum positive).0;
-      prepared = P;
+      symbol = (I.sum some).0;
       stands = stands σ ws i 1 (stand-one σ ws i I.inside) (omega (arith, I.inside));
-      bound = (I.sum positive).1;
+      bound = (I.sum some).1;
     }
 
     pub sum-words : words (piece_at σ ws i mask) ≡ sum_words σ (get_or ws i 0) ws i 1 mask
     unfolding piece_at
     sum-words =
-        rw (ne_eqb mask 0 some) (words-sum (get_or ws i 0) (masked mask (elements_of σ ws i))
-        (masked-some (elements_of σ ws i) mask positive (I.sum positive).1))
+        rw (ne_eqb mask 0 (λ z. omega arith)) (words-sum (get_or ws i 0) (masked mask (elements_of σ ws i))
+        (masked-some (elements_of σ ws i) mask some (I.sum some).1))
 
     alone : (r : ℕ) (ts : List Term) → masked mask (elements_of σ ws i) ≡ part_at σ ws r ∷ ts → ts ≡ [] →
         piece_at σ ws r 0 ≡ piece_at σ ws i mask
     unfolding piece_at
-    alone r ts e n = rw (ne_eqb mask 0 some, e, n)
+    alone r ts e n = rw (ne_eqb mask 0 (λ z. omega arith), e, n)
 
-    pub one-element : bit_and (mask - 1) mask ≡ 0 → (r : ℕ) → IsFirst σ (get_or ws i 0) ws i 1 mask r →
+    pub one-element : bit_and (mask - 1) mask ≡ 0 → {r rest : ℕ} → IsTaken σ (get_or ws i 0) ws i 1 mask r rest →
         IsNormal σ ws i mask r 0
-    one-element h r q = record {
-      same = alone r q.others q.first (empty-list q.others
-          (omega (arith, masked-one (elements_of σ ws i) mask positive h, ap length q.first)));
-      is_piece = record { inside = q.inside; sum = λ p. absurd (omega arith) };
-      own = λ p. absurd (omega arith);
-      apart = λ p. absurd (omega arith);
-    }
+    one-element h {r} {rest} q =
+        let ts = masked rest (elements_at σ (get_or ws i 0) ws (r + size (part_at σ ws r)) q.next) in
+        record {
+          same = alone r ts q.first (empty-list ts
+              (omega (arith, masked-one (elements_of σ ws i) mask some h, ap length q.first)));
+          is_piece = record { inside = q.inside; sum = λ p. absurd (omega arith) };
+          own = λ p. absurd (omega arith);
+          apart = λ p. absurd (omega arith);
+        }
 
     pub more-elements : 0 < bit_and (mask - 1) mask → IsNormal σ ws i mask i mask
     more-elements h = record {
@@ -100,128 +104,104 @@ module _ {σ : Signature} {ws keys : List ℕ} (P : Prepared σ ws keys) {i mask
 
 -- ---- an instance, word by word
 
-put-symbol : (l : List ℕ) (at w : ℕ) (vs : List ℕ) (r : ℕ) (out : List ℕ) → Put (set l at w) (at + 1) vs r out →
-    Put l at (w ∷ vs) r out
-put-symbol l at w vs r out p = record {
-  after = omega (arith, p.after);
-  there = store-more l at w vs out p.there;
+module _ (σ : Signature) (ws offsets masks ps : List ℕ) where
+  -- The words of the instance of a pattern's words from an offset on.
+  abbrev pub instance_from : ℕ → List ℕ
+  instance_from k = flat_map (image_words (image_at σ ws offsets masks)) (drop k ps)
+
+  pub instance_end : {k : ℕ} → length ps ≤ k → instance_from k ≡ []
+  unfolding flat_map
+  instance_end {k} h = rw (drop_of_length-le ps {i = k} h)
+
+module _ {σ : Signature} {ws offsets masks ps : List ℕ} (F : Filled σ ws offsets masks ps) {k : ℕ} (h : k < length ps)
+  where
+    step : drop k ps ≡ get_or ps k 0 ∷ drop (k + 1) ps
+    step = rw add-one (drop-cons ps k 0 h)
+
+    pub symbol-first : get_or ps k 0 < first_variable →
+        instance_from σ ws offsets masks ps k ≡ (get_or ps k 0 ∷ []) ++ instance_from σ ws offsets masks ps (k + 1)
+    unfolding flat_map
+    symbol-first v = rw (step, lt-ltb (get_or ps k 0) first_variable v)
+
+    module _ (v : first_variable ≤ get_or ps k 0) where
+      pub variable-small : get_or ps k 0 - first_variable < 18
+      variable-small = omega (arith, v, F.pattern.nodes k h)
+
+      module _ {i mask : ℕ} (d : i ≡ get_or offsets (get_or ps k 0 - first_variable) 0)
+          (e : mask ≡ get_or masks (get_or ps k 0 - first_variable) 0) where
+        pub variable-first : instance_from σ ws offsets masks ps k
+            ≡ words (piece_at σ ws i mask) ++ instance_from σ ws offsets masks ps (k + 1)
+        unfolding flat_map
+        variable-first = rw (step, le-ltb (get_or ps k 0) first_variable v, d, e)
+
+        pub is-piece : IsPiece σ ws i mask
+        is-piece = rw (d, e) (F.pieces (get_or ps k 0 - first_variable) variable-small)
+
+-- A pattern's words from an offset on are a pattern of their own.
+pub filled_from : {σ : Signature} {ws offsets masks ps : List ℕ} → Filled σ ws offsets masks ps → (from : ℕ) →
+    Filled σ ws offsets masks (drop from ps)
+filled_from {σ} {ws} {offsets} {masks} {ps} F from = record {
+  pieces = F.pieces;
+  pattern = record {
+    short = omega (arith, F.pattern.short, length-drop from ps);
+    nodes = λ k h. rw (get_or-drop from ps k 0) (F.pattern.nodes (from + k) (omega (arith, length-drop from ps)));
+  };
 }
 
-put_then : (l : List ℕ) (at : ℕ) (vs us : List ℕ) (n : ℕ) (mid : List ℕ) (r : ℕ) (out : List ℕ) →
-    Put l at vs n mid → Put mid n us r out → Put l at (vs ++ us) r out
-put_then l at vs us n mid r out p q =
-    let s : Stored mid (at + length vs) us out = rw (← p.after) q.there in
-    record {
-      after = omega (arith, p.after, q.after, length-append vs us);
-      there = store_then l at vs us mid out p.there s;
+-- So many words are counted of the instance, and those of the pattern's words from k on are the others.
+pub record Measured (σ : Signature) (ws offsets masks ps : List ℕ) (k count : ℕ) : Type 0 where
+  pub small : count ≤ 256 * k
+  pub whole : count + length (instance_from σ ws offsets masks ps k) ≡ length (instance_words σ ws offsets masks ps)
+
+module _ {σ : Signature} {ws offsets masks ps : List ℕ} {k count : ℕ} (M : Measured σ ws offsets masks ps k count)
+  where
+    pub measured-done : length ps ≤ k → count ≡ length (instance_words σ ws offsets masks ps)
+    measured-done h = omega (arith, M.whole, ap length (instance_end σ ws offsets masks ps h))
+
+    pub measured-more : (vs : List ℕ) → instance_from σ ws offsets masks ps k
+        ≡ vs ++ instance_from σ ws offsets masks ps (k + 1) → {n : ℕ} → n ≡ length vs → n ≤ 256 →
+        Measured σ ws offsets masks ps (k + 1) (count + n)
+    measured-more vs e d h = record {
+      small = omega (arith, M.small);
+      whole = omega (arith, M.whole, ap length e, length-append vs (instance_from σ ws offsets masks ps (k + 1)));
     }
 
-module _ {σ : Signature} {ws offsets masks ps keys : List ℕ} {from : ℕ}
-    (F : Filled σ ws offsets masks ps keys from) where
-  abbrev image : ℕ → List ℕ
-  image k = instance_from σ ws offsets masks ps k
+    pub measured-symbol : Filled σ ws offsets masks ps → k < length ps → get_or ps k 0 < first_variable →
+        Measured σ ws offsets masks ps (k + 1) (count + 1)
+    measured-symbol F h v = measured-more (get_or ps k 0 ∷ []) (symbol-first F h v) (omega arith) (omega arith)
 
-  pub filled_none : from ≡ length ps → image from ≡ []
-  unfolding flat_map
-  filled_none e =
-      let d : drop from ps ≡ [] = drop_of_length-le ps {i = from} (omega arith) in rw d
+-- Some words of the instance are put, and those of the pattern's words from k on are the others: with them, all are put.
+pub record Filling (σ : Signature) (ws offsets masks ps first : List ℕ) (start : ℕ) (l : List ℕ) (count k : ℕ) : Type 0
+  where
+    pub room : count + length (instance_from σ ws offsets masks ps k) ≤ 48
+    pub whole : (r : ℕ) (out : List ℕ) → Put l count (instance_from σ ws offsets masks ps k) r out →
+        Put first start (instance_words σ ws offsets masks ps) r out
 
-  module _ (n : from ≡ length ps → ⊥) where
-    pub word-inside : from < length ps
-    word-inside = omega (arith, n, F.inside)
+module _ {σ : Signature} {ws offsets masks ps first : List ℕ} {start : ℕ} {l : List ℕ} {count k : ℕ}
+    (G : Filling σ ws offsets masks ps first start l count k) where
+  pub filling-done : length ps ≤ k → length l ≡ 48 →
+      Put first start (instance_words σ ws offsets masks ps) count l
+  filling-done h e = G.whole count l (rw (instance_end σ ws offsets masks ps h) (put-none l count e))
 
-    step : drop from ps ≡ get_or ps from 0 ∷ drop (from + 1) ps
-    step = rw add-one (drop-cons ps from 0 word-inside)
+  pub symbol-room : Filled σ ws offsets masks ps → k < length ps → get_or ps k 0 < first_variable → count < 48
+  symbol-room F h v = omega (arith, G.room, ap length (symbol-first F h v))
 
-    pub filled_next : Filled σ ws offsets masks ps keys (from + 1)
-    filled_next = record {
-      prepared = F.prepared;
-      pieces = F.pieces;
-      pattern = F.pattern;
-      inside = omega (arith, word-inside);
-    }
+  module _ (vs : List ℕ) (e : instance_from σ ws offsets masks ps k
+      ≡ vs ++ instance_from σ ws offsets masks ps (k + 1)) where
+    pub filling-room : count + length vs ≤ 48
+    filling-room =
+        omega (arith, G.room, ap length e, length-append vs (instance_from σ ws offsets masks ps (k + 1)))
 
-    pub symbol-first : get_or ps from 0 < first_variable → image from ≡ get_or ps from 0 ∷ image (from + 1)
-    unfolding flat_map
-    symbol-first v = rw (step, lt-ltb (get_or ps from 0) first_variable v)
-
-    module _ (v : first_variable ≤ get_or ps from 0) {x : ℕ} (e : x ≡ get_or ps from 0 - first_variable) where
-      pub variable-small : x < 18
-      variable-small = omega (arith, e, v, F.pattern.nodes from word-inside)
-
-      module _ {i : ℕ} (d : i ≡ get_or offsets x 0) where
-        pub variable-first : image from ≡ words (piece_at σ ws i (get_or masks x 0)) ++ image (from + 1)
-        unfolding flat_map
-        variable-first = rw (step, le-ltb (get_or ps from 0) first_variable v, d, e)
-
-        pub is-piece : IsPiece σ ws i (get_or masks x 0)
-        is-piece = rw d (F.pieces.pieces x variable-small)
-
-        pub size-variable : (k m : ℕ) → k ≡ length (words (piece_at σ ws i (get_or masks x 0))) →
-            m ≡ length (image (from + 1)) → k + m ≡ length (image from)
-        size-variable k m p q =
-            omega (
-              arith,
-              ap length variable-first,
-              length-append (words (piece_at σ ws i (get_or masks x 0))) (image (from + 1)),
-            )
-
-    pub size-symbol : get_or ps from 0 < first_variable → (k : ℕ) → k ≡ length (image (from + 1)) →
-        1 + k ≡ length (image from)
-    size-symbol v k q = omega (arith, ap length (symbol-first v))
-
-  pub size_none : from ≡ length ps → 0 ≡ length (image from)
-  size_none e = sym (ap length (filled_none e))
-
--- ---- what is put
-
-module _ {σ : Signature} {ws offsets masks ps keys : List ℕ} {from at : ℕ}
-    (I : Instance σ ws offsets masks ps keys from at) where
-  pub instance-none : from ≡ length ps → (l : List ℕ) → length l ≡ 48 →
-      Put l at (instance_from σ ws offsets masks ps from) at l
-  instance-none e l h = rw (filled_none I.filled e) (record { after = omega arith; there = store-none l at h })
-
-  module _ (n : from ≡ length ps → ⊥) where
-    module _ (v : get_or ps from 0 < first_variable) where
-      pub instance-next : Instance σ ws offsets masks ps keys (from + 1) (at + 1)
-      instance-next = record {
-        filled = filled_next I.filled n;
-        room = omega (arith, I.room, ap length (symbol-first I.filled n v));
-      }
-
-      pub instance-symbol : (l : List ℕ) (r : ℕ) (out : List ℕ) →
-          Put (set l at (get_or ps from 0)) (at + 1) (instance_from σ ws offsets masks ps (from + 1)) r out →
-          Put l at (instance_from σ ws offsets masks ps from) r out
-      instance-symbol l r out p =
-          rw (symbol-first I.filled n v)
-          (put-symbol l at (get_or ps from 0) (instance_from σ ws offsets masks ps (from + 1)) r out p)
-
-    module _ (v : first_variable ≤ get_or ps from 0) {x i : ℕ} (e : x ≡ get_or ps from 0 - first_variable)
-        (d : i ≡ get_or offsets x 0) where
-      abbrev piece : Term
-      piece = piece_at σ ws i (get_or masks x 0)
-
-      first : instance_from σ ws offsets masks ps from ≡ words piece ++ instance_from σ ws offsets masks ps (from + 1)
-      first = variable-first I.filled n v e d
-
-      fits : at + length (words piece) + length (instance_from σ ws offsets masks ps (from + 1)) ≤ 48
-      fits =
+    pub filling-more : {n : ℕ} {m : List ℕ} → Put l count vs n m →
+        Filling σ ws offsets masks ps first start m n (k + 1)
+    filling-more {n} {m} p = record {
+      room =
           omega (
             arith,
-            I.room,
-            ap length first,
-            length-append (words piece) (instance_from σ ws offsets masks ps (from + 1)),
-          )
-
-      pub piece-room : at + length (words piece) ≤ 48
-      piece-room = omega (arith, fits)
-
-      module _ {l mid : List ℕ} {k : ℕ} (p : Put l at (words piece) k mid) where
-        pub instance-after : Instance σ ws offsets masks ps keys (from + 1) k
-        instance-after = record { filled = filled_next I.filled n; room = omega (arith, fits, p.after) }
-
-        pub instance-variable : (r : ℕ) (out : List ℕ) →
-            Put mid k (instance_from σ ws offsets masks ps (from + 1)) r out →
-            Put l at (instance_from σ ws offsets masks ps from) r out
-        instance-variable r out q =
-            rw first (put_then l at (words piece) (instance_from σ ws offsets masks ps (from + 1)) k mid r out p q)
+            G.room,
+            p.after,
+            ap length e,
+            length-append vs (instance_from σ ws offsets masks ps (k + 1)),
+          );
+      whole = λ r out q. G.whole r out (rw e (put_then p q));
+    }

@@ -1,5 +1,5 @@
 -- A term with an instance in place of one of its parts.
---     result-length, result-room     how many words it has, and that each part of it fits
+--     result-length, result-size     how many words it has
 --     put-parts                      the words before, the instance and the words after, put one after another
 --     result_words-are                   they are those of the term with the substituted pattern in the open place
 use mathlib.Core.List.{List, ◌++◌}
@@ -15,25 +15,25 @@ use Rattle.terms.specs.Rewriting.{fill, substitute}
 use Rattle.simplifying.specs.Filling.{Shaped}
 use Rattle.simplifying.proofs.HoleLaws.{hole_offset, Opened, filled_at, words-substitute}
 use Rattle.subterms.specs.Parts.{part_at}
-use Rattle.equivalence.specs.Keys.{size_in}
+use Rattle.equivalence.specs.Keys.{Prepared, size_in}
 use Rattle.equivalence.proofs.StepLaws.{prepared-size, part_small}
-use Rattle.pieces.specs.Buffer.{Stored, Put}
-use Rattle.pieces.specs.Pieces.{image_at, instance_from, Instance}
+use Rattle.pieces.specs.Buffer.{Put}
+use Rattle.pieces.specs.Pieces.{image_at, instance_words}
 use Rattle.pieces.specs.Subject.{Subject}
 use Rattle.pieces.specs.Results.{result_words, IsResult}
-use Rattle.pieces.proofs.CopyLaws.{store_then}
+use Rattle.pieces.proofs.CopyLaws.{put_then}
 use Rattle.pieces.proofs.NodeLaws.{opened}
 
-module _ {σ : Signature} {ws offsets masks ps keys : List ℕ} {i : ℕ} (R : IsResult σ ws offsets masks ps i keys)
-    {w : ℕ} (d : w ≡ size_in keys i) where
+module _ {σ : Signature} {ws keys : List ℕ} (P : Prepared σ ws keys) {offsets masks ps : List ℕ} {i : ℕ}
+    (R : IsResult σ ws offsets masks ps i) {w : ℕ} (d : w ≡ size_in keys i) where
   sized : w ≡ size (part_at σ ws i)
-  sized = d ∙ prepared-size R.filled.prepared i R.inside
+  sized = d ∙ prepared-size P i R.inside
 
   pub part-fits : i + w ≤ length ws
-  part-fits = omega (arith, sized, part_small σ ws R.filled.prepared.complete i R.inside)
+  part-fits = omega (arith, sized, part_small σ ws P.complete i R.inside)
 
   abbrev instance : List ℕ
-  instance = instance_from σ ws offsets masks ps 0
+  instance = instance_words σ ws offsets masks ps
 
   abbrev result : List ℕ
   result = result_words σ ws offsets masks ps i
@@ -54,24 +54,24 @@ module _ {σ : Signature} {ws offsets masks ps keys : List ℕ} {i : ℕ} (R : I
   pub result-size : (k : ℕ) → k ≡ length instance → k + (length ws - w) ≡ length result
   result-size k e = omega (arith, result-length, part-fits)
 
-  pub instance-fits : length result ≤ 48 → Instance σ ws offsets masks ps keys 0 i
-  instance-fits h = record { filled = R.filled; room = omega (arith, result-length) }
+  rest : take (length ws - (i + w)) (drop (i + w) ws) ≡ drop (i + w) ws
+  rest = take_all (length ws - (i + w)) (drop (i + w) ws) (omega (arith, length-drop (i + w) ws))
 
-  pub put-parts : (l before mid out : List ℕ) (at : ℕ) → Stored l 0 (take i (drop 0 ws)) before →
-      Put before i instance at mid → Stored mid at (take (length ws - (i + w)) (drop (i + w) ws)) out →
-      Put l 0 result (at + (length ws - (i + w))) out
-  put-parts l before mid out at s p q =
-      let rest = drop (i + w) ws in
-      let k : length rest ≡ length ws - (i + w) = length-drop (i + w) ws in
-      let e : take (length ws - (i + w)) rest ≡ rest = take_all (length ws - (i + w)) rest (omega arith) in
-      let f : 0 + length (take i ws) ≡ i = omega (arith, length-take-le i ws (omega (arith, R.inside))) in
-      let x : Stored mid (i + length instance) rest out = rw (← p.after) (rw e at q) in
-      let y : Stored before (0 + length (take i ws)) (instance ++ rest) out =
-      rw f (store_then before i instance rest mid out p.there x) in
-      record {
-        after = omega (arith, p.after, result-length);
-        there = rw is-result (store_then l 0 (take i ws) (instance ++ rest) before out s y);
-      }
+  -- So many words are put before the part, and then those of the instance.
+  module _ (at : ℕ) {n m : ℕ} (p : n ≡ at + length (take i ws)) (q : m ≡ n + length instance) where
+    pub rest-room : at + length result ≤ 48 → m + length (take (length ws - (i + w)) (drop (i + w) ws)) ≤ 48
+    rest-room h =
+        rw rest (omega (
+          arith,
+          result-length,
+          length-take-le i ws (omega (arith, R.inside)),
+          length-drop (i + w) ws,
+        ))
+
+  pub put-parts : {l before mid out : List ℕ} {at n m r : ℕ} → Put l at (take i ws) n before →
+      Put before n instance m mid → Put mid m (take (length ws - (i + w)) (drop (i + w) ws)) r out →
+      Put l at result r out
+  put-parts p q s = rw is-result (put_then p (put_then q (rw rest at s)))
 
 -- The result is the term with the substituted pattern in the open place.
 pub result_words-are : {σ : Signature} {ws : List ℕ} (S : Subject σ ws) (offsets masks : List ℕ) (i : ℕ) (h : i < length ws)

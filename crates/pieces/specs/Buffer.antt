@@ -1,5 +1,5 @@
 -- Words stored in a buffer.
-use Rattle.std.specs.Prelude.{List, ◌≡◌, Bool, true, false, ℕ, ◌+◌, ◌-◌, length, take, drop}
+use Rattle.std.specs.Prelude.{List, ◌≡◌, Bool, true, false, ℕ, ◌+◌, length}
 use Rattle.std.proofs.lemmas.List.Edits.{sets}
 
 -- The buffer l with the words ws from an offset on.
@@ -16,7 +16,3 @@ pub record Put (l : List ℕ) (at : ℕ) (ws : List ℕ) (end : ℕ) (out : List
 pub record Same (r : Bool) (vs ws : List ℕ) : Type 0 where
   pub yes : r ≡ true → vs ≡ ws
   pub no : r ≡ false → vs ≡ ws → ⊥
-
--- The words of a buffer from an offset up to another.
-abbrev pub between : ℕ → ℕ → List ℕ → List ℕ
-between i n l = take (n - i) (drop i l)

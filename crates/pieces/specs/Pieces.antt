@@ -1,6 +1,6 @@
 -- Pieces of a term: the part at an offset, or the sum of the elements that a mask takes of the flattening there.
 use mathlib.Core.List.{List, flat_map}
-use Rattle.std.specs.Prelude.{◌≡◌, cond, ℕ, ◌+◌, ◌^◌, ◌≤◌, ◌<◌, eqb, length, get_or, drop}
+use Rattle.std.specs.Prelude.{◌≡◌, cond, ℕ, ◌^◌, ◌≤◌, ◌<◌, eqb, length, get_or}
 use Rattle.terms.specs.Signature.{Signature}
 use Rattle.terms.specs.Term.{Term}
 use Rattle.terms.specs.Words.{first_variable}
@@ -9,7 +9,6 @@ use Rattle.simplifying.specs.Holes.{image_words}
 use Rattle.simplifying.specs.Masks.{masked}
 use Rattle.simplifying.specs.Pieces.{masked_sum}
 use Rattle.subterms.specs.Parts.{part_at, elements_at}
-use Rattle.equivalence.specs.Keys.{Prepared}
 
 module _ (σ : Signature) (ws : List ℕ) where
   -- The elements of the part at an offset, for its root.
@@ -30,10 +29,8 @@ module _ (σ : Signature) (ws : List ℕ) where
   image_at offsets masks x = piece_at (get_or offsets x 0) (get_or masks x 0)
 
   -- Pieces for the variables whose numbers are below 18.
-  pub record ArePieces (offsets masks : List ℕ) : Type 0 where
-    pub offset_room : length offsets ≡ 18
-    pub mask_room : length masks ≡ 18
-    pub pieces : (x : ℕ) → x < 18 → IsPiece (get_or offsets x 0) (get_or masks x 0)
+  abbrev pub ArePieces : List ℕ → List ℕ → Type 0
+  ArePieces offsets masks = (x : ℕ) → x < 18 → IsPiece (get_or offsets x 0) (get_or masks x 0)
 
 -- At most 128 words, each a symbol's, or that of a variable whose number is below 18.
 pub record IsPattern (ws : List ℕ) : Type 0 where
@@ -41,21 +38,14 @@ pub record IsPattern (ws : List ℕ) : Type 0 where
   pub nodes : (k : ℕ) → k < length ws → get_or ws k 0 < 274
 
 module _ (σ : Signature) (ws : List ℕ) (offsets masks ps : List ℕ) where
-  -- The words of the instance of a pattern's words from an offset on.
-  abbrev pub instance_from : ℕ → List ℕ
-  instance_from from = flat_map (image_words (image_at σ ws offsets masks)) (drop from ps)
+  -- The words of the instance of a pattern.
+  abbrev pub instance_words : List ℕ
+  instance_words = flat_map (image_words (image_at σ ws offsets masks)) ps
 
   -- There are pieces for the pattern's variables.
-  pub record Filled (keys : List ℕ) (from : ℕ) : Type 0 where
-    pub prepared : Prepared σ ws keys
+  pub record Filled : Type 0 where
     pub pieces : ArePieces σ ws offsets masks
     pub pattern : IsPattern ps
-    pub inside : from ≤ length ps
-
-  -- And the instance fits a buffer of 48 words at an offset.
-  pub record Instance (keys : List ℕ) (from at : ℕ) : Type 0 where
-    pub filled : Filled keys from
-    pub room : at + length (instance_from from) ≤ 48
 
 -- The same piece: a whole part, or a sum of two elements or more.
 pub record IsNormal (σ : Signature) (ws : List ℕ) (i mask offset rest : ℕ) : Type 0 where

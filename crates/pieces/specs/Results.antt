@@ -3,14 +3,14 @@ use Rattle.std.specs.Prelude.{List, ◌++◌, ℕ, ◌+◌, ◌<◌, length, tak
 use Rattle.terms.specs.Signature.{Signature}
 use Rattle.terms.specs.Term.{size}
 use Rattle.subterms.specs.Parts.{part_at}
-use Rattle.pieces.specs.Pieces.{instance_from, Filled}
+use Rattle.pieces.specs.Pieces.{instance_words, Filled}
 
 module _ (σ : Signature) (ws offsets masks ps : List ℕ) (i : ℕ) where
   -- The words before the part, those of the instance, and those after the part.
   abbrev pub result_words : List ℕ
-  result_words = take i ws ++ (instance_from σ ws offsets masks ps 0 ++ drop (i + size (part_at σ ws i)) ws)
+  result_words = take i ws ++ (instance_words σ ws offsets masks ps ++ drop (i + size (part_at σ ws i)) ws)
 
   -- The part stands there.
-  pub record IsResult (keys : List ℕ) : Type 0 where
-    pub filled : Filled σ ws offsets masks ps keys 0
+  pub record IsResult : Type 0 where
+    pub filled : Filled σ ws offsets masks ps
     pub inside : i < length ws

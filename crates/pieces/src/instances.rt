@@ -1,93 +1,49 @@
 // Pieces and instances of a rule's side, put into a buffer.
-ghost use Rattle.std.specs.Prelude.{◌≡◌, ◌+◌, ◌≤◌, length};
+ghost use Rattle.std.specs.Prelude.{◌+◌, ◌≤◌, length};
 ghost use Rattle.terms.specs.Words.{words as wordsOfTerm};
 ghost use Rattle.symbols.specs.Table.{signature_of};
-ghost use Rattle.equivalence.specs.Keys.{Prepared};
 ghost use Rattle.pieces.specs.Buffer.{Put};
-ghost use Rattle.pieces.specs.Pieces.{piece_at, IsPiece, instance_from, Instance};
+ghost use Rattle.pieces.specs.Pieces.{piece_at, IsPiece, instance_words, Filled};
 
-use crate::sums::{copy, put_sum};
-use crate::{ROOM, VARIABLES};
-use equivalence::keys::size_at;
-use equivalence::offsets::wide_byte;
-use format::{FIRST_VARIABLE, MAX_NODES};
-use symbols::wide;
+use crate::bindings::Bindings;
+use crate::buffer::Buffer;
+use crate::elements::Piece;
+use crate::sums::put_sum;
+use equivalence::keys::Keyed;
+use format::FIRST_VARIABLE;
 
-// Puts the words of a piece, and gives the offset after it.
-pub fn put_piece(
-    table: &&[u16],
-    words: &&[u16],
-    keys: &[u64; MAX_NODES],
-    i: usize,
-    mask: u16,
-    out: &mut [u16; ROOM],
-    at: usize,
-) -> usize
-    requires prepared { Prepared (signature_of table.now.now) words.now.now keys.now }
-    requires piece { IsPiece (signature_of table.now.now) words.now.now i mask }
-    requires mask_bound { at + length (wordsOfTerm (piece_at (signature_of table.now.now) words.now.now i mask)) ≤ 48 }
-    requires out_len { length out.old ≡ 48 }
-    ensures { Put out.old at
-        (wordsOfTerm (piece_at (signature_of table.now.now) words.now.now i mask)) result
-        out.new }
+// Puts the words of a piece.
+pub fn put_piece(term: &Keyed, piece: Piece, out: &mut Buffer)
+    requires piece { IsPiece (signature_of term.now.table.now) term.now.words.now piece.offset piece.mask }
+    requires room { out.old.count + length (wordsOfTerm (piece_at (signature_of term.now.table.now) term.now.words.now
+        piece.offset piece.mask)) ≤ 48 }
+    ensures { Put out.old.words out.old.count (wordsOfTerm (piece_at (signature_of term.now.table.now)
+        term.now.words.now piece.offset piece.mask)) out.new.count out.new.words }
 {
-    if mask == 0 {
-        let count = size_at(keys, i);
-        copy(words, i, count, out, at);
-        return at + count;
+    let i = piece.offset;
+    if piece.mask == 0 {
+        let end = i + term.size_at(i);
+        out.extend(&term.words[i..end]);
+    } else {
+        put_sum(term, term.words[i], i, piece.mask, out);
     }
-    put_sum(table, words[i], words, keys, i, 1, mask, out, at)
 }
 
-// Puts the instance of the words of a pattern from an offset on, and gives the offset after it: a symbol stays, and a
-// variable's piece is put for it.
-pub fn put_instance(
-    table: &&[u16],
-    words: &&[u16],
-    keys: &[u64; MAX_NODES],
-    offsets: &[u8; VARIABLES],
-    masks: &[u16; VARIABLES],
-    pattern: &&[u16],
-    from: usize,
-    out: &mut [u16; ROOM],
-    at: usize,
-) -> usize
-    requires instance { Instance (signature_of table.now.now) words.now.now offsets.now masks.now pattern.now.now
-        keys.now from at }
-    requires out_len { length out.old ≡ 48 }
-    ensures { Put out.old at
-        (instance_from (signature_of table.now.now) words.now.now offsets.now
-        masks.now pattern.now.now from) result out.new }
+// Puts the instance of a pattern: a symbol stays, and a variable's piece is put for it.
+pub fn put_instance(term: &Keyed, bindings: &Bindings, pattern: &[u16], out: &mut Buffer)
+    requires filled { Filled (signature_of term.now.table.now) term.now.words.now bindings.now.offsets
+        bindings.now.masks pattern.now }
+    requires room { out.old.count + length (instance_words (signature_of term.now.table.now) term.now.words.now
+        bindings.now.offsets bindings.now.masks pattern.now) ≤ 48 }
+    ensures { Put out.old.words out.old.count (instance_words (signature_of term.now.table.now) term.now.words.now
+        bindings.now.offsets bindings.now.masks pattern.now) out.new.count out.new.words }
 {
-    if from == pattern.len() {
-        return at;
+    for &word in pattern {
+        if word < FIRST_VARIABLE {
+            out.push(word);
+        } else {
+            let piece = bindings.get((word - FIRST_VARIABLE) as usize);
+            put_piece(term, piece, out);
+        }
     }
-    let word = pattern[from];
-    if word < FIRST_VARIABLE {
-        out[at] = word;
-        return put_instance(
-            table,
-            words,
-            keys,
-            offsets,
-            masks,
-            pattern,
-            from + 1,
-            out,
-            at + 1,
-        );
-    }
-    let x = wide(word - FIRST_VARIABLE);
-    let next = put_piece(table, words, keys, wide_byte(offsets[x]), masks[x], out, at);
-    put_instance(
-        table,
-        words,
-        keys,
-        offsets,
-        masks,
-        pattern,
-        from + 1,
-        out,
-        next,
-    )
 }

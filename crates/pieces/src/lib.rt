@@ -2,6 +2,8 @@
 // their words, and those of instances of a rule's side, put into a buffer.
 #![tactic(auto)]
 
+pub mod bindings;
+pub mod buffer;
 pub mod comparison;
 pub mod elements;
 pub mod instances;

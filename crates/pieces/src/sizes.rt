@@ -1,101 +1,43 @@
 // How many words a piece has, and an instance of a rule's side.
-ghost use Rattle.std.specs.Prelude.{◌≡◌, ◌-◌, ◌*◌, ◌≤◌, length};
+ghost use Rattle.std.specs.Prelude.{◌≡◌, ◌*◌, ◌≤◌, length};
 ghost use Rattle.terms.specs.Words.{words as wordsOfTerm};
 ghost use Rattle.symbols.specs.Table.{signature_of};
-ghost use Rattle.equivalence.specs.Keys.{Prepared};
-ghost use Rattle.pieces.specs.Sums.{sum_words, Masked};
-ghost use Rattle.pieces.specs.Pieces.{piece_at, IsPiece, Filled, instance_from};
+ghost use Rattle.pieces.specs.Pieces.{piece_at, IsPiece, Filled, instance_words};
 
-use crate::VARIABLES;
-use equivalence::keys::size_at;
-use equivalence::offsets::wide_byte;
-use format::{FIRST_VARIABLE, MAX_NODES};
-use symbols::{arity, wide};
-
-// The words of the sum of the elements that the mask takes of the flattenings for f of the n terms at i.
-fn sum_size(
-    table: &&[u16],
-    f: u16,
-    words: &&[u16],
-    keys: &[u64; MAX_NODES],
-    i: usize,
-    n: usize,
-    mask: u16,
-) -> usize
-    requires { Masked (signature_of table.now.now) f words.now.now keys.now i n mask }
-    ensures value { result ≡ length (sum_words (signature_of table.now.now) f words.now.now i n mask) }
-    ensures upper_bound { result ≤ 2 * (length words.now.now - i) }
-{
-    if mask == 0 {
-        return 0;
-    }
-    if words[i] == f {
-        return sum_size(
-            table,
-            f,
-            words,
-            keys,
-            i + 1,
-            arity(*table, f) + (n - 1),
-            mask,
-        );
-    }
-    let count = size_at(keys, i);
-    let others = sum_size(table, f, words, keys, i + count, n - 1, mask / 2);
-    if mask % 2 == 0 {
-        return others;
-    }
-    if mask == 1 {
-        return count;
-    }
-    1 + count + others
-}
+use crate::bindings::Bindings;
+use crate::elements::Piece;
+use crate::sums::sum_size;
+use equivalence::keys::Keyed;
+use format::FIRST_VARIABLE;
 
 // The words of a piece.
-pub fn piece_size(
-    table: &&[u16],
-    words: &&[u16],
-    keys: &[u64; MAX_NODES],
-    i: usize,
-    mask: u16,
-) -> usize
-    requires prepared { Prepared (signature_of table.now.now) words.now.now keys.now }
-    requires piece { IsPiece (signature_of table.now.now) words.now.now i mask }
-    ensures value { result
-        ≡ length (wordsOfTerm (piece_at (signature_of table.now.now) words.now.now i mask)) }
+pub fn piece_size(term: &Keyed, piece: Piece) -> usize
+    requires { IsPiece (signature_of term.now.table.now) term.now.words.now piece.offset piece.mask }
+    ensures value { result ≡ length (wordsOfTerm (piece_at (signature_of term.now.table.now) term.now.words.now
+        piece.offset piece.mask)) }
     ensures upper_bound { result ≤ 256 }
 {
-    if mask == 0 {
-        return size_at(keys, i);
+    if piece.mask == 0 {
+        return term.size_at(piece.offset);
     }
-    sum_size(table, words[i], words, keys, i, 1, mask)
+    sum_size(term, term.words[piece.offset], piece.offset, piece.mask)
 }
 
-// The words of the instance of a pattern's words from an offset on.
-pub fn instance_size(
-    table: &&[u16],
-    words: &&[u16],
-    keys: &[u64; MAX_NODES],
-    offsets: &[u8; VARIABLES],
-    masks: &[u16; VARIABLES],
-    pattern: &&[u16],
-    from: usize,
-) -> usize
-    requires { Filled (signature_of table.now.now) words.now.now offsets.now masks.now pattern.now.now
-        keys.now from }
-    ensures value { result
-        ≡ length (instance_from (signature_of table.now.now) words.now.now
-        offsets.now masks.now pattern.now.now from) }
-    ensures upper_bound { result ≤ 256 * (length pattern.now.now - from) }
+// The words of the instance of a pattern.
+pub fn instance_size(term: &Keyed, bindings: &Bindings, pattern: &[u16]) -> usize
+    requires { Filled (signature_of term.now.table.now) term.now.words.now bindings.now.offsets bindings.now.masks
+        pattern.now }
+    ensures value { result ≡ length (instance_words (signature_of term.now.table.now) term.now.words.now
+        bindings.now.offsets bindings.now.masks pattern.now) }
+    ensures upper_bound { result ≤ 256 * length pattern.now }
 {
-    if from == pattern.len() {
-        return 0;
+    let mut count = 0;
+    for &word in pattern {
+        count += if word < FIRST_VARIABLE {
+            1
+        } else {
+            piece_size(term, bindings.get((word - FIRST_VARIABLE) as usize))
+        };
     }
-    let others = instance_size(table, words, keys, offsets, masks, pattern, from + 1);
-    let word = pattern[from];
-    if word < FIRST_VARIABLE {
-        return 1 + others;
-    }
-    let x = wide(word - FIRST_VARIABLE);
-    piece_size(table, words, keys, wide_byte(offsets[x]), masks[x]) + others
+    count
 }

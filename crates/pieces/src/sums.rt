@@ -1,80 +1,52 @@
-// Words put into a buffer: a part of a term, and the sum of some elements of a flattening.
-ghost use Rattle.std.specs.Prelude.{◌≡◌, ◌+◌, ◌≤◌, length, take, drop};
+// The sum of some elements of some flattenings: its words put into a buffer, and how many they are.
+ghost use Rattle.std.specs.Prelude.{ℕ, ◌≡◌, ◌+◌, ◌-◌, ◌*◌, ◌≤◌, length};
 ghost use Rattle.symbols.specs.Table.{signature_of};
-ghost use Rattle.pieces.specs.Buffer.{Stored, Put};
+ghost use Rattle.pieces.specs.Buffer.{Put};
 ghost use Rattle.pieces.specs.Sums.{sum_words, Masked};
 
-use crate::ROOM;
-use equivalence::keys::size_at;
-use format::MAX_NODES;
-use symbols::arity;
+use crate::buffer::Buffer;
+use crate::elements::first_taken;
+use equivalence::keys::Keyed;
 
-// Copies so many words from an offset into the buffer at another.
-pub fn copy(words: &&[u16], from: usize, count: usize, out: &mut [u16; ROOM], at: usize)
-    requires count_in_bounds { (from + count ≤ length words.now.now) × (length words.now.now ≤ 128) }
-    requires count_bound { (at + count ≤ 48) × (length out.old ≡ 48) }
-    ensures { Stored out.old at (take count (drop from words.now.now)) out.new }
+// How many words the sum of the elements has that the mask takes of the flattenings for f of the n terms at i.
+pub fn sum_size(term: &Keyed, f: u16, i: usize, mask: u16) -> usize
+    ghost n: { ℕ }
+    requires { Masked (signature_of term.now.table.now) f term.now.words.now i n mask }
+    ensures value { result ≡ length (sum_words (signature_of term.now.table.now) f term.now.words.now i n mask) }
+    ensures upper_bound { result ≤ 2 * (length term.now.words.now - i) }
 {
-    if count > 0 {
-        out[at] = words[from];
-        copy(words, from + 1, count - 1, out, at + 1);
+    let mut at = i;
+    let mut left = mask;
+    let mut count = 0;
+    while left > 0 {
+        let (offset, rest) = first_taken(term, f, at, left);
+        let size = term.size_at(offset);
+        count += if rest > 0 { 1 + size } else { size };
+        at = offset + size;
+        left = rest;
     }
+    count
 }
 
-// Puts the sum of the elements that the mask takes of the flattenings for f of the n terms at i, and gives the offset
-// after it.
-pub fn put_sum(
-    table: &&[u16],
-    f: u16,
-    words: &&[u16],
-    keys: &[u64; MAX_NODES],
-    i: usize,
-    n: usize,
-    mask: u16,
-    out: &mut [u16; ROOM],
-    at: usize,
-) -> usize
-    requires masked { Masked (signature_of table.now.now) f words.now.now keys.now i n mask }
-    requires mask_bound { at + length (sum_words (signature_of table.now.now) f words.now.now i n mask) ≤ 48 }
-    requires out_len { length out.old ≡ 48 }
-    ensures { Put out.old at
-        (sum_words (signature_of table.now.now) f words.now.now i n mask) result out.new }
+// Puts its words.
+pub fn put_sum(term: &Keyed, f: u16, i: usize, mask: u16, out: &mut Buffer)
+    ghost n: { ℕ }
+    requires masked { Masked (signature_of term.now.table.now) f term.now.words.now i n mask }
+    requires room { out.old.count + length (sum_words (signature_of term.now.table.now) f term.now.words.now i n mask)
+        ≤ 48 }
+    ensures { Put out.old.words out.old.count (sum_words (signature_of term.now.table.now) f term.now.words.now i n
+        mask) out.new.count out.new.words }
 {
-    if mask == 0 {
-        return at;
+    let mut at = i;
+    let mut left = mask;
+    while left > 0 {
+        let (offset, rest) = first_taken(term, f, at, left);
+        if rest > 0 {
+            out.push(f);
+        }
+        let end = offset + term.size_at(offset);
+        out.extend(&term.words[offset..end]);
+        at = end;
+        left = rest;
     }
-    if words[i] == f {
-        return put_sum(
-            table,
-            f,
-            words,
-            keys,
-            i + 1,
-            arity(*table, f) + (n - 1),
-            mask,
-            out,
-            at,
-        );
-    }
-    let count = size_at(keys, i);
-    if mask % 2 == 0 {
-        return put_sum(table, f, words, keys, i + count, n - 1, mask / 2, out, at);
-    }
-    if mask == 1 {
-        copy(words, i, count, out, at);
-        return at + count;
-    }
-    out[at] = f;
-    copy(words, i, count, out, at + 1);
-    put_sum(
-        table,
-        f,
-        words,
-        keys,
-        i + count,
-        n - 1,
-        mask / 2,
-        out,
-        at + 1 + count,
-    )
 }

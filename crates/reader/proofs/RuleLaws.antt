@@ -1,9 +1,10 @@
 -- What the code that reads the rules has to show at each of its ends.
 --     Done                       what a loop over the rules has read: done_none, done-fault, done_more, done_all
 --     SoFar                      and stored: so-far-none, so-far-fault, so_far_more, so-far-done
---     rule-as-read, rule-renumbered              a rule from bits, by its form
+--     rule-renumbered            a rule of the first form from bits
 --     end-fault, end-got         a reading whose end is told
 --     rule-unread, rule-half, rule-whole, rule_end    a rule among words
+use Rattle.std.specs.Prelude.{Ok, Err}
 use mathlib.Core.Path.{◌≡◌, refl, sym, ap, ◌∙◌}
 use mathlib.Core.List.{List, [], ◌∷◌, ◌++◌, map, map-append, append_assoc, append-nil}
 use Prim.Native.Nat.{ℕ, suc, ◌+◌, ◌-◌, ◌≤◌, ◌<◌}
@@ -12,7 +13,7 @@ use native.Mathlib.Omega.{arith}
 use lib.Dec.{eqb}
 use lib.ListN.{length, length-append, length-map}
 use lib.Seq.{sets}
-use borrow.Author.Tests.{eq-eqb, ne_eqb}
+use borrow.Author.Tests.{eq-eqb}
 use Rattle.multisets.proofs.Relations.{by_test}
 use Rattle.multisets.proofs.ListLaws.{sets-append}
 use Rattle.terms.specs.Signature.{Signature}
@@ -30,8 +31,8 @@ use Rattle.format.proofs.SideLaws.{rule_fits}
 use Rattle.format.proofs.ConversionLaws.{converted-words}
 use Rattle.variables.specs.Renumbering.{RuleRenumbered}
 use Rattle.variables.proofs.NodeLaws.{nodes-of-rule}
-use Rattle.answers.specs.declared.Answer.{Answer}
-use Rattle.answers.specs.declared.Answer.TheVariants.{Got, Fault}
+use Rattle.format.specs.Errors.{number_of}
+use Rattle.answers.specs.declared.Fault.{Fault}
 use Rattle.answers.specs.Answer.{answered}
 use Rattle.words.proofs.TermLaws.{terms-end}
 use Rattle.sides.specs.Side.{WordsRead, side_words, rules_words}
@@ -118,13 +119,15 @@ module _ (form : ℕ) (source : Source) (σ : Signature) (count start index₀ :
 
   module _ (number at index : ℕ) (words : List ℕ) (more : number < count)
       (so : SoFar form source σ count number start at index₀ index words₀ words) where
-    pub so-far-fault : (code offset : ℕ) (after : List ℕ) → rule_reader source unused σ at ≡ fault code offset →
-        WordsRead stored (rules_reader source unused σ count start) index₀ words₀ (Fault offset code) after
-    so-far-fault code offset after e =
-        done-fault source unused σ count start number at so.0 so.1 more code offset e
+    pub so-far-fault : (f : Fault) (after : List ℕ) →
+        rule_reader source unused σ at ≡ fault (number_of f.code) f.offset →
+        WordsRead stored (rules_reader source unused σ count start) index₀ words₀ (Err f) after
+    so-far-fault f after e =
+        done-fault source unused σ count start number at so.0 so.1 more (number_of f.code) f.offset e
 
     pub so_far_more : (end next : ℕ) (after : List ℕ) → length words ≡ length words₀ →
-        WordsRead (λ (s : Sides). side_words (sides_in form s)) (rule_reader source unused σ at) index words (Got end next)
+        WordsRead (λ (s : Sides). side_words (sides_in form s)) (rule_reader source unused σ at) index words (Ok
+        (end, next))
         after → SoFar form source σ count (number + 1) start next index₀ end words₀ after
     so_far_more end next after same (r, read, long, put) =
         let (done, d, i, kept) = so in
@@ -140,29 +143,25 @@ module _ (form : ℕ) (source : Source) (σ : Signature) (count start index₀ :
 
   pub so-far-done : (index cursor : ℕ) (words : List ℕ) (number : ℕ) → number ≡ count →
       SoFar form source σ count number start cursor index₀ index words₀ words →
-      WordsRead stored (rules_reader source unused σ count start) index₀ words₀ (Got index cursor) words
+      WordsRead stored (rules_reader source unused σ count start) index₀ words₀ (Ok (index, cursor)) words
   so-far-done index cursor words number h (done, d, i, put) =
       (done, done_all source unused σ count start number cursor done d (omega arith), i, put)
 
 -- ---- a rule from bits
 
--- A rule of the first form is renumbered, one of another is as it was read.
-pub rule-as-read : (form index : ℕ) (before after : List ℕ) (reading : Reading Sides) (r : Answer) →
-    (form ≡ first_form → ⊥) → WordsRead side_words reading index before r after →
-    WordsRead (λ (s : Sides). side_words (sides_in form s)) reading index before r after
-rule-as-read form index before after reading r other w = rw (ne_eqb form first_form other) w
-
+-- A rule of the first form is renumbered.
 pub rule-renumbered : (bytes : List ℕ) (form : ℕ) (σ : Signature) (at index : ℕ) (before between after : List ℕ)
     (end next : ℕ) → form ≡ first_form →
-    WordsRead side_words (rule_reader (bit_source bytes) (unused_of form) σ at) index before (Got end next) between →
+    WordsRead side_words (rule_reader (bit_source bytes) (unused_of form) σ at) index before (Ok (end, next)) between →
     RuleRenumbered index end between after →
     WordsRead (λ (s : Sides). side_words (sides_in form s)) (rule_reader (bit_source bytes) (unused_of form) σ at) index
-    before (Got end next) after
+    before (Ok (end, next)) after
 rule-renumbered bytes form σ at index before between after end next first (r, read, long, stored) new =
     let f = eq-eqb form first_form first in
     let words : side_words (sides_in form r) ≡ renumbered (side_words r) = rw f (converted-words r) in
     let nodes = nodes-of-rule r (rule_fits bytes (unused_of form) σ at r next read) in
-    let same : length (side_words (sides_in form r)) ≡ length (side_words r) = rw words (length-map (side_words r) _) in (
+    let same : length (side_words (sides_in form r)) ≡ length (side_words r) = rw words (length-map
+    (side_words r) _) in (
       r,
       read,
       omega arith,
@@ -171,18 +170,18 @@ rule-renumbered bytes form σ at index before between after end next first (r, r
 
 -- ---- among words
 
-pub end-fault : {A : Type 0} (value : A → ℕ) (r : Reading A) (code offset : ℕ) → answered value r ≡ Fault offset code →
+pub end-fault : {A : Type 0} (value : A → ℕ) (r : Reading A) (code offset : ℕ) → answered value r ≡ fault code offset →
     r ≡ fault code offset
 end-fault value (got a at) code offset e = let z : ◌≡◌ {A = ℕ} 0 1 = cc in absurd (omega arith)
 end-fault value (fault k o) code offset e = cc
 
-pub end-got : {A : Type 0} (value : A → ℕ) (r : Reading A) (v next : ℕ) → answered value r ≡ Got v next →
+pub end-got : {A : Type 0} (value : A → ℕ) (r : Reading A) (v next : ℕ) → answered value r ≡ got v next →
     (a : A) × (r ≡ got a next) × (v ≡ value a)
 end-got value (got a at) v next e = (a, cc, cc)
 end-got value (fault k o) v next e = let z : ◌≡◌ {A = ℕ} 0 1 = cc in absurd (omega arith)
 
 module _ (words : List ℕ) (unused : ℕ) (σ : Signature) (plain : Unscaled σ) (at : ℕ) where
-  abbrev side : ℕ → ℕ → Answer
+  abbrev side : ℕ → ℕ → Reading ℕ
   side u n = answered (unused_after_all u) (nodes_reader (word_source words) max_nodes u σ n)
 
   -- No side is too heavy.
@@ -192,7 +191,7 @@ module _ (words : List ℕ) (unused : ℕ) (σ : Signature) (plain : Unscaled σ
   abbrev rule : Reading Sides
   rule = rule_reader (word_source words) unused σ at
 
-  pub rule-unread : (code offset : ℕ) → side unused at ≡ Fault offset code → rule ≡ fault code offset
+  pub rule-unread : (code offset : ℕ) → side unused at ≡ fault code offset → rule ≡ fault code offset
   unfolding rule_reader
   rule-unread code offset e =
       rw (
@@ -208,8 +207,8 @@ module _ (words : List ℕ) (unused : ℕ) (σ : Signature) (plain : Unscaled σ
   unfolding rule_reader
   rule-of left right used next end e u f = rw (light unused at, e, ← u, light used next, f)
 
-  module _ (used next : ℕ) (e : side unused at ≡ Got used next) where
-    pub rule-half : (code offset : ℕ) → side used next ≡ Fault offset code → rule ≡ fault code offset
+  module _ (used next : ℕ) (e : side unused at ≡ got used next) where
+    pub rule-half : (code offset : ℕ) → side used next ≡ fault code offset → rule ≡ fault code offset
     unfolding rule_reader
     rule-half code offset f =
         let (left, read, u) = end-got (unused_after_all unused) (nodes_reader (word_source words) max_nodes unused σ at)
@@ -223,11 +222,12 @@ module _ (words : List ℕ) (unused : ℕ) (σ : Signature) (plain : Unscaled σ
               offset f,
         )
 
-    pub rule-whole : (after end : ℕ) → side used next ≡ Got after end → (r : Sides) × (rule ≡ got r end)
+    pub rule-whole : (after end : ℕ) → side used next ≡ got after end → (r : Sides) × (rule ≡ got r end)
     rule-whole after end f =
         let (left, read, u) = end-got (unused_after_all unused) (nodes_reader (word_source words) max_nodes unused σ at)
         used next e in
-        let (right, read', u') = end-got (unused_after_all used) (nodes_reader (word_source words) max_nodes used σ next)
+        let (right, read', u') = end-got (unused_after_all used) (nodes_reader
+        (word_source words) max_nodes used σ next)
         after end f in
         (record { left = left; right = right }, rule-of left right used next end read u read')
 
@@ -235,8 +235,9 @@ module _ (words : List ℕ) (unused : ℕ) (σ : Signature) (plain : Unscaled σ
   unfolding rule_reader
   rule_end r end e = go (side unused at) refl
     where
-      ends : (used middle : ℕ) → side unused at ≡ Got used middle → (b : Answer) → side used middle ≡ b → end ≤ at + 256
-      ends used middle s (Got after last) t =
+      ends : (used middle : ℕ) → side unused at ≡ got used middle → (b : Reading ℕ) → side used middle ≡ b →
+          end ≤ at + 256
+      ends used middle s (got after last) t =
           let (q, read) = rule-whole used middle s after last t in
           let same : last ≡ end = cc in
           omega (
@@ -244,9 +245,9 @@ module _ (words : List ℕ) (unused : ℕ) (σ : Signature) (plain : Unscaled σ
             terms-end words σ unused max_nodes 1 at used middle s,
             terms-end words σ used max_nodes 1 middle after last t,
           )
-      ends used middle s (Fault offset code) t =
+      ends used middle s (fault code offset) t =
           let z : ◌≡◌ {A = ℕ} 0 1 = cc (rule-half used middle s code offset t) in absurd (omega arith)
 
-      go : (a : Answer) → side unused at ≡ a → end ≤ at + 256
-      go (Got used middle) s = ends used middle s (side used middle) refl
-      go (Fault offset code) s = let z : ◌≡◌ {A = ℕ} 0 1 = cc (rule-unread code offset s) in absurd (omega arith)
+      go : (a : Reading ℕ) → side unused at ≡ a → end ≤ at + 256
+      go (got used middle) s = ends used middle s (side used middle) refl
+      go (fault code offset) s = let z : ◌≡◌ {A = ℕ} 0 1 = cc (rule-unread code offset s) in absurd (omega arith)

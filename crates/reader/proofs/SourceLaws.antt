@@ -1,6 +1,7 @@
 -- Laws of the two sources.
 --     read-packed, read-words    the two sources as the format has them
 --     tested-fault, tested-less, tested-got, tested-field, tested-then     a field that is tested
+--     source-short               a source has no more bytes than a file may have
 --     field_fits                 a field that is read is within its width
 --     reached-start, reached-field, reached-entry, reached-symbols     where fields end, and symbols, which fit
 --     reached-le                 an offset of one of the first fields is no further than a file's bits
@@ -28,13 +29,17 @@ use Rattle.format.proofs.CodingLaws.{word-coding, bit-coding}
 use Rattle.format.proofs.FormatLaws.{symbols-read}
 use Rattle.symbols.specs.Table.{symbol_in, table_words}
 use Rattle.symbols.proofs.EntryLaws.{table-next}
-use Rattle.reader.specs.Source.{source_of, Reached, table_of, Room, tested, read_source}
+use Rattle.reader.specs.declared.source.Source as code
+use Rattle.reader.specs.declared.source.Source.TheVariants.{Book, Sheet}
+use Rattle.reader.specs.Source.{Input, input_of, source_of, bytes_of, Reached, InSheet, table_of, Room, tested}
+use Rattle.reader.specs.Source.{read_source}
+use Rattle.reader.specs.Source.Input.{from_bytes, from_words}
 
-pub read-packed : (form : ℕ) (bytes words : List ℕ) → read_source form true bytes words ≡ read_bytes_in form bytes
+pub read-packed : (form : ℕ) (bytes : List ℕ) → read_source form (from_bytes bytes) ≡ read_bytes_in form bytes
 unfolding read_source read_bytes_in source_of
-read-packed form bytes words = refl
+read-packed form bytes = refl
 
-pub read-words : (words : List ℕ) → read_source form_number false [] words ≡ read_words words
+pub read-words : (words : List ℕ) → read_source form_number (from_words words) ≡ read_words words
 unfolding read_source read_words source_of
 read-words words = refl
 
@@ -90,113 +95,126 @@ module _ (source : Source) (width : ℕ) (ok : ℕ → Bool) (error at : ℕ) wh
 
 -- ---- where fields end
 
-pub field_fits : (packed : Bool) (bytes words : List ℕ) (width at v next : ℕ) →
-    (source_of packed bytes words).field width at ≡ got v next → v < 2 ^ width
+-- A source has no more bytes than a file may have.
+pub source-short : (s : code.Source) → length (bytes_of (input_of s)) ≤ max_bytes
+source-short (Book b) = b.short
+source-short (Sheet words) = omega arith
+
+pub field_fits : (input : Input) (width at v next : ℕ) →
+    (source_of input).field width at ≡ got v next → v < 2 ^ width
 unfolding source_of
-field_fits true bytes words width at v next e = ((bit-coding bytes).read→code (field width v) at next e).0
-field_fits false bytes words width at v next e = ((word-coding words).read→code (field width v) at next e).0
+field_fits (from_bytes bytes) width at v next e = ((bit-coding bytes).read→code (field width v) at next e).0
+field_fits (from_words words) width at v next e = ((word-coding words).read→code (field width v) at next e).0
 
-pub reached-start : (packed : Bool) (bytes words : List ℕ) → Reached packed bytes words 0 0
+pub reached-start : (input : Input) → Reached input 0 0
 unfolding Reached
-reached-start true bytes words = omega arith
-reached-start false bytes words = (refl, omega arith)
+reached-start (from_bytes bytes) = omega arith
+reached-start (from_words words) = (refl, omega arith)
 
-pub reached-le : (packed : Bool) (bytes words : List ℕ) (fields at : ℕ) → fields ≤ 8 * max_bytes →
-    length bytes ≤ max_bytes → Reached packed bytes words fields at → at ≤ 8 * max_bytes
+pub reached-le : (input : Input) (fields at : ℕ) → fields ≤ 8 * max_bytes →
+    length (bytes_of input) ≤ max_bytes → Reached input fields at → at ≤ 8 * max_bytes
 unfolding Reached
-reached-le true bytes words fields at few short h = omega arith
-reached-le false bytes words fields at few short h = omega arith
+reached-le (from_bytes bytes) fields at few short h = omega arith
+reached-le (from_words words) fields at few short h = omega arith
 
-pub reached-field : (packed : Bool) (bytes words : List ℕ) (fields width at v next : ℕ) →
-    Reached packed bytes words fields at → (source_of packed bytes words).field width at ≡ got v next →
-    Reached packed bytes words (fields + 1) next
+pub reached-field : (input : Input) (fields width at v next : ℕ) →
+    Reached input fields at → (source_of input).field width at ≡ got v next →
+    Reached input (fields + 1) next
 unfolding source_of Reached
-reached-field true bytes words fields width at v next h e = ((bit-coding bytes).read→code (field width v) at next e).2
-reached-field false bytes words fields width at v next h e =
+reached-field (from_bytes bytes) fields width at v next h e = ((bit-coding bytes).read→code (field width v) at next e).2
+reached-field (from_words words) fields width at v next h e =
     let (f, n, l, a) = (word-coding words).read→code (field width v) at next e in
     (omega arith, l)
 
 -- ---- what stands among words
 
-word_stands : (bytes words : List ℕ) (width at v next : ℕ) → (source_of false bytes words).field width at ≡ got v next →
+word_stands : (words : List ℕ) (width at v next : ℕ) → (source_of (from_words words)).field width at ≡ got v next →
     get_or words at 0 ≡ v
 unfolding source_of
-word_stands bytes words width at v next e = ((word-coding words).read→code (field width v) at next e).3.0
+word_stands words width at v next e = ((word-coding words).read→code (field width v) at next e).3.0
 
-pub w0-stands : (packed : Bool) (bytes words : List ℕ) (width at v next : ℕ) → Reached packed bytes words 2 at →
-    (source_of packed bytes words).field width at ≡ got v next → packed ≡ false → get_or words 2 0 ≡ v
+pub w0-stands : (input : Input) (width at v next : ℕ) → Reached input 2 at →
+    (source_of input).field width at ≡ got v next → InSheet input (λ words. get_or words 2 0 ≡ v)
 unfolding Reached
-w0-stands packed bytes words width at v next h e z =
-    let (here, in_words_lem) = rw z at h in
-    rw here at (word_stands bytes words width at v next (rw z at e))
+w0-stands (from_bytes bytes) width at v next h e = tt
+w0-stands (from_words words) width at v next h e = rw h.0 at (word_stands words width at v next e)
 
-pub form-stands : (packed : Bool) (bytes words : List ℕ) (width v next : ℕ) →
-    (source_of packed bytes words).field width 0 ≡ got v next → packed ≡ false → get_or words 0 0 ≡ v
-form-stands packed bytes words width v next e z = word_stands bytes words width 0 v next (rw z at e)
+pub form-stands : (input : Input) (width v next : ℕ) →
+    (source_of input).field width 0 ≡ got v next → InSheet input (λ words. get_or words 0 0 ≡ v)
+form-stands (from_bytes bytes) width v next e = tt
+form-stands (from_words words) width v next e = word_stands words width 0 v next e
 
 -- The four fields of a symbol.
-module _ (packed : Bool) (bytes words : List ℕ) (number at arity n₁ ac n₂ weight n₃ rank n₄ : ℕ)
-    (start : Reached packed bytes words (table_words number) at)
-    (e₁ : (source_of packed bytes words).field arity_width at ≡ got arity n₁)
-    (e₂ : (source_of packed bytes words).field ac_width n₁ ≡ got ac n₂)
-    (e₃ : (source_of packed bytes words).field weight_width n₂ ≡ got weight n₃)
-    (e₄ : (source_of packed bytes words).field rank_width n₃ ≡ got rank n₄) where
-  abbrev reach : (fields width at v next : ℕ) → Reached packed bytes words fields at →
-      (source_of packed bytes words).field width at ≡ got v next → Reached packed bytes words (fields + 1) next
-  reach = reached-field packed bytes words
+module _ (input : Input) (number at arity n₁ ac n₂ weight n₃ rank n₄ : ℕ)
+    (start : Reached input (table_words number) at)
+    (e₁ : (source_of input).field arity_width at ≡ got arity n₁)
+    (e₂ : (source_of input).field ac_width n₁ ≡ got ac n₂)
+    (e₃ : (source_of input).field weight_width n₂ ≡ got weight n₃)
+    (e₄ : (source_of input).field rank_width n₃ ≡ got rank n₄) where
+  abbrev reach : (fields width at v next : ℕ) → Reached input fields at →
+      (source_of input).field width at ≡ got v next → Reached input (fields + 1) next
+  reach = reached-field input
 
-  abbrev r₁ : Reached packed bytes words (table_words number + 1) n₁
+  abbrev r₁ : Reached input (table_words number + 1) n₁
   r₁ = reach _ _ _ _ _ start e₁
 
-  abbrev r₂ : Reached packed bytes words (table_words number + 1 + 1) n₂
+  abbrev r₂ : Reached input (table_words number + 1 + 1) n₂
   r₂ = reach _ _ _ _ _ r₁ e₂
 
-  abbrev r₃ : Reached packed bytes words (table_words number + 1 + 1 + 1) n₃
+  abbrev r₃ : Reached input (table_words number + 1 + 1 + 1) n₃
   r₃ = reach _ _ _ _ _ r₂ e₃
 
-  pub reached-entry : Reached packed bytes words (table_words (number + 1)) n₄
+  pub reached-entry : Reached input (table_words (number + 1)) n₄
   reached-entry = rw (table-next number) (reach _ _ _ _ _ r₃ e₄)
 
-  pub entry-stands : packed ≡ false →
-      symbol_in false words number
-      ≡ record { arity = arity; ac = eqb ac 1; weight = weight; precedence = rank; coefficients = ones arity }
-  unfolding Reached table_words
-  entry-stands z =
-      let small : arity % 8 ≡ arity = omega (arith, field_fits packed bytes words _ _ _ _ e₁) in
-      let mark : ac % 2 ≡ ac = omega (arith, field_fits packed bytes words _ _ _ _ e₂) in
-      let a₁ : 4 * number + 4 ≡ at = omega (arith, (rw z at start).0) in
-      let a₂ : 4 * number + 5 ≡ n₁ = omega (arith, (rw z at r₁).0) in
-      let a₃ : 4 * number + 6 ≡ n₂ = omega (arith, (rw z at r₂).0) in
-      let a₄ : 4 * number + 7 ≡ n₃ = omega (arith, (rw z at r₃).0) in
-      rw (
-        a₁,
-        a₂,
-        a₃,
-        a₄,
-        word_stands bytes words _ at arity n₁ (rw z at e₁),
-        word_stands bytes words _ n₁ ac n₂ (rw z at e₂),
-        word_stands bytes words _ n₂ weight n₃ (rw z at e₃),
-        word_stands bytes words _ n₃ rank n₄ (rw z at e₄),
-        small,
-        mark,
-      )
+pub entry-stands : (input : Input) (number at arity n₁ ac n₂ weight n₃ rank n₄ : ℕ) →
+    Reached input (table_words number) at →
+    (source_of input).field arity_width at ≡ got arity n₁ → (source_of input).field ac_width n₁ ≡ got ac n₂ →
+    (source_of input).field weight_width n₂ ≡ got weight n₃ → (source_of input).field rank_width n₃ ≡ got rank n₄ →
+    InSheet input (λ words. symbol_in false words number
+    ≡ record { arity = arity; ac = eqb ac 1; weight = weight; precedence = rank; coefficients = ones arity })
+unfolding Reached table_words
+entry-stands (from_bytes bytes) number at arity n₁ ac n₂ weight n₃ rank n₄ start e₁ e₂ e₃ e₄ = tt
+entry-stands (from_words words) number at arity n₁ ac n₂ weight n₃ rank n₄ start e₁ e₂ e₃ e₄ =
+    let reach = reached-field (from_words words) in
+    let r₁ = reach _ _ _ _ _ start e₁ in
+    let r₂ = reach _ _ _ _ _ r₁ e₂ in
+    let r₃ = reach _ _ _ _ _ r₂ e₃ in
+    let small : arity % 8 ≡ arity = omega (arith, field_fits (from_words words) _ _ _ _ e₁) in
+    let mark : ac % 2 ≡ ac = omega (arith, field_fits (from_words words) _ _ _ _ e₂) in
+    let a₁ : 4 * number + 4 ≡ at = omega (arith, start.0) in
+    let a₂ : 4 * number + 5 ≡ n₁ = omega (arith, r₁.0) in
+    let a₃ : 4 * number + 6 ≡ n₂ = omega (arith, r₂.0) in
+    let a₄ : 4 * number + 7 ≡ n₃ = omega (arith, r₃.0) in
+    rw (
+      a₁,
+      a₂,
+      a₃,
+      a₄,
+      word_stands words _ at arity n₁ e₁,
+      word_stands words _ n₁ ac n₂ e₂,
+      word_stands words _ n₂ weight n₃ e₃,
+      word_stands words _ n₃ rank n₄ e₄,
+      small,
+      mark,
+    )
 
 -- ---- room
 
-pub room-le : (packed : Bool) (m n : ℕ) (table : List ℕ) → m ≤ n → Room packed n table → Room packed m table
-room-le true m n table h r = omega arith
-room-le false m n table h r = tt
+pub room-le : (input : Input) (m n : ℕ) (table : List ℕ) → m ≤ n → Room input n table → Room input m table
+room-le (from_bytes bytes) m n table h r = omega arith
+room-le (from_words words) m n table h r = tt
 
-pub room-same : (packed : Bool) (n : ℕ) (table other : List ℕ) → length other ≡ length table → Room packed n table →
-    Room packed n other
-room-same true n table other e r = omega arith
-room-same false n table other e r = tt
+pub room-same : (input : Input) (n : ℕ) (table other : List ℕ) → length other ≡ length table → Room input n table →
+    Room input n other
+room-same (from_bytes bytes) n table other e r = omega arith
+room-same (from_words words) n table other e r = tt
 
-pub room-table : (packed : Bool) (bytes words table : List ℕ) (n at : ℕ) → Room packed n table →
-    Reached packed bytes words n at → n ≤ length (table_of packed words table)
+pub room-table : (input : Input) (table : List ℕ) (n at : ℕ) → Room input n table →
+    Reached input n at → n ≤ length (table_of input table)
 unfolding Reached
-room-table true bytes words table n at r h = r
-room-table false bytes words table n at r h = omega arith
+room-table (from_bytes bytes) table n at r h = r
+room-table (from_words words) table n at r h = omega arith
 
 -- A symbol takes four words.
 length-coded : (form : ℕ) → has_coefficients form ≡ false → (ss : List Symbol) →
@@ -206,17 +224,17 @@ unfolding flat_map
 length-coded form none [] = refl
 length-coded form none (s ∷ ss) = rw none (omega (arith, length-coded form none ss))
 
-pub reached-symbols : (packed : Bool) (bytes words : List ℕ) (fields form w0 n at : ℕ) → has_coefficients form ≡ false →
-    (ss : List Symbol) (next : ℕ) → Reached packed bytes words fields at →
-    symbols_reader (source_of packed bytes words) form w0 n [] at ≡ got ss next →
-    Reached packed bytes words (fields + 4 * n) next × AllFit (flat_map (symbol_items form) ss)
+pub reached-symbols : (input : Input) (fields form w0 n at : ℕ) → has_coefficients form ≡ false →
+    (ss : List Symbol) (next : ℕ) → Reached input fields at →
+    symbols_reader (source_of input) form w0 n [] at ≡ got ss next →
+    Reached input (fields + 4 * n) next × AllFit (flat_map (symbol_items form) ss)
 unfolding source_of Reached
-reached-symbols true bytes words fields form w0 n at none ss next h e =
+reached-symbols (from_bytes bytes) fields form w0 n at none ss next h e =
     let (all, same, count, oks, spelt) =
-    holds-got _ _ ss next (symbols-read (bit_source bytes) (field_fits true bytes words) form w0 n [] at) e in
+    holds-got _ _ ss next (symbols-read (bit_source bytes) (field_fits (from_bytes bytes)) form w0 n [] at) e in
     let (fit, ends, last, agree) = spells→coded (bit-coding bytes) spelt h in (last, rw same fit)
-reached-symbols false bytes words fields form w0 n at none ss next h e =
+reached-symbols (from_words words) fields form w0 n at none ss next h e =
     let (all, same, count, oks, spelt) =
-    holds-got _ _ ss next (symbols-read (word_source words) (field_fits false bytes words) form w0 n [] at) e in
+    holds-got _ _ ss next (symbols-read (word_source words) (field_fits (from_words words)) form w0 n [] at) e in
     let (fit, ends, last, agree) = spells→coded (word-coding words) spelt h.1 in
     ((omega (arith, length-coded form none all), last), rw same fit)

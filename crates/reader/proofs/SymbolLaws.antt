@@ -7,6 +7,7 @@
 --     symbols-done, symbols-headed         reading so many by a loop, and the header
 --     table-unread, table-outranked, table-ranked     all symbols, by the first that is outranked
 --     stored_same, stored_more, stored-none   what is stored of a packed file
+use Rattle.std.specs.Prelude.{Result, Ok, Err}
 use mathlib.Core.Path.{◌≡◌, refl, sym, ◌∙◌}
 use mathlib.Core.List.{List, [], ◌∷◌, ◌++◌, map}
 use mathlib.Core.Bool.{Bool, true, false, ◌||◌, not}
@@ -29,16 +30,13 @@ use Rattle.format.specs.Symbols.{symbol_reader, symbols_reader, symbol_table_rea
 use Rattle.format.specs.Packing.{item_word, symbol_items}
 use Rattle.format.proofs.ReadingLaws.{and_then-same}
 use Rattle.format.proofs.RankLaws.{outranked-le}
-use Rattle.reader.specs.Source.{Stored, tested}
+use Rattle.reader.specs.Source.{Input, Stored, tested}
+use Rattle.reader.specs.Source.Input.{from_bytes, from_words}
 use Rattle.symbols.specs.Table.{table_words, symbols_words}
 use Rattle.symbols.proofs.EntryLaws.{entries-more}
-use Rattle.answers.specs.Answer.{reading_of}
-use Rattle.answers.specs.declared.Answer.{Answer}
-use Rattle.answers.specs.declared.Answer.TheVariants.{Got, Fault}
+use Rattle.answers.specs.Answer.{reading}
+use Rattle.answers.specs.declared.Fault.{Fault}
 use Rattle.bits.specs.declared.BitCursor.{BitCursor}
-use Rattle.bits.specs.declared.Read.{Read}
-use Rattle.bits.specs.declared.Read.TheVariants as read
-use Rattle.bits.specs.Cursor.{told}
 use Rattle.reader.specs.Symbol.{TakenBy, SymbolsRead}
 use Rattle.reader.proofs.SourceLaws.{tested-then}
 
@@ -113,7 +111,8 @@ module _ (source : Source) (form w0 : ℕ) (earlier : List Symbol) where
       and_then-same (source.field ac_width n₁) _ _ λ ac n₂.
       and_then-same (require (eqb ac 0 || eqb arity 2) ac_not_binary at n₂) _ _ λ u n.
       tested-then source weight_width (leb (least_weight_in form w0 arity)) weight_inadmissible n _
-      ∙ and_then-same (tested source weight_width (leb (least_weight_in form w0 arity)) weight_inadmissible n) _ _ λ weight
+      ∙ and_then-same (tested source weight_width (leb (least_weight_in form w0 arity)) weight_inadmissible n) _ _ λ
+      weight
       n₃.
       tested-then source rank_width (λ (rank : ℕ). not (held_by earlier rank)) rank_taken n₃ _
 
@@ -159,83 +158,68 @@ module _ (source : Source) (form w0 count at : ℕ) where
     unfolding symbol_table_reader
     table-ranked h = rw (e, eq-eqb (first_outranked ss) (length ss) (omega (arith, outranked-le ss ss)))
 
--- The symbols are stored after the header; what else is known of them stays known.
-pub symbols-headed : (form count w0 rules : ℕ) (reading : Reading (List Symbol)) (Known : List Symbol → Type 0)
-    (r : Answer) (ss : List Symbol) (table headed after : List ℕ) →
-    headed ≡ sets table 0 (form ∷ count ∷ w0 ∷ rules ∷ []) →
-    SymbolsRead reading (λ (ss : List Symbol). Stored true 4 (symbols_words ss) headed after × Known ss) r ss →
+-- The symbols are stored after the header.
+pub symbols-headed : (bytes : List ℕ) (form count w0 rules : ℕ) (reading : Reading (List Symbol)) (r : Result
+    (Bool × BitCursor) Fault)
+    (ss : List Symbol) (table headed after : List ℕ) → headed ≡ sets table 0 (form ∷ count ∷ w0 ∷ rules ∷ []) →
+    SymbolsRead reading (λ (ss : List Symbol). Stored (from_bytes bytes) 4 (symbols_words ss) headed after) r ss →
     SymbolsRead reading
-    (λ (ss : List Symbol). Stored true 0 (form ∷ count ∷ w0 ∷ rules ∷ symbols_words ss) table after × Known ss) r ss
-symbols-headed form count w0 rules reading Known (Got value next) ss table headed after e (read, all, (put, known)) = (
+    (λ (ss : List Symbol). Stored (from_bytes bytes) 0 (form ∷ count ∷ w0 ∷ rules ∷ symbols_words ss) table after) r ss
+symbols-headed bytes form count w0 rules reading (Ok (weightless, next)) ss table headed after e (read, known, put) = (
   read,
-  all,
-  (put ∙ rw e (sym (sets-append table 0 (form ∷ count ∷ w0 ∷ rules ∷ []) (symbols_words ss))), known),
+  known,
+  put ∙ rw e (sym (sets-append table 0 (form ∷ count ∷ w0 ∷ rules ∷ []) (symbols_words ss))),
 )
-symbols-headed form count w0 rules reading Known (Fault offset code) ss table headed after e read = read
+symbols-headed bytes form count w0 rules reading (Err f) ss table headed after e read = read
 
-pub stored_same : (packed : Bool) (index : ℕ) (words other before after : List ℕ) → words ≡ other →
-    Stored packed index words before after → Stored packed index other before after
-stored_same true index words other before after e stored = rw e at stored
-stored_same false index words other before after e stored = tt
+pub stored_same : (input : Input) (index : ℕ) (words other before after : List ℕ) → words ≡ other →
+    Stored input index words before after → Stored input index other before after
+stored_same (from_bytes bytes) index words other before after e stored = rw e at stored
+stored_same (from_words ws) index words other before after e stored = tt
 
 -- The entries before are stored, and one more.
-pub stored_more : (packed : Bool) (table before after : List ℕ) (n : ℕ) (ss : List Symbol) (s : Symbol) →
-    n ≡ length ss → Stored packed 4 (symbols_words ss) table before →
-    Stored packed (table_words n) (map item_word (symbol_items form_number s)) before after →
-    Stored packed 4 (symbols_words (ss ++ (s ∷ []))) table after
-stored_more true table before after n ss s e f g = entries-more table before after n ss s e f g
-stored_more false table before after n ss s e f g = tt
+pub stored_more : (input : Input) (table before after : List ℕ) (n : ℕ) (ss : List Symbol) (s : Symbol) →
+    n ≡ length ss → Stored input 4 (symbols_words ss) table before →
+    Stored input (table_words n) (map item_word (symbol_items form_number s)) before after →
+    Stored input 4 (symbols_words (ss ++ (s ∷ []))) table after
+stored_more (from_bytes bytes) table before after n ss s e f g = entries-more table before after n ss s e f g
+stored_more (from_words words) table before after n ss s e f g = tt
 
-pub stored-none : (packed : Bool) (table : List ℕ) → Stored packed 4 (symbols_words []) table table
-stored-none true table = refl
-stored-none false table = tt
+pub stored-none : (input : Input) (table : List ℕ) → Stored input 4 (symbols_words []) table table
+stored-none (from_bytes bytes) table = refl
+stored-none (from_words words) table = tt
 
--- ---- a symbol, by the answers to its fields
+-- ---- a symbol, by what its fields read
 
 module _ (source : Source) (form w0 : ℕ) (earlier : List Symbol) (at : ℕ) where
   abbrev symbol : Reading Symbol
   symbol = symbol_reader source form w0 earlier at
 
-  abbrev Fielded : Read → ℕ → ℕ → Type 0
-  Fielded x width offset = reading_of (λ (v : ℕ). v) (told x) ≡ source.field width offset
+  pub arity-unread : (code offset : ℕ) → fault code offset ≡ source.field arity_width at → symbol ≡ fault code offset
+  arity-unread code offset e = symbol-parts source form w0 earlier at ∙ rw (sym e)
 
-  pub arity-unread : (x : Read) (code offset : ℕ) → x ≡ read.Fault offset code → Fielded x arity_width at →
-      symbol ≡ fault code offset
-  arity-unread x code offset e f = symbol-parts source form w0 earlier at ∙ rw (sym (rw e at f))
+  module _ (arity n : ℕ) (e : got arity n ≡ source.field arity_width at) where
+    pub mark-unread : (code offset : ℕ) → fault code offset ≡ source.field ac_width n → symbol ≡ fault code offset
+    mark-unread code offset f = symbol-parts source form w0 earlier at ∙ rw (sym e, sym f)
 
-  module _ (x : Read) (arity : ℕ) (n : BitCursor) (e : x ≡ read.Got arity n) (f : Fielded x arity_width at) where
-    pub mark-unread : (y : Read) (code offset : ℕ) → y ≡ read.Fault offset code → Fielded y ac_width n.at →
-        symbol ≡ fault code offset
-    mark-unread y code offset g h = symbol-parts source form w0 earlier at ∙ rw (sym (rw e at f), sym (rw g at h))
-
-    module _ (y : Read) (ac : ℕ) (m : BitCursor) (g : y ≡ read.Got ac m) (h : Fielded y ac_width n.at) (b : Bool)
-        (binary : b ≡ (eqb ac 0 || eqb arity 2)) where
+    module _ (ac m : ℕ) (f : got ac m ≡ source.field ac_width n) (b : Bool) (binary : b ≡
+        (eqb ac 0 || eqb arity 2)) where
       pub mark-refused : not b ≡ true → symbol ≡ fault ac_not_binary at
       mark-refused wrong =
-          symbol-parts source form w0 earlier at
-          ∙ rw (sym (rw e at f), sym (rw g at h), sym binary ∙ not-true b wrong)
+          symbol-parts source form w0 earlier at ∙ rw (sym e, sym f, sym binary ∙ not-true b wrong)
 
-      abbrev Tested : Read → Type 0
-      Tested z =
-          reading_of (λ (v : ℕ). v) (told z) ≡ tested source weight_width (leb (least_weight_in form w0 arity))
-          weight_inadmissible m.at
+      abbrev tested_weight : Reading ℕ
+      tested_weight = tested source weight_width (leb (least_weight_in form w0 arity)) weight_inadmissible m
 
-      pub weight-unread : not b ≡ false → (z : Read) (code offset : ℕ) → z ≡ read.Fault offset code → Tested z →
+      pub weight-unread : not b ≡ false → (code offset : ℕ) → fault code offset ≡ tested_weight →
           symbol ≡ fault code offset
-      weight-unread right z code offset i j =
+      weight-unread right code offset g =
           symbol-parts source form w0 earlier at
-          ∙ rw (sym (rw e at f), sym (rw g at h), sym binary ∙ not-false b right, sym (rw i at j))
+          ∙ rw (sym e, sym f, sym binary ∙ not-false b right, sym g)
 
-      pub rank-unread : not b ≡ false → (z : Read) (weight : ℕ) (o : BitCursor) → z ≡ read.Got weight o → Tested z →
-          (taken : List Bool) → TakenBy earlier taken → (r : Read) (code offset : ℕ) → r ≡ read.Fault offset code →
-          ((es : List Symbol) → TakenBy es taken → reading_of (λ (v : ℕ). v) (told r)
-          ≡ tested source rank_width (λ (rank : ℕ). not (held_by es rank)) rank_taken o.at) → symbol ≡ fault code offset
-      rank-unread right z weight o i j taken t r code offset u v =
+      pub rank-unread : not b ≡ false → (weight o : ℕ) → got weight o ≡ tested_weight → (code offset : ℕ) →
+          fault code offset ≡ tested source rank_width (λ (rank : ℕ). not (held_by earlier rank)) rank_taken o →
+          symbol ≡ fault code offset
+      rank-unread right weight o g code offset h =
           symbol-parts source form w0 earlier at
-          ∙ rw (
-            sym (rw e at f),
-            sym (rw g at h),
-            sym binary ∙ not-false b right,
-            sym (rw i at j),
-            sym (rw u at (v earlier t)),
-          )
+          ∙ rw (sym e, sym f, sym binary ∙ not-false b right, sym g, sym h)

@@ -1,8 +1,9 @@
 -- What the answers of reading a whole file stand for.
-use Rattle.std.specs.Prelude.{◌≡◌, List, map, Bool, true, cond, false, ℕ, ◌*◌, ◌≤◌, ◌<◌, length, take, eqb, leb}
+use Rattle.std.specs.Prelude.{◌≡◌, List, map, true, cond, false, ℕ, ◌*◌, ◌≤◌, ◌<◌, length, take, eqb, leb}
+use Rattle.std.specs.Prelude.{Result, Ok, Err}
 use Rattle.std.proofs.lemmas.List.Edits.{sets}
 use Rattle.terms.specs.Signature.{Signature}
-use Rattle.format.specs.Errors.{no_symbols, variable_weightless}
+use Rattle.format.specs.Errors.{no_symbols, variable_weightless, number_of}
 use Rattle.format.specs.Layout.{first_form, form_number, symbol_count_width, weight_width, rule_count_width, max_bytes}
 use Rattle.format.specs.Reading.{Reading, Reader, ◌>>=◌, ◌>>◌, give}
 use Rattle.format.specs.Reading.Reading.{got, fault}
@@ -11,32 +12,33 @@ use Rattle.format.specs.Symbols.{symbol_table_reader}
 use Rattle.format.specs.Format.{Sides, RuleFile, rules_reader}
 use Rattle.format.specs.Conversion.{converted_sides}
 use Rattle.symbols.specs.Table.{signature_of, table_words, max_table_words, front_words}
-use Rattle.answers.specs.declared.Answer.{Answer}
-use Rattle.answers.specs.declared.Answer.TheVariants.{Got, Fault}
+use Rattle.answers.specs.declared.Fault.{Fault}
 use Rattle.sides.specs.Side.{rules_words}
 use Rattle.reader.specs.Promise.{IsTable}
-use Rattle.reader.specs.Source.{source_of, Reached, table_of, tested}
+use Rattle.reader.specs.declared.file.Head.{Head}
+use Rattle.reader.specs.declared.file.Unpacked.{Unpacked}
+use Rattle.reader.specs.Source.{Input, source_of, bytes_of, Reached, InBook, table_of, tested}
 
-module _ (form : ℕ) (packed : Bool) (bytes words : List ℕ) where
+module _ (form : ℕ) (input : Input) where
   -- What follows the symbols: the rules, and what may stand after them.
   unfoldable pub rest_reader : Signature → ℕ → Reader RuleFile
   rest_reader σ rule_count = do
-    rules ← rules_reader (source_of packed bytes words) (unused_of form) σ rule_count
-    (source_of packed bytes words).end
+    rules ← rules_reader (source_of input) (unused_of form) σ rule_count
+    (source_of input).end
     give (record { form = form; signature = σ; rules = rules })
 
   -- What follows the header.
   unfoldable pub table_reader : ℕ → ℕ → ℕ → Reader RuleFile
   table_reader w0 symbol_count rule_count = do
-    symbols ← symbol_table_reader (source_of packed bytes words) form w0 symbol_count
+    symbols ← symbol_table_reader (source_of input) form w0 symbol_count
     rest_reader (record { w0 = w0; symbols = symbols }) rule_count
 
   -- What follows the form.
   unfoldable pub counts_reader : Reader RuleFile
   counts_reader = do
-    symbol_count ← tested (source_of packed bytes words) symbol_count_width (leb 1) no_symbols
-    w0 ← tested (source_of packed bytes words) weight_width (leb 1) variable_weightless
-    rule_count ← (source_of packed bytes words).field rule_count_width
+    symbol_count ← tested (source_of input) symbol_count_width (leb 1) no_symbols
+    w0 ← tested (source_of input) weight_width (leb 1) variable_weightless
+    rule_count ← (source_of input).field rule_count_width
     table_reader w0 symbol_count rule_count
 
 -- A rule of that form with its variables in order of first use.
@@ -56,27 +58,26 @@ stored_file f = record { form = stored_form f.form; signature = f.signature; rul
 
 -- What is read of a file that a reader of that form takes: its form, what is left to read after its symbols, its counts
 -- of symbols and of rules, its signature, the words before its rules, and their offset.
-pub record HeadParts (reader : ℕ) (packed : Bool) (bytes words : List ℕ) (reading : Reading RuleFile) (table : List ℕ)
+pub record HeadParts (reader : ℕ) (input : Input) (reading : Reading RuleFile) (table : List ℕ)
     (symbols rules offset : ℕ) : Type 0 where
   pub form : ℕ
   pub taken : is_taken reader form ≡ true
-  pub whole : reading ≡ rest_reader form packed bytes words (signature_of (take (table_words symbols)
-      (table_of packed words table))) rules offset
-  pub symbol_count : symbols ≡ length (signature_of (take (table_words symbols) (table_of packed words table))).symbols
-  pub short : length bytes ≤ max_bytes
+  pub whole : reading ≡ rest_reader form input (signature_of (take (table_words symbols)
+      (table_of input table))) rules offset
+  pub symbol_count : symbols ≡ length (signature_of (take (table_words symbols) (table_of input table))).symbols
+  pub short : length (bytes_of input) ≤ max_bytes
   pub few_symbols : symbols < 256
   pub few_rules : rules < 1024
-  pub decoded : IsTable (take (table_words symbols) (table_of packed words table))
-  pub within : Reached packed bytes words (table_words symbols) offset
-  pub front : packed ≡ true → take (table_words symbols) table ≡ front_words (stored_form form) (signature_of
-      (take (table_words symbols) (table_of packed words table))) rules
+  pub decoded : IsTable (take (table_words symbols) (table_of input table))
+  pub within : Reached input (table_words symbols) offset
+  pub front : InBook input (take (table_words symbols) table ≡ front_words (stored_form form) (signature_of
+      (take (table_words symbols) (table_of input table))) rules)
 
--- What is read, the answer to the head, which says how many symbols there are, and the table and the count of rules
--- afterwards.
-abbrev pub HeadRead : ℕ → Bool → List ℕ → List ℕ → Reading RuleFile → Answer → List ℕ → ℕ → Type 0
-HeadRead reader packed bytes words reading (Got symbols next) table rules =
-    HeadParts reader packed bytes words reading table symbols rules next
-HeadRead reader packed bytes words reading (Fault offset code) table rules = reading ≡ fault code offset
+-- What is read, the head, and the table afterwards.
+abbrev pub HeadRead : ℕ → Input → Reading RuleFile → Result Head Fault → List ℕ → Type 0
+HeadRead reader input reading (Ok head) table =
+    HeadParts reader input reading table head.symbols head.rules head.cursor.at
+HeadRead reader input reading (Err f) table = reading ≡ fault (number_of f.code) f.offset
 
 -- A packed file: the front of the table has the words before its rules, and the words those of its rules as they are
 -- stored, where there is room for all of them.
@@ -92,12 +93,12 @@ pub record PackedParts (bytes table before after : List ℕ) (file : RuleFile) (
   pub node_count : nodes ≡ length (rules_words (rules_in file.form file.rules))
   pub stored : nodes ≤ length before → after ≡ sets before 0 (rules_words (rules_in file.form file.rules))
 
--- What was read, the answer, the table afterwards, and the words before and after.
-abbrev pub PackedRead : List ℕ → Reading RuleFile → Answer → List ℕ → List ℕ → List ℕ → Type 0
-PackedRead bytes reading (Got nodes front) table before after =
+-- What was read, the result, the table afterwards, and the words before and after.
+abbrev pub PackedRead : List ℕ → Reading RuleFile → Result Unpacked Fault → List ℕ → List ℕ → List ℕ → Type 0
+PackedRead bytes reading (Ok u) table before after =
     (file : RuleFile) × (end : ℕ) × (reading ≡ got file end)
-    × PackedParts bytes table before after file nodes front
-PackedRead bytes reading (Fault offset code) table before after = reading ≡ fault code offset
+    × PackedParts bytes table before after file u.nodes u.front
+PackedRead bytes reading (Err f) table before after = reading ≡ fault (number_of f.code) f.offset
 
 -- A file among words: how many symbols it has, where its rules begin, and that the words are not many.
 pub record SheetParts (words : List ℕ) (file : RuleFile) (symbols front : ℕ) : Type 0 where
@@ -107,8 +108,8 @@ pub record SheetParts (words : List ℕ) (file : RuleFile) (symbols front : ℕ)
   pub within : front ≤ length words
   pub short : length words ≤ 263000
 
--- What was read, and the answer.
-abbrev pub SheetRead : List ℕ → Reading RuleFile → Answer → Type 0
-SheetRead words reading (Got symbols front) =
-    (file : RuleFile) × (end : ℕ) × (reading ≡ got file end) × SheetParts words file symbols front
-SheetRead words reading (Fault offset code) = reading ≡ fault code offset
+-- What was read, and the head.
+abbrev pub SheetRead : List ℕ → Reading RuleFile → Result Head Fault → Type 0
+SheetRead words reading (Ok head) =
+    (file : RuleFile) × (end : ℕ) × (reading ≡ got file end) × SheetParts words file head.symbols head.cursor.at
+SheetRead words reading (Err f) = reading ≡ fault (number_of f.code) f.offset

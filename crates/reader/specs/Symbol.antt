@@ -1,12 +1,15 @@
 -- What the answers of reading the symbols stand for.
-use Rattle.std.specs.Prelude.{◌≡◌, List, [], ◌∷◌, ◌++◌, Bool, true, false, cond, ◌&&◌, ◌||◌, ℕ, ◌<◌, eqb, length, get_or}
+use Rattle.std.specs.Prelude.{◌≡◌, List, [], ◌∷◌, ◌++◌, Bool, true, false, cond, ◌&&◌, ◌||◌, ℕ, ◌<◌, eqb}
+use Rattle.std.specs.Prelude.{get_or, Result, Ok, Err}
 use Rattle.terms.specs.Signature.{Symbol}
 use Rattle.format.specs.Layout.{first_form}
 use Rattle.format.specs.Reading.{Reading}
 use Rattle.format.specs.Reading.Reading.{got, fault}
 use Rattle.format.specs.Symbols.{held_by}
-use Rattle.answers.specs.declared.Answer.{Answer}
-use Rattle.answers.specs.declared.Answer.TheVariants.{Got, Fault}
+use Rattle.format.specs.Errors.{number_of}
+use Rattle.answers.specs.declared.Fault.{Fault}
+use Rattle.answers.specs.Answer.{Answer}
+use Rattle.bits.specs.declared.BitCursor.{BitCursor}
 
 -- The ranks that are marked are those of the symbols.
 abbrev pub TakenBy : List Symbol → List Bool → Type 0
@@ -31,20 +34,27 @@ LeastKept form w0 weightless least =
 
 -- What is kept after the weight of a symbol of that arity.
 abbrev pub Weighed : ℕ → ℕ → ℕ → Bool → Answer → List ℕ → Type 0
-Weighed form w0 arity weightless (Got weight next) least =
+Weighed form w0 arity weightless (Ok (weight, next)) least =
     LeastKept form w0 (weightless || (eqb arity 1 && eqb weight 0)) least
-Weighed form w0 arity weightless (Fault offset code) least = Unit {0}
+Weighed form w0 arity weightless (Err f) least = Unit {0}
 
--- What is read after the earlier symbols, where it ends and what is stored of it, the answer, and the symbols and the
+-- What is read after the earlier symbols, where it ends and what is stored of it, the result, and the symbols and the
 -- marks afterwards.
-abbrev pub SymbolPut : Reading Symbol → List Symbol → (ℕ → Type 0) → (Symbol → Type 0) → Answer → List Symbol →
-    List Bool → Type 0
-SymbolPut reading earlier End Put (Got value next) symbols taken =
-    (s : Symbol) × (reading ≡ got s next) × (symbols ≡ earlier ++ (s ∷ [])) × TakenBy symbols taken × End next × Put s
-SymbolPut reading earlier End Put (Fault offset code) symbols taken = reading ≡ fault code offset
+abbrev pub SymbolPut : Reading Symbol → List Symbol → (ℕ → Type 0) → (Symbol → Type 0) → Result BitCursor Fault →
+    List Symbol → List Bool → Type 0
+SymbolPut reading earlier End Put (Ok next) symbols taken =
+    (s : Symbol) × (reading ≡ got s next.at) × (symbols ≡ earlier ++ (s ∷ [])) × TakenBy symbols taken × End next.at
+    × Put s
+SymbolPut reading earlier End Put (Err f) symbols taken = reading ≡ fault (number_of f.code) f.offset
 
--- What is read of so many symbols and what is stored of them, the answer, and the symbols afterwards.
-abbrev pub SymbolsRead : Reading (List Symbol) → (List Symbol → Type 0) → Answer → List Symbol → Type 0
-SymbolsRead reading Put (Got value next) symbols =
-    (reading ≡ got symbols next) × (value ≡ length symbols) × Put symbols
-SymbolsRead reading Put (Fault offset code) symbols = reading ≡ fault code offset
+-- What is read of all symbols and what is stored of them, the result, and the symbols afterwards.
+abbrev pub TableRead : Reading (List Symbol) → (List Symbol → Type 0) → Result BitCursor Fault → List Symbol → Type 0
+TableRead reading Put (Ok next) symbols = (reading ≡ got symbols next.at) × Put symbols
+TableRead reading Put (Err f) symbols = reading ≡ fault (number_of f.code) f.offset
+
+-- The same, and whether one of them has arity 1 and weighs 0.
+abbrev pub SymbolsRead : Reading (List Symbol) → (List Symbol → Type 0) → Result (Bool × BitCursor) Fault →
+    List Symbol → Type 0
+SymbolsRead reading Put (Ok (weightless, next)) symbols =
+    (reading ≡ got symbols next.at) × (weightless ≡ has_zero_weight_unary symbols) × Put symbols
+SymbolsRead reading Put (Err f) symbols = reading ≡ fault (number_of f.code) f.offset

@@ -1,62 +1,69 @@
 // Reading a whole file, packed or a sheet: what stands before its rules, and its rules, or its first fault.
-ghost use Rattle.std.specs.Prelude.{◌≡◌, true, false, ℕ, ◌≤◌, length};
-ghost use Rattle.format.specs.Layout.{max_bytes};
-ghost use Rattle.format.specs.Forms.{is_taken, form_error, has_coefficients};
+ghost use Rattle.std.specs.Prelude.{◌≡◌, List, true, ℕ, ◌≤◌, length};
+ghost use Rattle.format.specs.Errors.{number_of};
+ghost use Rattle.format.specs.Forms.{is_taken, form_error};
 ghost use Rattle.format.specs.Files.{read_bytes_in, read_words};
 ghost use Rattle.symbols.specs.Table.{form_of, max_table_words};
-ghost use Rattle.bits.specs.Cursor.{told};
-ghost use Rattle.reader.specs.Source.{Reached, Room, read_source};
+ghost use Rattle.reader.specs.Source.{input_of, Reached, InSheet, Room, read_source};
+ghost use Rattle.reader.specs.Source.Input.{from_bytes, from_words};
 ghost use Rattle.reader.specs.File.{counts_reader, HeadRead, PackedRead, SheetRead};
 
 use crate::field::{field, field_at_least};
+use crate::form::Form;
+use crate::header::Header;
 use crate::rule::{read_packed_rules, read_word_rules};
-use answers::Answer;
-use bits::{BitCursor, Read};
-use format::{NO_SYMBOLS, SYMBOL_COUNT_WIDTH};
+use crate::source::Source;
+use answers::Fault;
+use bits::{BitCursor, Book};
+use format::{ErrorCode, SYMBOL_COUNT_WIDTH};
 
-// Reads the counts that follow that form, and the symbols; the value is how many symbols there are.
+// What stands before the rules of a file: how many symbols and rules there are, and where the rules begin.
+#[derive(Clone, Copy)]
+pub struct Head {
+    pub symbols: usize,
+    pub rules: usize,
+    pub cursor: BitCursor,
+}
+
+// How many words of a file stand in the table, and how many words its rules have.
+#[derive(Clone, Copy)]
+pub struct Unpacked {
+    pub front: usize,
+    pub nodes: usize,
+}
+
+// Reads the counts that follow that form, and the symbols.
 fn read_counts(
-    book: &[u8],
-    sheet: &[u16],
-    packed: bool,
-    form: u16,
+    source: Source,
+    form: Form,
     table: &mut [u16],
-    rules: &mut usize,
     cursor: BitCursor,
-) -> Read
-    requires book_len_bound { (length book.now ≤ max_bytes) × Reached packed book.now sheet.now 1 cursor.at }
-    requires room { Room packed max_table_words table.old × (has_coefficients form ≡ false) }
-    requires sheet_value { packed ≡ false → form_of sheet.now ≡ form }
-    ensures { (reader : ℕ) → is_taken reader form ≡ true →
-        HeadRead reader packed book.now sheet.now
-        (counts_reader form packed book.now sheet.now cursor.at) (told result) table.new
-        rules.new }
+) -> Result<Head, Fault>
+    requires reached { Reached (input_of source) 1 cursor.at }
+    requires room { Room (input_of source) max_table_words table.old }
+    requires sheet_value { InSheet (input_of source) (λ words. form_of words ≡ form.number) }
+    ensures { (reader : ℕ) → is_taken reader form.number ≡ true →
+        HeadRead reader (input_of source.entry)
+        (counts_reader form.number (input_of source.entry) cursor.at) result table.new }
 {
-    let read = field_at_least(
-        book,
-        sheet,
-        packed,
+    let error = ErrorCode::NoSymbols;
+    let (symbols, cursor) = field_at_least(source, cursor, SYMBOL_COUNT_WIDTH, 1, error)?;
+    let error = ErrorCode::VariableWeightless;
+    let (w0, cursor) = field_at_least(source, cursor, format::WEIGHT_WIDTH, 1, error)?;
+    let w0 = w0 as u16;
+    let (rules, cursor) = field(source, cursor, format::RULE_COUNT_WIDTH)?;
+    let header = Header {
+        form,
+        symbols,
+        w0,
+        rules,
+    };
+    let cursor = crate::table::read_table(source, table, header, cursor)?;
+    Ok(Head {
+        symbols,
+        rules,
         cursor,
-        SYMBOL_COUNT_WIDTH,
-        1,
-        NO_SYMBOLS,
-    );
-    let Read::Got { value, cursor } = read else {
-        return read;
-    };
-    let symbols = value;
-    let error = format::VARIABLE_WEIGHTLESS;
-    let read = field_at_least(book, sheet, packed, cursor, format::WEIGHT_WIDTH, 1, error);
-    let Read::Got { value, cursor } = read else {
-        return read;
-    };
-    let w0 = value as u16;
-    let read = field(book, sheet, packed, cursor, format::RULE_COUNT_WIDTH);
-    let Read::Got { value, cursor } = read else {
-        return read;
-    };
-    *rules = value;
-    crate::table::read_table(book, sheet, packed, table, form, w0, symbols, value, cursor)
+    })
 }
 
 // Whether a reader of that form takes a file of the form that it read.
@@ -67,92 +74,100 @@ fn is_taken(form: u16, read: usize) -> bool
 }
 
 // The error of a form that is not taken.
-fn form_error(form: usize) -> u8
-    ensures { result ≡ form_error form }
+fn form_error(form: usize) -> ErrorCode
+    ensures { number_of result ≡ form_error form }
 {
     if form == format::FIRST_FORM as usize {
-        return format::OLD_FORM;
+        return ErrorCode::OldForm;
     }
-    format::WRONG_FORM
+    ErrorCode::WrongForm
 }
 
 // Reads the header and the symbols of a file that a reader of that form takes, the symbols of a packed one into the
-// table, and stores the count of rules; the value is how many symbols there are.
-pub fn read_head(
-    book: &[u8],
-    sheet: &[u16],
-    packed: bool,
-    form: u16,
-    table: &mut [u16],
-    rules: &mut usize,
-) -> Read
-    requires { Room packed max_table_words table.old × (has_coefficients form ≡ false) }
-    ensures { HeadRead form packed book.now sheet.now
-        (read_source form packed book.now sheet.now) (told result) table.new
-        rules.new }
+// table.
+fn read_front(source: Source, form: Form, table: &mut [u16]) -> Result<Head, Fault>
+    requires { Room (input_of source) max_table_words table.old }
+    ensures { HeadRead form.number (input_of source.entry)
+        (read_source form.number (input_of source.entry)) result table.new }
+{
+    let start = BitCursor { at: 0 };
+    let (read, cursor) = field(source, start, format::FORM_WIDTH)?;
+    if !is_taken(form.number, read) {
+        let code = form_error(read);
+        return Err(Fault { code, offset: 0 });
+    }
+    let form = Form {
+        number: read as u16,
+    };
+    read_counts(source, form, table, cursor)
+}
+
+// Reads the header and the symbols of a packed file that a reader of that form takes, the symbols into the table.
+pub fn read_head(book: &[u8], form: Form, table: &mut [u16]) -> Result<Head, Fault>
+    requires { max_table_words ≤ length table.old }
+    ensures { HeadRead form.number (from_bytes book.now) (read_bytes_in form.number book.now) result table.new }
 {
     if format::MAX_BYTES < book.len() {
-        let code = format::FILE_TOO_LONG;
-        return Read::Fault { code, offset: 0 };
+        let code = ErrorCode::FileTooLong;
+        return Err(Fault { code, offset: 0 });
     }
-    let start = BitCursor { at: 0 };
-    let read = field(book, sheet, packed, start, format::FORM_WIDTH);
-    let Read::Got { value, cursor } = read else {
-        return read;
-    };
-    if !is_taken(form, value) {
-        let code = form_error(value);
-        return Read::Fault { code, offset: 0 };
-    }
-    read_counts(book, sheet, packed, value as u16, table, rules, cursor)
+    read_front(Source::Book(Book { bytes: book }), form, table)
+}
+
+// Reads the header and the symbols of a sheet that a reader of that form takes; no table is stored.
+pub fn read_sheet_head(sheet: &[u16], form: Form) -> Result<Head, Fault>
+    ensures { (table : List ℕ) →
+        HeadRead form.number (from_words sheet.now) (read_source form.number (from_words sheet.now)) result table }
+{
+    read_front(Source::Sheet(sheet), form, &mut [0u16; 0])
 }
 
 // Reads a packed file that a reader of that form takes, the words before its rules into the table and those of its
-// rules to the front of the words, the variables in order of first use. The value is how many words the rules have, and
-// in place of an offset how many stand in the table.
-pub fn read_packed(book: &[u8], form: u16, table: &mut [u16], words: &mut [u16]) -> Answer
-    requires { (max_table_words ≤ length table.old) × (has_coefficients form ≡ false) }
-    ensures { PackedRead book.now (read_bytes_in form book.now) result table.new
+// rules to the front of the words, the variables in order of first use.
+pub fn read_packed(
+    book: &[u8],
+    form: Form,
+    table: &mut [u16],
+    words: &mut [u16],
+) -> Result<Unpacked, Fault>
+    requires { max_table_words ≤ length table.old }
+    ensures { PackedRead book.now (read_bytes_in form.number book.now) result table.new
         words.old words.new }
 {
-    let mut rules = 0;
-    let read = read_head(book, &[0u16; 0], true, form, table, &mut rules);
-    let Read::Got { value, cursor } = read else {
-        return bits::told(read);
-    };
-    let front = symbols::front(value);
+    let head = read_head(book, form, table)?;
+    let front = symbols::front(head.symbols);
     let arities = &symbols::arities(&table[..front]);
-    let read = read_packed_rules(book, arities, words, form, rules, cursor);
-    let Read::Got { value, cursor } = read else {
-        return bits::told(read);
-    };
-    if cursor.is_padding(book) {
-        return Answer::Got { value, next: front };
+    let book = Book { bytes: book };
+    let (nodes, cursor) = read_packed_rules(
+        book,
+        arities,
+        words,
+        form.number,
+        head.rules,
+        head.cursor,
+    )?;
+    if !cursor.is_padding(book) {
+        let code = ErrorCode::BadPadding;
+        let offset = cursor.at;
+        return Err(Fault { code, offset });
     }
-    let code = format::BAD_PADDING;
-    let offset = cursor.at;
-    Answer::Fault { code, offset }
+    Ok(Unpacked { front, nodes })
 }
 
-// Reads a sheet. The value is how many symbols it has, and in place of an offset how many words stand before its rules.
-pub fn read_sheet(sheet: &[u16]) -> Answer
+// Reads a sheet. The cursor of its head tells how many words stand before its rules.
+pub fn read_sheet(sheet: &[u16]) -> Result<Head, Fault>
     ensures { SheetRead sheet.now (read_words sheet.now) result }
 {
-    let mut none = [0u16; 0];
-    let mut rules = 0;
-    let head = read_head(&[0u8; 0], sheet, false, format::FORM, &mut none, &mut rules);
-    let Read::Got { value: _, cursor } = head else {
-        return bits::told(head);
+    let form = Form {
+        number: format::FORM,
     };
+    let head = read_sheet_head(sheet, form)?;
     let unused = variables::unused_at_start(format::FORM);
-    let arities = &symbols::arities(&sheet[..cursor.at]);
-    let read = read_word_rules(arities, sheet, unused, rules, cursor.at);
-    let Answer::Got { value: _, next } = read else {
-        return read;
-    };
-    if next == sheet.len() {
-        return bits::told(head);
+    let arities = &symbols::arities(&sheet[..head.cursor.at]);
+    let end = read_word_rules(arities, sheet, unused, head.rules, head.cursor.at)?;
+    if end != sheet.len() {
+        let code = ErrorCode::WordsLeftOver;
+        return Err(Fault { code, offset: end });
     }
-    let code = format::WORDS_LEFT_OVER;
-    Answer::Fault { code, offset: next }
+    Ok(head)
 }

@@ -3,175 +3,155 @@ ghost use Rattle.std.specs.Prelude.{◌≡◌, List, [], ◌∷◌, ◌++◌, ma
 ghost use Rattle.terms.specs.Signature.{Symbol};
 ghost use Rattle.format.specs.Errors.{rank_taken};
 ghost use Rattle.format.specs.Layout.{form_number, max_bytes, rank_width};
-ghost use Rattle.format.specs.Forms.{has_coefficients};
 ghost use Rattle.format.specs.Symbols.{held_by, ones, symbol_reader, symbols_reader};
 ghost use Rattle.format.specs.Packing.{item_word, symbol_items};
 ghost use Rattle.symbols.specs.Table.{symbol_in, symbols_in, table_words, symbols_words};
-ghost use Rattle.answers.specs.Answer.{reading_of, Below};
+ghost use Rattle.answers.specs.Answer.{reading, Below};
 ghost use Rattle.bits.specs.Cursor.{told};
-ghost use Rattle.reader.specs.Source.{source_of, Reached, table_of, Room, Stored, tested};
+ghost use Rattle.reader.specs.Source.{input_of, source_of, Reached, InSheet, table_of, Room, Stored, tested};
 ghost use Rattle.reader.specs.File.{stored_form};
 ghost use Rattle.reader.specs.Symbol.{TakenBy, has_zero_weight_unary, LeastKept, SymbolPut, SymbolsRead};
 
 use crate::field::field;
-use crate::weight::{ARITIES, read_weight};
-use bits::{BitCursor, Read};
-use format::RANKS;
+use crate::form::Form;
+use crate::header::Header;
+use crate::source::Source;
+use crate::weight::read_weight;
+use answers::Fault;
+use bits::BitCursor;
+use format::{ARITIES, ErrorCode, RANKS};
+use symbols::Entry;
 
 // The rank here, which is to be none of those taken.
 fn read_rank(
-    book: &[u8],
-    sheet: &[u16],
-    packed: bool,
+    source: Source,
     taken: &[bool; RANKS],
     cursor: BitCursor,
-) -> Read
-    requires { length book.now ≤ max_bytes }
+) -> Result<(usize, BitCursor), Fault>
     ensures result_value { (earlier : List Symbol) → TakenBy earlier taken.now →
-        reading_of (λ (v : ℕ). v) (told result)
-        ≡ tested (source_of packed book.now sheet.now) rank_width
+        reading (told result)
+        ≡ tested (source_of (input_of source.entry)) rank_width
         (λ (rank : ℕ). not (held_by earlier rank)) rank_taken cursor.at }
     ensures below { Below 256 (told result) }
 {
-    let read = field(book, sheet, packed, cursor, format::RANK_WIDTH);
-    let Read::Got { value, cursor: _ } = read else {
-        return read;
-    };
-    if taken[value] {
-        let code = format::RANK_TAKEN;
+    let (rank, next) = field(source, cursor, format::RANK_WIDTH)?;
+    if taken[rank] {
+        let code = ErrorCode::RankTaken;
         let offset = cursor.at;
-        return Read::Fault { code, offset };
+        return Err(Fault { code, offset });
     }
-    read
+    Ok((rank, next))
+}
+
+// What is kept of the symbols read so far: which ranks are taken, and the least weights by the arity.
+#[derive(Clone, Copy)]
+struct Earlier {
+    taken: [bool; RANKS],
+    least: [u16; ARITIES],
+    ghost ranks: { length taken ≡ 256 },
 }
 
 // Stores the entry of the symbol of that number where the file is packed; among words it stands.
-fn put_entry(
-    table: &mut [u16],
-    packed: bool,
-    number: usize,
-    arity: u16,
-    ac: u16,
-    weight: u16,
-    rank: u16,
-)
-    requires { (number < 256) × Room packed (table_words (number + 1)) table.old × (arity < 8) × (ac < 2) }
-    ensures by_index { (words : List ℕ) (s : Symbol) →
+fn put_entry(source: Source, table: &mut [u16], number: usize, entry: Entry)
+    requires { (number < 256) × Room (input_of source) (table_words (number + 1)) table.old × (entry.arity < 8)
+        × (entry.ac < 2) }
+    ensures by_index { (s : Symbol) →
         s
-        ≡ record { arity = arity; ac = eqb ac 1; weight = weight; precedence = rank; coefficients = ones arity } →
-        (packed ≡ false → symbol_in false words number ≡ s) →
-        symbols_in false (table_of packed words table.new) 0 (number + 1)
-        ≡ symbols_in false (table_of packed words table.old) 0 number ++ (s ∷ []) }
-    ensures stored { Stored packed (table_words number) (arity ∷ ac ∷ weight ∷ rank ∷ []) table.old table.new }
+        ≡ record {
+          arity = entry.arity;
+          ac = eqb entry.ac 1;
+          weight = entry.weight;
+          precedence = entry.rank;
+          coefficients = ones entry.arity;
+        } →
+        InSheet (input_of source.entry) (λ words. symbol_in false words number ≡ s) →
+        symbols_in false (table_of (input_of source.entry) table.new) 0 (number + 1)
+        ≡ symbols_in false (table_of (input_of source.entry) table.old) 0 number ++ (s ∷ []) }
+    ensures stored { Stored (input_of source.entry) (table_words number)
+        (entry.arity ∷ entry.ac ∷ entry.weight ∷ entry.rank ∷ []) table.old table.new }
 {
-    if packed {
-        symbols::put_symbol(table, number, arity, ac, weight, rank);
+    match source {
+        Source::Book(_) => symbols::put_symbol(table, number, entry),
+        Source::Sheet(_) => {}
     }
 }
 
-// Reads the symbol of that number, of a packed file into the table, after those before it, and marks its rank. The
-// least weights are kept for those after it.
+// Reads the symbol of that number, of a packed file into the table, after those before it, and keeps of it
+// what is asked of those after it.
 fn read_symbol(
-    book: &[u8],
-    sheet: &[u16],
-    packed: bool,
+    source: Source,
     table: &mut [u16],
-    taken: &mut [bool; RANKS],
-    form: u16,
-    least: &mut [u16; ARITIES],
+    earlier: &mut Earlier,
+    form: Form,
     number: usize,
     cursor: BitCursor,
-) -> Read
-    requires book_len_bound { (length book.now ≤ max_bytes) × (number < 256) × Room packed (table_words (number + 1)) table.old }
-    requires reached { Reached packed book.now sheet.now (table_words number) cursor.at }
-    requires taken_by { TakenBy (symbols_in false (table_of packed sheet.now table.old) 0 number) taken.old
-        × (length taken.old ≡ 256) × (has_coefficients form ≡ false) }
-    ensures by_index { (w0 : ℕ) →
-        LeastKept form w0 (has_zero_weight_unary (symbols_in false
-        (table_of packed sheet.now table.old) 0
-        number)) least.old →
+) -> Result<BitCursor, Fault>
+    requires room { (number < 256) × Room (input_of source) (table_words (number + 1)) table.old }
+    requires reached { Reached (input_of source) (table_words number) cursor.at }
+    requires taken_by { TakenBy (symbols_in false (table_of (input_of source) table.old) 0 number) earlier.old.taken }
+    ensures { (w0 : ℕ) →
+        LeastKept form.number w0 (has_zero_weight_unary (symbols_in false
+        (table_of (input_of source.entry) table.old) 0
+        number)) earlier.old.least →
         SymbolPut
-        (symbol_reader (source_of packed book.now sheet.now) form w0
-        (symbols_in false (table_of packed sheet.now table.old) 0 number) cursor.at)
-        (symbols_in false (table_of packed sheet.now table.old) 0 number)
-        (Reached packed book.now sheet.now (table_words (number + 1)))
-        (λ (s : Symbol). Stored packed (table_words number) (map item_word (symbol_items form_number s))
+        (symbol_reader (source_of (input_of source.entry)) form.number w0
+        (symbols_in false (table_of (input_of source.entry) table.old) 0 number) cursor.at)
+        (symbols_in false (table_of (input_of source.entry) table.old) 0 number)
+        (Reached (input_of source.entry) (table_words (number + 1)))
+        (λ (s : Symbol). Stored (input_of source.entry) (table_words number) (map item_word (symbol_items form_number s))
         table.old
-        table.new × LeastKept form w0
-        (has_zero_weight_unary (symbols_in false (table_of packed sheet.now table.new) 0 (number + 1)))
-        least.new) (told result)
-        (symbols_in false (table_of packed sheet.now table.new) 0 (number + 1)) taken.new }
-    ensures taken_len { length taken.new ≡ 256 }
+        table.new × LeastKept form.number w0
+        (has_zero_weight_unary (symbols_in false (table_of (input_of source.entry) table.new) 0 (number + 1)))
+        earlier.new.least) result
+        (symbols_in false (table_of (input_of source.entry) table.new) 0 (number + 1)) earlier.new.taken }
 {
     let offset = cursor.at;
-    let read = field(book, sheet, packed, cursor, format::ARITY_WIDTH);
-    let Read::Got { value, cursor } = read else {
-        return read;
-    };
-    let arity = value as u16;
-    let read = field(book, sheet, packed, cursor, format::AC_WIDTH);
-    let Read::Got { value, cursor } = read else {
-        return read;
-    };
-    let ac = value as u16;
+    let (arity, cursor) = field(source, cursor, format::ARITY_WIDTH)?;
+    let arity = arity as u16;
+    let (ac, cursor) = field(source, cursor, format::AC_WIDTH)?;
+    let ac = ac as u16;
     if !symbols::binary_if_ac(arity, ac) {
-        let code = format::AC_NOT_BINARY;
-        return Read::Fault { code, offset };
+        let code = ErrorCode::AcNotBinary;
+        return Err(Fault { code, offset });
     }
-    let read = read_weight(book, sheet, packed, form, least, arity, cursor);
-    let Read::Got { value, cursor } = read else {
-        return read;
+    let (weight, cursor) = read_weight(source, form.number, &mut earlier.least, arity, cursor)?;
+    let (rank, cursor) = read_rank(source, &earlier.taken, cursor)?;
+    let entry = Entry {
+        arity,
+        ac,
+        weight: weight as u16,
+        rank: rank as u16,
     };
-    let weight = value as u16;
-    let read = read_rank(book, sheet, packed, taken, cursor);
-    let Read::Got { value, cursor: _ } = read else {
-        return read;
-    };
-    put_entry(table, packed, number, arity, ac, weight, value as u16);
-    taken[value] = true;
-    read
+    put_entry(source, table, number, entry);
+    earlier.taken[rank] = true;
+    Ok(cursor)
 }
 
-// Reads that many symbols, those of a packed file into the table; the value is their number, and the flag is set if one
-// has arity 1 and weighs 0.
+// Reads the symbols, those of a packed file into the table, and tells whether one has arity 1 and weighs 0.
 fn read_symbols_from(
-    book: &[u8],
-    sheet: &[u16],
-    packed: bool,
+    source: Source,
     table: &mut [u16],
-    weightless: &mut bool,
-    form: u16,
-    w0: u16,
-    count: usize,
+    header: Header,
     cursor: BitCursor,
-) -> Read
-    requires book_len_bound { (length book.now ≤ max_bytes) × (count < 256) × Room packed (table_words count) table.old }
-    requires reached { Reached packed book.now sheet.now 4 cursor.at × (has_coefficients form ≡ false) }
+) -> Result<(bool, BitCursor), Fault>
+    requires room { Room (input_of source) (table_words header.symbols) table.old }
+    requires reached { Reached (input_of source) 4 cursor.at }
     ensures { SymbolsRead
-        (symbols_reader (source_of packed book.now sheet.now) form w0 count []
-        cursor.at)
-        (λ (ss : List Symbol). Stored packed 4 (symbols_words ss) table.old table.new
-        × (weightless.new ≡ has_zero_weight_unary ss)) (told result)
-        (symbols_in false (table_of packed sheet.now table.new) 0 count) }
+        (symbols_reader (source_of (input_of source.entry)) header.form.number header.w0
+        header.symbols [] cursor.at)
+        (λ (ss : List Symbol). Stored (input_of source.entry) 4 (symbols_words ss)
+        table.old table.new) result
+        (symbols_in false (table_of (input_of source.entry) table.new) 0 header.symbols) }
 {
-    let mut taken = [false; RANKS];
-    let mut least = crate::weight::least_weights(w0);
+    let mut earlier = Earlier {
+        taken: [false; RANKS],
+        least: crate::weight::least_weights(header.w0),
+    };
     let mut here = cursor;
-    let mut number = 0;
-    while number < count {
-        match read_symbol(
-            book, sheet, packed, table, &mut taken, form, &mut least, number, here,
-        ) {
-            Read::Fault { code, offset } => return Read::Fault { code, offset },
-            Read::Got { value, cursor } => here = cursor,
-        }
-        number += 1;
+    for number in 0..header.symbols {
+        here = read_symbol(source, table, &mut earlier, header.form, number, here)?;
     }
-    *weightless = least[1] == 0;
-    Read::Got {
-        value: count,
-        cursor: here,
-    }
+    Ok((earlier.least[1] == 0, here))
 }
 
 // The form of the file that is stored where one of that form is read.
@@ -187,33 +167,33 @@ fn stored_form(form: u16) -> u16
 // The same, the header of a packed file stored too, by one branch on the source, so that the compiler makes a loop for
 // each.
 pub fn read_symbols(
-    book: &[u8],
-    sheet: &[u16],
-    packed: bool,
+    source: Source,
     table: &mut [u16],
-    weightless: &mut bool,
-    form: u16,
-    w0: u16,
-    count: usize,
-    rules: usize,
+    header: Header,
     cursor: BitCursor,
-) -> Read
-    requires book_len_bound { (length book.now ≤ max_bytes) × (count < 256) × Room packed (table_words count) table.old }
-    requires reached { Reached packed book.now sheet.now 4 cursor.at × (rules < 1024) × (has_coefficients form ≡ false) }
+) -> Result<(bool, BitCursor), Fault>
+    requires room { Room (input_of source) (table_words header.symbols) table.old }
+    requires reached { Reached (input_of source) 4 cursor.at }
     ensures { SymbolsRead
-        (symbols_reader (source_of packed book.now sheet.now) form w0 count []
-        cursor.at)
-        (λ (ss : List Symbol). Stored packed 0 (stored_form form ∷ count ∷ w0 ∷ rules ∷ symbols_words ss)
-        table.old table.new × (weightless.new ≡ has_zero_weight_unary ss)) (told result)
-        (symbols_in false (table_of packed sheet.now table.new) 0 count) }
+        (symbols_reader (source_of (input_of source.entry)) header.form.number header.w0
+        header.symbols [] cursor.at)
+        (λ (ss : List Symbol). Stored (input_of source.entry) 0
+        (stored_form header.form.number ∷ header.symbols ∷ header.w0 ∷ header.rules ∷ symbols_words ss)
+        table.old table.new) result
+        (symbols_in false (table_of (input_of source.entry) table.new) 0 header.symbols) }
 {
-    if packed {
-        symbols::put_header(table, stored_form(form), count as u16, w0, rules as u16);
-        return read_symbols_from(
-            book, sheet, true, table, weightless, form, w0, count, cursor,
-        );
+    match source {
+        Source::Book(book) => {
+            let form = stored_form(header.form.number);
+            symbols::put_header(
+                table,
+                form,
+                header.symbols as u16,
+                header.w0,
+                header.rules as u16,
+            );
+            read_symbols_from(Source::Book(book), table, header, cursor)
+        }
+        Source::Sheet(sheet) => { read_symbols_from(Source::Sheet(sheet), table, header, cursor) }
     }
-    read_symbols_from(
-        book, sheet, false, table, weightless, form, w0, count, cursor,
-    )
 }

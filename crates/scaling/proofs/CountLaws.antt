@@ -18,7 +18,8 @@ use Rattle.terms.specs.Signature.{Signature}
 use Rattle.terms.specs.Term.{Term, variable_coefficient, variable_count}
 use Rattle.terms.specs.Words.{first_variable, term_of}
 use Rattle.terms.specs.Oftener.{oftener_from, first_oftener}
-use Rattle.scaling.specs.Scaled.{limit, factor_at, count_to, Side, Ends, CountedAt, more_from}
+use Rattle.scaling.specs.declared.sums.Offset.{Offset}
+use Rattle.scaling.specs.Scaled.{limit, factor_at, count_to, offset_in, Side, Ends, CountedAt, more_from}
 use Rattle.scaling.proofs.OffsetLaws.{scaled_to-suc, part-scaled, scaled-le, count-light}
 
 -- The counts of the words from i to before k.
@@ -28,7 +29,7 @@ CountedTo σ ws i k counts = (x : ℕ) → x < variable_count → count_to σ x 
 pub counted_start : (σ : Signature) (ws : List ℕ) (i : ℕ) → CountedTo σ ws i i (replicate 16 0)
 counted_start σ ws i x h = omega (arith, get_or-replicate {A = ℕ} 16 x 0 0 h)
 
-module _ {σ : Signature} {ws sums : List ℕ} (S : Side σ ws sums) where
+module _ {σ : Signature} {ws : List ℕ} {sums : List Offset} (S : Side σ ws sums) where
   light : (x : ℕ) → variable_coefficient σ x (term_of σ ws) < limit
   light x = omega (arith, count-light σ S.positive x (term_of σ ws), S.light)
 
@@ -58,8 +59,8 @@ module _ {σ : Signature} {ws sums : List ℕ} (S : Side σ ws sums) where
           let e = rw (le-ltb u first_variable l, eq-eqb y y refl) at (one_more y) in
           omega (arith, mul-one (factor_at σ ws k))
 
-      pub own-fits : get_or sums (3 * k + 1) 0 ≡ factor_at σ ws k →
-          get_or counts y 0 + get_or sums (3 * k + 1) 0 < limit
+      pub own-fits : (offset_in sums k).product ≡ factor_at σ ws k →
+          get_or counts y 0 + (offset_in sums k).product < limit
       own-fits f = omega (arith, so y (omega arith), at_own, counts-below y (k + 1))
 
       pub counted-more : {f : ℕ} → f ≡ factor_at σ ws k →

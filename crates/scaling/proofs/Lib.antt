@@ -8,3 +8,4 @@ pub mod WholeLaws
 pub mod StoredLaws
 pub mod CountLaws
 pub mod RowLaws
+pub mod SideLaws

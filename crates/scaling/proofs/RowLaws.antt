@@ -7,7 +7,7 @@ use mathlib.Core.Bool.{Bool, true, false}
 use mathlib.Core.Path.{◌≡◌, refl, sym, ap, ◌∙◌}
 use Prim.Native.Nat.{ℕ, suc, zero, ◌+◌, ◌*◌, ◌/◌, ◌%◌, ◌≤◌, ◌<◌}
 use native.Mathlib.Omega.{arith}
-use lib.ListN.{length, get_or, replicate, get_or-replicate, length-replicate, get_or-eq_default}
+use lib.ListN.{length, get_or, set, replicate, get_or-replicate, length-replicate, get_or-eq_default}
 use borrow.Author.Tests.{lt-ltb}
 use Rattle.multisets.proofs.Relations.{by_order}
 use Rattle.terms.specs.Signature.{Symbol, Signature, symbol_of, coefficients_of}
@@ -17,9 +17,9 @@ use Rattle.format.specs.Symbols.{ones}
 use Rattle.symbols.specs.Table.{digits, spelled, row_at, symbol_in, form_of, signature_of}
 use Rattle.symbols.proofs.TableLaws.{symbol-at}
 use Rattle.symbols.proofs.RowLaws.{spelled-snoc, digits-spelled}
-use Rattle.weights.specs.Nodes.{triple}
-use Rattle.weights.proofs.TripleLaws.{triple-same, triple-other}
-use Rattle.scaling.specs.Scaled.{own_weight, Scaling, RowAt, NodeRows, Ranged}
+use lib.Seq.{get_or-set_same, get_or-set_other}
+use Rattle.scaling.specs.declared.rows.NodeRow.{NodeRow}
+use Rattle.scaling.specs.Scaled.{no_row, row_in, Scaling, RowOf, NodeRows, Ranged}
 
 -- What a signature says of a number that is no symbol's.
 abbrev nothing : Symbol
@@ -57,71 +57,40 @@ row_read table f e = rw e (read (symbol-at table f) (digits_in (has_coefficients
 -- ---- all node words
 
 module _ (σ : Signature) where
-  -- The same three numbers.
-  row_same : {after before : List ℕ} (u : ℕ) → ((kind : ℕ) → kind < 3 →
-      get_or after (3 * u + kind) 0 ≡ get_or before (3 * u + kind) 0) →
-      RowAt σ before u → RowAt σ after u
-  row_same u h R =
-      let z : 3 * u + 0 ≡ 3 * u = omega arith in
-      let a = rw z at (h 0 (omega arith)) in
-      record {
-        weight = a ∙ R.weight;
-        light = rw a R.light;
-        row = rw (h 1 (omega arith)) R.row;
-        arity = h 2 (omega arith) ∙ R.arity;
-      }
+  pub ranged-none : (from : ℕ) (rows : List NodeRow) → Ranged σ from from rows rows
+  ranged-none from rows =
+      record { inside = λ u h k. absurd (omega arith); lower = λ u h. refl; higher = λ u h. refl }
 
-  pub ranged-none : (from : ℕ) (adds : List ℕ) → Ranged σ from from adds adds
-  ranged-none from adds =
-      record { inside = λ u h k. absurd (omega arith); lower = λ j h. refl; higher = λ j h. refl }
+  pub ranged-more : (from to : ℕ) (before rows : List NodeRow) (r : NodeRow) → length rows ≡ 272 → from ≤ to → to < 272 →
+      RowOf σ to r → Ranged σ from to before rows → Ranged σ from (to + 1) before (set rows to r)
+  ranged-more from to before rows r long le lt e R = record {
+    inside = λ u h k. by_order u to (λ l. rw (get_or-set_other rows to u r no_row (λ q. omega arith)) (R.inside u h l))
+        λ l. let q : u ≡ to = omega arith in rw (q, get_or-set_same rows to r no_row (omega arith)) e;
+    lower = λ u h. get_or-set_other rows to u r no_row (λ q. omega arith) ∙ R.lower u h;
+    higher = λ u h. get_or-set_other rows to u r no_row (λ q. omega arith) ∙ R.higher u (omega arith);
+  }
 
-  pub ranged-more : (from to : ℕ) (before adds : List ℕ) (a b c : ℕ) → length adds ≡ 816 → from ≤ to → to < 272 →
-      (a ≡ own_weight σ to) × (a < 65536) → digits (symbol_of σ to).arity b ≡ coefficients_of σ to →
-      c ≡ (symbol_of σ to).arity → Ranged σ from to before adds → Ranged σ from (to + 1) before (triple adds to a b c)
-  ranged-more from to before adds a b c long le lt (ea, sa) eb ec R =
-      let same = triple-same adds to a b c (omega arith) in
-      let z : 3 * to + 0 ≡ 3 * to = omega arith in
-      let first = rw z at (same 0 (omega arith)) in
-      record {
-        inside = λ u h k. by_order u to
-            (λ l. row_same u (λ kind m. triple-other adds to a b c (3 * u + kind) (λ e. omega arith)) (R.inside u h l))
-            λ l. let q : u ≡ to = omega arith in
-            rw q (record {
-              weight = first ∙ ea;
-              light = rw first sa;
-              row = rw (same 1 (omega arith)) eb;
-              arity = same 2 (omega arith) ∙ ec;
-            });
-        lower = λ j h. triple-other adds to a b c j (λ e. omega arith) ∙ R.lower j h;
-        higher = λ j h. triple-other adds to a b c j (λ e. omega arith) ∙ R.higher j (omega arith);
-      }
-
-  module _ (S : Scaling σ) (middle after : List ℕ) (R : Ranged σ 0 (length σ.symbols) (replicate 816 0) middle)
-      (W : Ranged σ 256 272 middle after) where
+  module _ (S : Scaling σ) (middle after : List NodeRow)
+      (R : Ranged σ 0 (length σ.symbols) (replicate 272 no_row) middle) (W : Ranged σ 256 272 middle after) where
     -- A symbol that the signature lacks weighs nothing and has no arguments.
-    absent : (u : ℕ) → length σ.symbols ≤ u → u < 256 → RowAt σ middle u
+    absent : (u : ℕ) → length σ.symbols ≤ u → u < 256 → RowOf σ u (row_in middle u)
     unfolding digits
     absent u h k =
         let none : symbol_of σ u ≡ nothing = get_or-eq_default σ.symbols nothing h in
-        let zeros : (kind : ℕ) → kind < 3 → get_or middle (3 * u + kind) 0 ≡ 0 =
-        λ kind l. R.higher (3 * u + kind) (omega arith) ∙ get_or-replicate {A = ℕ} 816 (3 * u + kind) 0 0
-        (omega arith) in
-        let z : 3 * u + 0 ≡ 3 * u = omega arith in
-        let a = rw z at (zeros 0 (omega arith)) in
-        let w = ap (λ (s : Symbol). s.weight) none in
+        let zeros : row_in middle u ≡ no_row =
+        R.higher u h ∙ get_or-replicate {A = NodeRow} 272 u no_row no_row (omega arith) in
         let r = ap (λ (s : Symbol). s.arity) none in
-        record {
-          weight = rw (lt-ltb u 256 k) (a ∙ sym w);
+        rw zeros (record {
+          weight = rw (lt-ltb u 256 k) (sym (ap (λ (s : Symbol). s.weight) none));
           light = omega arith;
           row = rw (r, ap (λ (s : Symbol). s.coefficients) none);
-          arity = zeros 2 (omega arith) ∙ sym r;
-        }
+          arity = sym r;
+        })
 
     pub node-rows : NodeRows σ after
     node-rows = record {
       scaling = S;
       node = λ u h. by_order u 256
-          (λ l. row_same u (λ kind m. W.lower (3 * u + kind) (omega arith))
-          (by_order u (length σ.symbols) (R.inside u (omega arith)) λ k. absent u k l))
+          (λ l. rw (W.lower u l) (by_order u (length σ.symbols) (R.inside u (omega arith)) λ k. absent u k l))
           λ l. W.inside u l h;
     }

@@ -9,7 +9,8 @@ use lib.ListN.{length, get_or, set, drop, length-set}
 use lib.Seq.{get_or-set_same, get_or-set_other}
 use Rattle.terms.specs.Signature.{Signature, symbol_of, coefficients_of}
 use Rattle.symbols.specs.Table.{digits}
-use Rattle.scaling.specs.Scaled.{cut, pushed, push_row, two_more, listed, step, NodeRows}
+use Rattle.scaling.specs.declared.rows.NodeRow.{NodeRow}
+use Rattle.scaling.specs.Scaled.{cut, pushed, push_row, two_more, listed, step, row_in, NodeRows}
 
 listed-set : (stack : List ℕ) (n i a : ℕ) → n ≤ i → listed (set stack i a) n ≡ listed stack n
 unfolding listed
@@ -40,15 +41,11 @@ row_pushed m (suc n) row ms =
     ∙ sym (pushed-append m (digits n (row / 16)) (row % 16 ∷ []) ms)
 
 -- One more digit.
-pub push-more : (m left row : ℕ) (stack : List ℕ) (end a : ℕ) → 0 < left → end < length stack →
-    a ≡ cut (m * (row % 16)) →
-    push_row m (left - 1) (row / 16) (listed (set stack end a) (end + 1)) ≡ push_row m left row (listed stack end)
+pub push-more : (m left row : ℕ) (stack : List ℕ) (end a : ℕ) → end < length stack → a ≡ cut (m * (row % 16)) →
+    push_row m left (row / 16) (listed (set stack end a) (end + 1)) ≡ push_row m (suc left) row (listed stack end)
 unfolding push_row
-push-more m zero row stack end a p h e = absurd (omega arith)
-push-more m (suc n) row stack end a p h e =
-    let q : end + 1 ≡ suc end = omega arith in
-    let r : suc n - 1 ≡ n = omega arith in
-    rw (q, r, listed-push stack end a h, e)
+push-more m left row stack end a h e =
+    let q : end + 1 ≡ suc end = omega arith in rw (q, listed-push stack end a h, e)
 
 pub push-none : (m row left : ℕ) (ms : List ℕ) → left ≡ 0 → ms ≡ push_row m left row ms
 unfolding push_row
@@ -100,39 +97,39 @@ listed-first stack zero h = absurd (omega arith)
 listed-first stack (suc n) h = let e : suc n - 1 ≡ n = omega arith in rw e (refl, refl)
 
 -- One word more, by what is stored for it.
-pub step_pushed : (σ : Signature) (adds : List ℕ) → NodeRows σ adds → (word : ℕ) → word < 272 →
+pub step_pushed : (σ : Signature) (rows : List NodeRow) → NodeRows σ rows → (word : ℕ) → word < 272 →
     (stack : List ℕ) (top : ℕ) →
     0 < top →
-    push_row (get_or stack (top - 1) 0) (get_or adds (3 * word + 2) 0) (get_or adds (3 * word + 1) 0)
+    push_row (get_or stack (top - 1) 0) ((row_in rows word).arity) ((row_in rows word).row)
     (listed stack (top - 1)) ≡
     step σ (listed stack top) word
-step_pushed σ adds N word h stack top p =
+step_pushed σ rows N word h stack top p =
     let (e, d) = listed-first stack top p in
     let m = get_or stack (top - 1) 0 in
     let ms = listed stack (top - 1) in
-    rw (N.node word h).arity (row_pushed m (symbol_of σ word).arity (get_or adds (3 * word + 1) 0) ms
+    rw (N.node word h).arity (row_pushed m (symbol_of σ word).arity ((row_in rows word).row) ms
     ∙ ap (λ (cs : List ℕ). pushed m cs ms) (N.node word h).row
     ∙ ap₂ (λ (x : ℕ) (l : List ℕ). pushed x (coefficients_of σ word) l) (sym e) (sym d))
 
-module _ (σ : Signature) (adds : List ℕ) (N : NodeRows σ adds) (word : ℕ) (h : word < 272) (stack : List ℕ) (top : ℕ)
+module _ (σ : Signature) (rows : List NodeRow) (N : NodeRows σ rows) (word : ℕ) (h : word < 272) (stack : List ℕ) (top : ℕ)
     (p : 0 < top) (room : top < length stack) where
   abbrev factor : ℕ
   factor = get_or stack (top - 1) 0
 
   abbrev two : List ℕ
-  two = two_more factor (get_or adds (3 * word + 1) 0) stack (top - 1)
+  two = two_more factor ((row_in rows word).row) stack (top - 1)
 
   -- Its arguments are two or fewer, and more.
-  pub few-advanced : get_or adds (3 * word + 2) 0 ≤ 2 →
-      listed two (top - 1 + get_or adds (3 * word + 2) 0) ≡ step σ (listed stack top) word
+  pub few-advanced : (row_in rows word).arity ≤ 2 →
+      listed two (top - 1 + (row_in rows word).arity) ≡ step σ (listed stack top) word
   few-advanced l =
-      few-stored factor (get_or adds (3 * word + 1) 0) stack (top - 1) (omega arith) (get_or adds (3 * word + 2) 0) l
-      ∙ step_pushed σ adds N word h stack top p
+      few-stored factor ((row_in rows word).row) stack (top - 1) (omega arith) ((row_in rows word).arity) l
+      ∙ step_pushed σ rows N word h stack top p
 
-  pub more-advanced : {l : List ℕ} → 2 < get_or adds (3 * word + 2) 0 →
-      l ≡ push_row factor (get_or adds (3 * word + 2) 0 - 2) (get_or adds (3 * word + 1) 0 / 16 / 16)
+  pub more-advanced : {l : List ℕ} → 2 < (row_in rows word).arity →
+      l ≡ push_row factor ((row_in rows word).arity - 2) ((row_in rows word).row / 16 / 16)
       (listed two (top - 1 + 2)) →
       l ≡ step σ (listed stack top) word
   more-advanced m e =
-      e ∙ more-stored factor (get_or adds (3 * word + 1) 0) stack (top - 1) (omega arith) (get_or adds (3 * word + 2) 0) m
-      ∙ step_pushed σ adds N word h stack top p
+      e ∙ more-stored factor ((row_in rows word).row) stack (top - 1) (omega arith) ((row_in rows word).arity) m
+      ∙ step_pushed σ rows N word h stack top p

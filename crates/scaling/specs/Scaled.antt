@@ -7,6 +7,8 @@ use Rattle.format.specs.Statements.{IsTerm}
 use Rattle.symbols.specs.Table.{digits}
 use Rattle.subterms.specs.Parts.{part_at}
 use Rattle.weights.specs.Nodes.{node}
+use Rattle.scaling.specs.declared.rows.NodeRow.{NodeRow}
+use Rattle.scaling.specs.declared.sums.Offset.{Offset}
 
 -- 02: "Weighing now gives up to 4,294,967,295"; the first number above it.
 abbrev pub limit : ℕ
@@ -25,6 +27,16 @@ pushed m (c ∷ cs) ms = cut (m * c) ∷ pushed m cs ms
 unfoldable pub push_row : ℕ → ℕ → ℕ → List ℕ → List ℕ
 push_row m zero row ms = ms
 push_row m (suc n) row ms = push_row m n (row / 16) (cut (m * (row % 16)) ∷ ms)
+
+-- What is stored for a node word, and for an offset.
+abbrev pub no_row : NodeRow
+no_row = record { weight = 0; row = 0; arity = 0 }
+
+abbrev pub row_in : List NodeRow → ℕ → NodeRow
+row_in rows u = get_or rows u no_row
+
+abbrev pub offset_in : List Offset → ℕ → Offset
+offset_in sums k = get_or sums k (record { sum = 0; product = 0 })
 
 -- A stack with the products for the two lowest digits stored from an index on.
 abbrev pub two_more : ℕ → ℕ → List ℕ → ℕ → List ℕ
@@ -75,33 +87,33 @@ module _ (σ : Signature) where
     pub full : (f : ℕ) → length (coefficients_of σ f) ≡ (symbol_of σ f).arity
     pub positive : (f : ℕ) → AllPositive (coefficients_of σ f)
 
-  -- What is stored for a node word, in three numbers: its own weight, its coefficients, its arity.
-  pub record RowAt (adds : List ℕ) (u : ℕ) : Type 0 where
-    pub weight : get_or adds (3 * u) 0 ≡ own_weight u
-    pub light : get_or adds (3 * u) 0 < 65536
-    pub row : digits (symbol_of σ u).arity (get_or adds (3 * u + 1) 0) ≡ coefficients_of σ u
-    pub arity : get_or adds (3 * u + 2) 0 ≡ (symbol_of σ u).arity
+  -- What is stored for a node word: its own weight, its coefficients, its arity.
+  pub record RowOf (u : ℕ) (r : NodeRow) : Type 0 where
+    pub weight : r.weight ≡ own_weight u
+    pub light : r.weight < 65536
+    pub row : digits (symbol_of σ u).arity r.row ≡ coefficients_of σ u
+    pub arity : r.arity ≡ (symbol_of σ u).arity
 
   -- What is stored for all node words; for those from one on to before another, the others as they were.
-  pub record NodeRows (adds : List ℕ) : Type 0 where
+  pub record NodeRows (rows : List NodeRow) : Type 0 where
     pub scaling : Scaling
-    pub node : (u : ℕ) → u < 272 → RowAt adds u
+    pub node : (u : ℕ) → u < 272 → RowOf u (row_in rows u)
 
-  pub record Ranged (from to : ℕ) (before after : List ℕ) : Type 0 where
-    pub inside : (u : ℕ) → from ≤ u → u < to → RowAt after u
-    pub lower : (j : ℕ) → j < 3 * from → get_or after j 0 ≡ get_or before j 0
-    pub higher : (j : ℕ) → 3 * to ≤ j → get_or after j 0 ≡ get_or before j 0
+  pub record Ranged (from to : ℕ) (before after : List NodeRow) : Type 0 where
+    pub inside : (u : ℕ) → from ≤ u → u < to → RowOf u (row_in after u)
+    pub lower : (u : ℕ) → u < from → row_in after u ≡ row_in before u
+    pub higher : (u : ℕ) → to ≤ u → row_in after u ≡ row_in before u
 
   -- What is stored for each offset of a term: the sum of the weights before it, and the product above the word there;
   -- past the words, 1 in its place.
-  pub record ScaledUp (ws sums : List ℕ) : Type 0 where
-    pub room : length sums ≡ 387
-    pub past : get_or sums (3 * length ws + 1) 0 ≡ 1
-    pub before : (k : ℕ) → k ≤ length ws → get_or sums (3 * k) 0 ≡ weight_to ws k
-    pub factor : (k : ℕ) → k < length ws → get_or sums (3 * k + 1) 0 ≡ factor_at ws k
+  pub record ScaledUp (ws : List ℕ) (sums : List Offset) : Type 0 where
+    pub room : length sums ≡ 129
+    pub past : (offset_in sums (length ws)).product ≡ 1
+    pub before : (k : ℕ) → k ≤ length ws → (offset_in sums k).sum ≡ weight_to ws k
+    pub factor : (k : ℕ) → k < length ws → (offset_in sums k).product ≡ factor_at ws k
 
   -- A term that is not too heavy, with what is stored for its offsets.
-  pub record Side (ws sums : List ℕ) : Type 0 where
+  pub record Side (ws : List ℕ) (sums : List Offset) : Type 0 where
     pub scaling : Scaling
     pub positive : 0 < σ.w0
     pub term : IsTerm σ ws

@@ -1,59 +1,59 @@
 // What each node word counts: its own weight, its coefficients and its arity.
-ghost use Rattle.std.specs.Prelude.{◌≡◌, ◌≤◌, ◌<◌, length, replicate};
+ghost use Rattle.std.specs.Prelude.{◌≡◌, ◌≤◌, length, replicate};
 ghost use Rattle.terms.specs.Signature.{Admissible};
 ghost use Rattle.symbols.specs.Table.{signature_of, max_table_words};
-ghost use Rattle.weights.specs.Nodes.{triple};
-ghost use Rattle.scaling.specs.Scaled.{own_weight, NodeRows, Ranged};
+ghost use Rattle.scaling.specs.Scaled.{no_row, RowOf, NodeRows, Ranged};
 
-use crate::NODE_ROWS;
-
-// The weight of a node.
-fn node_weight(table: &[u16], word: u16) -> u64
-    ensures { (result ≡ own_weight (signature_of table.now) word) × (result < 65536) }
-{
-    if word < format::FIRST_VARIABLE {
-        return symbols::weight(table, word);
-    }
-    symbols::variable_weight(table)
+// What a node word counts; the coefficients are the digits of the row, the last one lowest.
+#[derive(Clone, Copy)]
+pub struct NodeRow {
+    pub weight: u64,
+    pub row: u64,
+    pub arity: usize,
 }
 
-// Stores three numbers for a node word.
-fn put_row(adds: &mut [u64; NODE_ROWS], word: usize, weight: u64, row: u64, arity: u64)
-    requires { word < 272 }
-    ensures { adds.new ≡ triple adds.old word weight row arity }
+fn node_row(table: &[u16], word: u16) -> NodeRow
+    ensures { RowOf (signature_of table.now) word result }
 {
-    adds[3 * word] = weight;
-    adds[3 * word + 1] = row;
-    adds[3 * word + 2] = arity;
+    let weight = if word < format::FIRST_VARIABLE {
+        symbols::weight(table, word)
+    } else {
+        symbols::variable_weight(table)
+    };
+    let row = symbols::row(table, word);
+    let arity = symbols::arity(table, word);
+    NodeRow { weight, row, arity }
 }
 
 // Stores what the node words from one on count.
-fn put_range(table: &[u16], adds: &mut [u64; NODE_ROWS], from: usize, to: usize)
-    requires { (from ≤ to) × (to ≤ 272) × (length adds.old ≡ 816) }
-    ensures { Ranged (signature_of table.now) from to adds.old adds.new
-        × (length adds.new ≡ 816) }
+fn put_range(table: &[u16], rows: &mut [NodeRow; format::NODE_WORDS], from: usize, to: usize)
+    requires { (from ≤ to) × (to ≤ 272) × (length rows.old ≡ 272) }
+    ensures { Ranged (signature_of table.now) from to rows.old rows.new × (length rows.new ≡ 272) }
 {
-    let mut u = from;
-    while u < to {
-        let word = u as u16;
-        let weight = node_weight(table, word);
-        let row = symbols::row(table, word);
-        let arity = symbols::arity(table, word) as u64;
-        put_row(adds, u, weight, row, arity);
-        u += 1;
+    for u in from..to {
+        rows[u] = node_row(table, u as u16);
     }
 }
 
 // Stores what all node words count, where nothing is stored yet.
-pub fn put_node_rows(table: &[u16], adds: &mut [u64; NODE_ROWS])
-    requires { (length table.now ≤ max_table_words) × (adds.old ≡ replicate 816 0) × Admissible (signature_of table.now) }
-    ensures { NodeRows (signature_of table.now) adds.new }
+pub fn put_node_rows(table: &[u16], rows: &mut [NodeRow; format::NODE_WORDS])
+    requires { (length table.now ≤ max_table_words) × (rows.old ≡ replicate 272 no_row)
+        × Admissible (signature_of table.now) }
+    ensures { NodeRows (signature_of table.now) rows.new }
 {
-    put_range(table, adds, 0, symbols::count(table));
+    put_range(table, rows, 0, symbols::count(table));
     put_range(
         table,
-        adds,
+        rows,
         format::FIRST_VARIABLE as usize,
         format::NODE_WORDS,
     );
+}
+
+// A symbol table, with what each node word counts.
+#[derive(Clone, Copy)]
+pub struct Weighing<'a> {
+    pub table: &'a [u16],
+    pub rows: &'a [NodeRow; format::NODE_WORDS],
+    pub ghost stored: { NodeRows (signature_of table.now) rows.now },
 }

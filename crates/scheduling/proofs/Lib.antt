@@ -2,4 +2,3 @@
 pub mod StandingLaws
 pub mod SearchLaws
 pub mod ReplyLaws
-pub mod RunLaws

@@ -1,33 +1,31 @@
 -- The turn after a search over all jobs is the definition's.
---     reply-served                                     a reply that serves a job
+--     served-next                                      what a turn serves is what was found
 --     scanned-replied, scanned-jobs, scanned-marks     the reply, the jobs and the marks
+use Rattle.std.specs.Prelude.{Option, Some, None}
 use mathlib.Core.List.{List, [], ◌∷◌}
 use mathlib.Core.Path.{◌≡◌, refl, sym, ap, ◌∙◌}
-use mathlib.Core.Bool.{Bool, true, false, cond, false≢true}
-use Prim.Native.Nat.{ℕ, suc, zero, ◌+◌, ◌*◌, ◌≤◌, ◌<◌}
+use mathlib.Core.Bool.{Bool, true, false, false≢true}
+use Prim.Native.Nat.{ℕ, suc, zero, ◌+◌, ◌*◌, ◌<◌}
 use native.Mathlib.Nat.{add-zero, add-suc, suc-add, zero-add}
 use native.Mathlib.Omega.{arith}
-use lib.Dec.{leb, ltb}
+use lib.Dec.{leb}
 use lib.ListN.{get_or, set}
 use lib.ListN
-use borrow.Author.Tests.{lt-ltb, le-ltb, ltb-true}
-use Rattle.multisets.proofs.Relations.{by_test, by_order}
+use Rattle.multisets.proofs.Relations.{by_test}
 use Rattle.format.specs.Errors.{marks_too_short, no_such_job, bad_job}
 use Rattle.operations.specs.declared.Job.{Job}
-use Rattle.operations.specs.declared.Turn.{Turn}
-use Rattle.operations.specs.declared.Turn.TheVariants.{Served, Idle}
 use Rattle.operations.specs.Replies.{Reply, ◌>>◌, demand}
 use Rattle.operations.specs.Replies.Reply.{accepted, refused}
 use Rattle.operations.specs.Jobs.{job_marks, job_at, book_of, book_marks, is_sound, has_left}
 use Rattle.operations.specs.Turns.{round_after, sound_from, next_turn, turn_of, after_turn, turned}
 use Rattle.operations.proofs.RoundLaws.{onward, onward-lt, distance, distance-lt, onward-distance, distance-onward}
 use Rattle.operations.proofs.RoundLaws.{first_some, first-none}
+use Rattle.scheduling.specs.declared.Found.{Found}
 use Rattle.scheduling.specs.declared.Search.{Search}
 use Rattle.scheduling.specs.Search.{is_allowed, begun}
-use Rattle.scheduling.specs.Search.{job_found}
-use Rattle.scheduling.specs.Run.{sound_reply, reply_of, marks_by, marks_after, jobs_by}
+use Rattle.scheduling.specs.Run.{sound_reply, served, index_reply, reply_of, marks_by, marks_after, recounted, jobs_by}
 use Rattle.scheduling.proofs.StandingLaws.{allowed-numbers}
-use Rattle.scheduling.proofs.SearchLaws.{Found, scanned-found, scanned-idle, end}
+use Rattle.scheduling.proofs.SearchLaws.{by_option, Searched, scanned-found, scanned-idle, end}
 
 -- ---- the first of some jobs that is not sound, the first of them with that index
 sound-all : (buffer : List ℕ) (i : ℕ) (jobs : List Job) →
@@ -57,16 +55,13 @@ reply-then : {A B : Type 0} (x : Reply A) (r : Reply B) (t : B) → ◌>>◌ x r
 reply-then (accepted a) r t e = e
 reply-then (refused f) r t e = absurd (false≢true (cc))
 
-pub reply-served : (s : Search) (room i : ℕ) → reply_of s room ≡ accepted (Served i) →
-    (is_allowed s.jobs s.last ≡ true) × (s.next < s.jobs) × (s.next ≡ i)
-unfolding reply_of
-reply-served s room i e =
-    let (may, a) = demand-then (is_allowed s.jobs s.last) no_such_job 0 _ (Served i) e in
-    let b = reply-then (sound_reply s) _ (Served i) a in
-    let (long, q) = demand-then (leb (job_marks * s.jobs) room) marks_too_short 2 _ (Served i) b in
-    by_test (ltb s.next s.jobs)
-    (λ t. let z = rw t at q in (may, ltb-true s.next s.jobs t, cc))
-    λ t. let z = rw t at q in absurd (false≢true (cc))
+pub served-next : (s : Search) (room : ℕ) (x : Option Found) → served s room ≡ accepted x →
+    (is_allowed s.jobs s.last ≡ true) × (s.next ≡ x)
+unfolding served
+served-next s room x e =
+    let (may, a) = demand-then (is_allowed s.jobs s.last) no_such_job 0 _ x e in
+    let b = reply-then (sound_reply s.bad) _ x a in
+    let (long, q) = demand-then (leb (job_marks * s.jobs) room) marks_too_short 2 _ x b in (may, cc)
 
 module _ (jobs : List Job) (buffer : List ℕ) (last : ℕ) where
   abbrev number : ℕ
@@ -82,109 +77,95 @@ module _ (jobs : List Job) (buffer : List ℕ) (last : ℕ) where
     abbrev listed : last < number
     listed = (allowed-numbers number last ok).0
 
-    abbrev F : Found jobs buffer last listed number found
+    abbrev F : Searched jobs buffer last listed number found
     F = scanned-found jobs buffer last listed ok number (omega arith)
 
-    sound-same : sound_from buffer 0 jobs ≡
-        cond (ltb found.bad found.jobs) (refused (record { code = bad_job; input = 0; offset = found.bad }))
-        (accepted tt)
+    sound-same : sound_from buffer 0 jobs ≡ sound_reply found.bad
     sound-same =
-        by_order found.bad number
-        (λ g. rw (lt-ltb found.bad found.jobs (omega (arith, F.all)))
-        (sound-until buffer 0 jobs found.bad g (F.first_bad g).0 (F.first_bad g).1 ∙ rw zero-add))
-        λ g. rw (le-ltb found.bad found.jobs (omega (arith, F.all))) (sound-all buffer 0 jobs (F.none_bad g))
+        by_option found.bad (λ none. rw none (sound-all buffer 0 jobs (F.none_bad none)))
+        λ b e. let (h, y, before) = F.first_bad b e in rw e (sound-until buffer 0 jobs b h y before ∙ rw zero-add)
 
-    next-same : number ≤ found.bad →
-        next_turn jobs buffer last ≡ cond (ltb found.next found.jobs) (Served found.next) Idle
+    next-same : found.bad ≡ None → index_reply (accepted found.next) ≡ accepted (next_turn jobs buffer last)
     next-same sound =
-        by_order found.next number
-        (λ g. let d = found.next in
+        by_option found.next
+        (λ none. rw none (ap accepted
+        (sym (first-none number passes number (round_after number last) (onward-lt number 1 last listed)
+        (F.none_left sound none)))))
+        λ f e. let (g, own, y, there', begins) = F.own f e in
+        let d = f.index in
         let there = onward-distance number last listed d g in
         let near = distance-lt number last listed d g in
         let (p, met) = first_some number passes number (distance number last listed d) (round_after number last) d near
-        there (F.own g).3 in
+        there there' in
         let few = met.soon in
         let here : p < number = rw (← met.there)
         (onward-lt number met.steps (round_after number last) (onward-lt number 1 last listed)) in
-        let least = F.nearest sound g p here met.passed in
+        let least = F.nearest sound f e p here met.passed in
         let at : distance number last listed p ≡ met.steps =
         ap (distance number last listed) (sym met.there)
         ∙ distance-onward number last listed met.steps (omega arith) in
         let steps : met.steps ≡ distance number last listed d = omega arith in
         let same : p ≡ d = sym met.there ∙ ap (onward number (round_after number last)) steps ∙ there in
-        rw (lt-ltb found.next found.jobs (omega (arith, F.all))) (met.first ∙ ap (λ (i : ℕ). Served i) same))
-        λ g. rw (le-ltb found.next found.jobs (omega (arith, F.all)))
-        (first-none number passes number (round_after number last) (onward-lt number 1 last listed)
-        (F.none_left sound g))
+        rw e (ap accepted (sym (met.first ∙ ap (λ (i : ℕ). Some i) same)))
 
   -- The reply to the turn is the definition's.
   pub scanned-reply : (room : ℕ) → reply_of found room ≡ turn_of jobs buffer room last
-  unfolding reply_of turn_of is_allowed begun
+  unfolding served turn_of is_allowed begun
   scanned-reply room =
       by_test (is_allowed number last)
       (λ ok. let all = (F ok).all in
       let may : is_allowed found.jobs found.last ≡ true = rw (all, (F ok).from) ok in
-      by_order found.bad number
-      (λ g. rw (may, ok, sound-same ok, lt-ltb found.bad found.jobs (omega arith)) refl)
-      λ g. rw (may, ok, sound-same ok, le-ltb found.bad found.jobs (omega arith), next-same ok g) (rw all refl))
+      by_option found.bad
+      (λ none. rw (may, ok, sound-same ok, none, all)
+      (by_test (leb (job_marks * number) room) (λ long. rw long (next-same ok none)) λ short. rw short refl))
+      λ b e. rw (may, ok, sound-same ok, e) refl)
       λ bars. rw (scanned-idle jobs buffer last bars number, bars) refl
+
+  after-reply : (marks : List ℕ) (r : Reply (Option ℕ)) → (after_turn jobs buffer marks r).reply ≡ r
+  after-reply marks (accepted (Some i)) = refl
+  after-reply marks (accepted None) = refl
+  after-reply marks (refused e) = refl
 
   pub scanned-replied : (marks : List ℕ) →
       reply_of found (ListN.length marks) ≡ (turned jobs buffer marks last).reply
   unfolding turned
   scanned-replied marks =
-      scanned-reply (ListN.length marks) ∙ sym (go (turn_of jobs buffer (ListN.length marks) last))
-    where
-      go : (r : Reply Turn) → (after_turn jobs buffer marks r).reply ≡ r
-      go (accepted (Served i)) = refl
-      go (accepted Idle) = refl
-      go (refused e) = refl
+      scanned-reply (ListN.length marks) ∙ sym (after-reply marks (turn_of jobs buffer (ListN.length marks) last))
 
-  all-jobs : found.jobs ≡ number
+  -- The job that is served is the one with its index.
+  served-own : (room : ℕ) (f : Found) → served found room ≡ accepted (Some f) → f.job ≡ job_at jobs f.index
   unfolding begun
-  all-jobs =
-      by_test (is_allowed number last) (λ ok. (F ok).all) λ bars. ap (λ (s : Search). s.jobs)
-      (scanned-idle jobs buffer last bars number)
-
-  -- The job that is served is the one that was found.
-  served-own : (room i : ℕ) → reply_of found room ≡ accepted (Served i) → (i < number) × (job_found found ≡ job_at jobs i)
-  unfolding begun
-  served-own room i e =
-      let (may, less, same) = reply-served found room i e in
-      by_test (is_allowed number last)
-      (λ ok. let own = (F ok).own (omega (arith, all-jobs)) in rw (← same) (omega (arith, all-jobs), own.1))
-      λ bars. let idle : found.next ≡ number =
-      ap (λ (s : Search). s.next) (scanned-idle jobs buffer last bars number) in
-      absurd (omega (arith, all-jobs))
+  served-own room f e =
+      let (may, next) = served-next found room (Some f) e in
+      by_test (is_allowed number last) (λ ok. ((F ok).own f next).1)
+      λ bars. let idle : None ≡ Some f = rw (scanned-idle jobs buffer last bars number) at next in absurd (cc)
 
   pub scanned-jobs : (marks : List ℕ) →
-      jobs_by jobs found (reply_of found (ListN.length marks)) ≡ (turned jobs buffer marks last).jobs
+      jobs_by jobs (served found (ListN.length marks)) ≡ (turned jobs buffer marks last).jobs
   unfolding turned
   scanned-jobs marks =
-      go (reply_of found (ListN.length marks)) refl
-      ∙ ap (λ (r : Reply Turn). (after_turn jobs buffer marks r).jobs) (scanned-reply (ListN.length marks))
+      go (served found (ListN.length marks)) refl
+      ∙ ap (λ (r : Reply (Option ℕ)). (after_turn jobs buffer marks r).jobs) (scanned-reply (ListN.length marks))
     where
-      go : (r : Reply Turn) → reply_of found (ListN.length marks) ≡ r →
-          jobs_by jobs found r ≡ (after_turn jobs buffer marks r).jobs
-      go (accepted (Served i)) e =
-          let (less, same) = served-own (ListN.length marks) i e in
-          let m : found.marked ≡ (job_at jobs i).marked = ap (λ (j : Job). j.marked) same in
-          rw (lt-ltb i number less, m)
-      go (accepted Idle) e = rw (all-jobs, le-ltb number number (omega arith))
-      go (refused f) e = rw (all-jobs, le-ltb number number (omega arith))
+      go : (r : Reply (Option Found)) → served found (ListN.length marks) ≡ r →
+          jobs_by jobs r ≡ (after_turn jobs buffer marks (index_reply r)).jobs
+      go (accepted (Some f)) e =
+          ap (λ (job : Job). recounted jobs f.index (suc job.marked)) (served-own (ListN.length marks) f e)
+      go (accepted None) e = refl
+      go (refused f) e = refl
 
   pub scanned-marks : (marks : List ℕ) → marks_after found buffer marks ≡ (turned jobs buffer marks last).marks
   unfolding turned marks_after
   scanned-marks marks =
-      go (reply_of found (ListN.length marks)) refl
-      ∙ ap (λ (r : Reply Turn). (after_turn jobs buffer marks r).marks) (scanned-reply (ListN.length marks))
+      go (served found (ListN.length marks)) refl
+      ∙ ap (λ (r : Reply (Option ℕ)). (after_turn jobs buffer marks r).marks) (scanned-reply (ListN.length marks))
     where
-      go : (r : Reply Turn) → reply_of found (ListN.length marks) ≡ r →
-          marks_by found buffer marks r ≡ (after_turn jobs buffer marks r).marks
-      go (accepted (Served i)) e =
+      go : (r : Reply (Option Found)) → served found (ListN.length marks) ≡ r →
+          marks_by buffer marks r ≡ (after_turn jobs buffer marks (index_reply r)).marks
+      go (accepted (Some f)) e =
           ap
           (λ (job : Job).
-          set marks (job_marks * i + job.marked) (get_or (book_marks (book_of buffer job)) job.marked 0))
-          (served-own (ListN.length marks) i e).1
-      go (accepted Idle) e = refl
+          set marks (job_marks * f.index + job.marked) (get_or (book_marks (book_of buffer job)) job.marked 0))
+          (served-own (ListN.length marks) f e)
+      go (accepted None) e = refl
       go (refused f) e = refl

@@ -1,7 +1,9 @@
 -- What a search over jobs has found, job by job.
---     Found, scanned-found     what is found once some jobs have been looked at
+--     Searched, scanned-found  what is found once some jobs have been looked at
 --     scanned-idle             nothing is looked at where the numbers are not allowed
+--     by_option                an option by cases
 --     end, scanned-ready       the search over all jobs, which is ready for the turn
+use Rattle.std.specs.Prelude.{Option, Some, None, is_some}
 use mathlib.Core.List.{List}
 use mathlib.Core.Path.{◌≡◌, refl, sym, ap, ◌∙◌}
 use mathlib.Core.Bool.{Bool, true, false, cond, ◌&&◌, false≢true}
@@ -14,14 +16,19 @@ use Rattle.multisets.proofs.Relations.{by_test, by_order}
 use Rattle.operations.specs.declared.Job.{Job}
 use Rattle.operations.specs.Jobs.{job_at, book_of, is_sound, has_left}
 use Rattle.operations.proofs.RoundLaws.{distance}
+use Rattle.scheduling.specs.declared.Found.{Found}
 use Rattle.scheduling.specs.declared.Search.{Search}
 use Rattle.seeking.specs.declared.Standing.{Standing}
 use Rattle.seeking.specs.declared.Standing.TheVariants.{Bad, Done, Left}
 use Rattle.seeking.specs.One.{file_standing}
 use Rattle.scheduling.specs.Search.{standing_of, is_allowed, comes_first, begun, found_bad, found_next, found_at}
 use Rattle.scheduling.specs.Search.{looked}
-use Rattle.scheduling.specs.Search.{scanned, job_found, Ready}
+use Rattle.scheduling.specs.Search.{scanned, Ready}
 use Rattle.scheduling.proofs.StandingLaws.{Known, known, allowed-numbers}
+
+pub by_option : {A B : Type 0} (o : Option A) → (o ≡ None → B) → ((a : A) → o ≡ Some a → B) → B
+by_option None f g = f refl
+by_option (Some a) f g = g a refl
 
 -- ---- the search
 
@@ -42,30 +49,37 @@ module _ (jobs : List Job) (buffer : List ℕ) (last : ℕ) where
     abbrev far : ℕ → ℕ
     far i = distance n last within i
 
+    -- A job that was found is one of the first i, sound, and has rules left.
+    abbrev Own : ℕ → Found → Type 0
+    Own i f = (f.index < i) × (f.job ≡ job_at jobs f.index) × (sound f.index ≡ true) × (left f.index ≡ true)
+        × (begins f.index ≡ Left f.at)
+
+    -- The first that is not sound.
+    abbrev FirstBad : ℕ → ℕ → Type 0
+    FirstBad i b = (b < i) × (sound b ≡ false) × ((j : ℕ) → j < b → sound j ≡ true)
+
     -- What is found once the first i jobs have been looked at.
-    pub record Found (i : ℕ) (s : Search) : Type 0 where
+    pub record Searched (i : ℕ) (s : Search) : Type 0 where
       pub all : s.jobs ≡ n
       pub from : s.last ≡ last
-      -- the job that was found
-      pub own : s.next < n → (s.next < i) × (job_found s ≡ job_at jobs s.next) × (sound s.next ≡ true)
-          × (left s.next ≡ true) × (begins s.next ≡ Left s.at)
-      -- the first that is not sound
-      pub first_bad : s.bad < n → (sound s.bad ≡ false) × ((j : ℕ) → j < s.bad → sound j ≡ true)
-      pub none_bad : n ≤ s.bad → (j : ℕ) → j < i → sound j ≡ true
+      pub own : (f : Found) → s.next ≡ Some f → Own i f
+      pub first_bad : (b : ℕ) → s.bad ≡ Some b → FirstBad i b
+      pub none_bad : s.bad ≡ None → (j : ℕ) → j < i → sound j ≡ true
       -- where all are sound, it is the first with rules left
-      pub nearest : n ≤ s.bad → s.next < n → (j : ℕ) → j < i → left j ≡ true → far s.next ≤ far j
-      pub none_left : n ≤ s.bad → n ≤ s.next → (j : ℕ) → j < i → left j ≡ false
+      pub nearest : s.bad ≡ None → (f : Found) → s.next ≡ Some f → (j : ℕ) → j < i → left j ≡ true →
+          far f.index ≤ far j
+      pub none_left : s.bad ≡ None → s.next ≡ None → (j : ℕ) → j < i → left j ≡ false
 
-    found_none : Found 0 (begun n last)
+    found_none : Searched 0 (begun n last)
     unfolding begun
     found_none = record {
       all = refl;
       from = refl;
-      own = λ h. absurd (omega arith);
-      first_bad = λ h. absurd (omega arith);
-      none_bad = λ h j k. absurd (omega arith);
-      nearest = λ h g j k l. absurd (omega arith);
-      none_left = λ h g j k. absurd (omega arith);
+      own = λ f e. absurd (cc);
+      first_bad = λ b e. absurd (cc);
+      none_bad = λ g j k. absurd (omega arith);
+      nearest = λ g f e. absurd (cc);
+      none_left = λ g e j k. absurd (omega arith);
     }
 
     -- The jobs below i + 1 are those below i, and i.
@@ -82,97 +96,103 @@ module _ (jobs : List Job) (buffer : List ℕ) (last : ℕ) where
     far-round : (i j : ℕ) → j < n → last < j → i ≤ last → far j < far i
     far-round i j h k l = rw (lt-ltb last j k, le-ltb last i l) (omega arith)
 
-    module _ (i : ℕ) (s : Search) (h : i < n) (F : Found i s) (ok : n ≤ s.bad) where
+    module _ (i : ℕ) (s : Search) (h : i < n) (F : Searched i s) (ok : s.bad ≡ None) where
+      inside : ltb i s.jobs ≡ true
+      inside = lt-ltb i s.jobs (omega (arith, F.all, h))
+
       -- A job with no rules left, or one that comes later, changes nothing.
-      found-kept : sound i ≡ true → (left i ≡ true → (s.next < n) × (far s.next ≤ far i)) → Found (suc i) s
+      found-kept : sound i ≡ true → (left i ≡ true → (f : Found) × (s.next ≡ Some f) × (far f.index ≤ far i)) →
+          Searched (suc i) s
       found-kept y later = record {
         all = F.all;
         from = F.from;
-        own = λ g. let (a, b, c, d, f) = F.own g in (omega arith, b, c, d, f);
-        first_bad = λ g. absurd (omega arith);
+        own = λ f e. let (a, b, c, d, g) = F.own f e in (omega arith, b, c, d, g);
+        first_bad = λ b e. absurd (cc);
         none_bad = λ g. one_more (λ j. sound j ≡ true) i (F.none_bad g) y;
-        nearest = λ g k. one_more (λ j. left j ≡ true → far s.next ≤ far j) i (F.nearest g k) (λ l. (later l).1);
-        none_left = λ g k. one_more (λ j. left j ≡ false) i (F.none_left g k)
-            (by_test (left i) (λ l. absurd (omega (arith, (later l).0))) λ l. l);
+        nearest = λ g f e. one_more (λ j. left j ≡ true → far f.index ≤ far j) i (F.nearest g f e)
+            (λ l. let (f', e', near) = later l in let q : f' ≡ f = cc in rw (← q) near);
+        none_left = λ g e. one_more (λ j. left j ≡ false) i (F.none_left g e)
+            (by_test (left i) (λ l. let (f, e', near) = later l in absurd (cc)) λ l. l);
       }
 
       found-next : (at : ℕ) → sound i ≡ true → left i ≡ true → begins i ≡ Left at →
-          (s.next < n → far i ≤ far s.next) → Found (suc i) (found_next s i (job_at jobs i) at)
-      found-next at y l there earlier = record {
+          ((f : Found) → s.next ≡ Some f → far i ≤ far f.index) → Searched (suc i) (found_next s i (job_at jobs i) at)
+      found-next at y l there earlier = rw inside (record {
         all = F.all;
         from = F.from;
-        own = λ g. (omega arith, refl, y, l, there);
-        first_bad = λ g. absurd (omega arith);
+        own = λ f e. let q : record { index = i; job = job_at jobs i; at = at } ≡ f = cc in
+            rw (← q) (omega arith, refl, y, l, there);
+        first_bad = λ b e. absurd (cc);
         none_bad = λ g. one_more (λ j. sound j ≡ true) i (F.none_bad g) y;
-        nearest = λ g k. one_more (λ j. left j ≡ true → far i ≤ far j) i
-            (λ j o t. by_order s.next n (λ q. omega (arith, earlier q, F.nearest g q j o t))
-            λ q. absurd (false≢true (sym (F.none_left g q j o) ∙ t)))
-            (λ t. omega arith);
-        none_left = λ g k. absurd (omega arith);
-      }
+        nearest = λ g f e. let q : record { index = i; job = job_at jobs i; at = at } ≡ f = cc in
+            rw (← q) (one_more (λ j. left j ≡ true → far i ≤ far j) i
+            (λ j o t. by_option s.next (λ none. absurd (false≢true (sym (F.none_left g none j o) ∙ t)))
+            λ f' e'. omega (arith, earlier f' e', F.nearest g f' e' j o t))
+            (λ t. omega arith));
+        none_left = λ g e. absurd (cc);
+      })
 
-      found-bad : sound i ≡ false → Found (suc i) (found_bad s i)
-      found-bad y = record {
+      found-bad : sound i ≡ false → Searched (suc i) (found_bad s i)
+      found-bad y = rw inside (record {
         all = F.all;
         from = F.from;
-        own = λ g. let (a, b, c, d, f) = F.own g in (omega arith, b, c, d, f);
-        first_bad = λ g. (y, F.none_bad ok);
-        none_bad = λ g. absurd (omega arith);
-        nearest = λ g. absurd (omega arith);
-        none_left = λ g. absurd (omega arith);
-      }
-
-      -- The tests of what comes first, over the numbers of the search.
-      test-next : s.next < n → ltb s.next s.jobs ≡ true
-      test-next g = lt-ltb s.next s.jobs (omega (arith, F.all))
+        own = λ f e. let (a, b, c, d, g) = F.own f e in (omega arith, b, c, d, g);
+        first_bad = λ b e. let q : i ≡ b = cc in rw (← q) (omega arith, y, F.none_bad ok);
+        none_bad = λ g. absurd (cc);
+        nearest = λ g. absurd (cc);
+        none_left = λ g. absurd (cc);
+      })
 
       test-after : last < i → ltb s.last i ≡ true
       test-after k = lt-ltb s.last i (omega (arith, F.from))
 
       found_left : (at : ℕ) → sound i ≡ true → left i ≡ true → begins i ≡ Left at →
-          Found (suc i) (cond (comes_first s i) (found_next s i (job_at jobs i) at) s)
+          Searched (suc i) (cond (comes_first s i) (found_next s i (job_at jobs i) at) s)
       unfolding comes_first
       found_left at y l there =
-          by_order s.next n
-          (λ g. let below = (F.own g).0 in by_order last i
-          (λ k. by_order last s.next
-          (λ m. rw (test-next g, test-after k, lt-leb s.next s.last (omega (arith, F.from)))
-          (found-kept y λ t. (g, omega (arith, far-above s.next i below m))))
-          λ m. rw (test-next g, test-after k, le-leb s.next s.last (omega (arith, F.from)))
-          (found-next at y l there λ t. omega (arith, far-round s.next i h k m)))
-          λ k. rw (test-next g, le-ltb s.last i (omega (arith, F.from)))
-          (found-kept y λ t. (g, omega (arith, far-below s.next i below k))))
-          λ g. rw (le-ltb s.next s.jobs (omega (arith, F.all)))
-          (found-next at y l there λ t. absurd (omega arith))
+          by_option s.next
+          (λ none. let first : comes_first s i ≡ true = rw none in
+          rw first (found-next at y l there λ f e. absurd (cc)))
+          λ f e. let below = (F.own f e).0 in by_order last i
+          (λ k. by_order last f.index
+          (λ m. let later : comes_first s i ≡ false =
+          rw (e, test-after k, lt-leb f.index s.last (omega (arith, F.from))) in
+          rw later (found-kept y λ t. (f, e, omega (arith, far-above f.index i below m))))
+          λ m. let first : comes_first s i ≡ true =
+          rw (e, test-after k, le-leb f.index s.last (omega (arith, F.from))) in
+          rw first (found-next at y l there λ f' e'. let q : f ≡ f' = cc in
+          rw (← q) (omega (arith, far-round f.index i h k m))))
+          λ k. let later : comes_first s i ≡ false = rw (e, le-ltb s.last i (omega (arith, F.from))) in
+          rw later (found-kept y λ t. (f, e, omega (arith, far-below f.index i below k)))
 
-      found-at : (x : Standing) → Known buffer (job_at jobs i) x → Found (suc i) (found_at x s i (job_at jobs i))
+      found-at : (x : Standing) → Known buffer (job_at jobs i) x → Searched (suc i) (found_at x s i (job_at jobs i))
       found-at Bad k = found-bad k
       found-at Done k = found-kept k.0 λ t. absurd (false≢true (sym k.1 ∙ t))
       found-at (Left at) k = found_left at k.0 k.1 k.2
 
     -- After a fault nothing is looked at.
-    found-stuck : (i : ℕ) (s : Search) → Found i s → s.bad < n → Found (suc i) s
-    found-stuck i s F h = record {
+    found-stuck : (i : ℕ) (s : Search) (b : ℕ) → Searched i s → s.bad ≡ Some b → Searched (suc i) s
+    found-stuck i s b F h = record {
       all = F.all;
       from = F.from;
-      own = λ g. let (a, b, c, d, f) = F.own g in (omega arith, b, c, d, f);
-      first_bad = F.first_bad;
-      none_bad = λ g. absurd (omega arith);
-      nearest = λ g. absurd (omega arith);
-      none_left = λ g. absurd (omega arith);
+      own = λ f e. let (a, b, c, d, g) = F.own f e in (omega arith, b, c, d, g);
+      first_bad = λ b e. let (a, y, before) = F.first_bad b e in (omega arith, y, before);
+      none_bad = λ g. absurd (cc);
+      nearest = λ g. absurd (cc);
+      none_left = λ g. absurd (cc);
     }
 
     module _ (ok : is_allowed n last ≡ true) where
-      found-more : (i : ℕ) (s : Search) → i < n → Found i s → Found (suc i) (looked s i (job_at jobs i) buffer)
+      found-more : (i : ℕ) (s : Search) → i < n → Searched i s → Searched (suc i) (looked s i (job_at jobs i) buffer)
       unfolding looked
       found-more i s h F =
           let may : is_allowed s.jobs s.last ≡ true = rw (F.all, F.from) ok in
-          by_order s.bad n
-          (λ g. rw (may, lt-ltb s.bad s.jobs (omega (arith, F.all))) (found-stuck i s F g))
-          λ g. rw (may, le-ltb s.bad s.jobs (omega (arith, F.all)))
-          (found-at i s h F g (standing_of (job_at jobs i) buffer) (known buffer (job_at jobs i)))
+          by_option s.bad
+          (λ none. let sound : is_some s.bad ≡ false = rw none in
+          rw (may, sound) (found-at i s h F none (standing_of (job_at jobs i) buffer) (known buffer (job_at jobs i))))
+          λ b e. let stuck : is_some s.bad ≡ true = rw e in rw (may, stuck) (found-stuck i s b F e)
 
-      pub scanned-found : (i : ℕ) → i ≤ n → Found i (scanned jobs buffer last i)
+      pub scanned-found : (i : ℕ) → i ≤ n → Searched i (scanned jobs buffer last i)
       scanned-found zero h = found_none
       scanned-found (suc i) h =
           found-more i (scanned jobs buffer last i) (omega arith) (scanned-found i (omega arith))
@@ -200,20 +220,15 @@ module _ (jobs : List Job) (buffer : List ℕ) (last : ℕ) where
 
   pub scanned-ready : Ready end buffer
   unfolding begun
-  scanned-ready =
+  scanned-ready f e =
       by_test (is_allowed n last)
       (λ ok. let within = (allowed-numbers n last ok).0 in
       let F = scanned-found within ok n (omega arith) in
+      let (a, same, y, l, b) = F.own f e in
       record {
-        within = λ h. let (a, same, y, l, b) = F.own (omega (arith, F.all)) in
-            sound-book (job_found end) (rw same y);
-        unfinished = λ h. let (a, same, y, l, b) = F.own (omega (arith, F.all)) in rw same l;
-        begins = λ h. let (a, same, y, l, b) = F.own (omega (arith, F.all)) in
-            ap (λ (job : Job). file_standing (book_of buffer job) job.marked) same ∙ b;
+        listed = omega (arith, F.all);
+        within = sound-book f.job (rw same y);
+        unfinished = rw same l;
+        begins = ap (λ (job : Job). file_standing (book_of buffer job) job.marked) same ∙ b;
       })
-      λ bars. rw (scanned-idle bars n)
-      (record {
-        within = λ h. absurd (omega arith);
-        unfinished = λ h. absurd (omega arith);
-        begins = λ h. absurd (omega arith);
-      })
+      λ bars. let idle : None ≡ Some f = rw (scanned-idle bars n) at e in absurd (cc)

@@ -1,15 +1,14 @@
 -- How a job stands, by its book.
---     standing-outside, standing-inside         the ends of inspecting a job
 --     Known, known                              what is known of a job by how it stands
 --     left-few                                  a job with rules left has at most 1,023
---     allowed-none, allowed-many, allowed-last, allowed-numbers      the numbers of a turn
+--     allowed-numbers                           the numbers of a turn
 use mathlib.Core.List.{List}
 use mathlib.Core.Path.{◌≡◌, refl, ◌∙◌}
 use mathlib.Core.Bool.{Bool, true, false, false≢true, ◌&&◌}
 use Prim.Native.Nat.{ℕ, ◌+◌, ◌≤◌, ◌<◌}
 use native.Mathlib.Omega.{arith}
 use lib.Dec.{leb, ltb}
-use lib.ListN.{take, drop, length-map}
+use lib.ListN.{length-map}
 use lib.ListN
 use Rattle.multisets.proofs.Relations.{by_order}
 use borrow.Author.Tests.{lt-ltb, le-ltb, le-leb, lt-leb, ltb-true, leb-true}
@@ -35,15 +34,6 @@ length-marks file = length-map (system_of file).rules _ ∙ length-map file.rule
 module _ (buffer : List ℕ) (job : Job) where
   abbrev end : ℕ
   end = job.start + job.length
-
-  pub standing-outside : ListN.length buffer < end → standing_of job buffer ≡ Bad
-  unfolding standing_of
-  standing-outside h = rw (lt-leb end (ListN.length buffer) h)
-
-  pub standing-inside : end ≤ ListN.length buffer → (k : ℕ) → k ≡ job.length →
-      standing_of job buffer ≡ file_standing (take k (drop job.start buffer)) job.marked
-  unfolding standing_of
-  standing-inside within k same = rw (le-leb end (ListN.length buffer) within, same)
 
   -- What is known of a job by how it stands.
   abbrev pub Known : Standing → Type 0
@@ -95,18 +85,6 @@ left-few buffer job e =
 -- ---- the numbers of a turn
 
 module _ (jobs last : ℕ) where
-  pub allowed-none : jobs < 1 → is_allowed jobs last ≡ false
-  unfolding is_allowed
-  allowed-none h = rw (lt-leb 1 jobs h)
-
-  pub allowed-many : 1 ≤ jobs → max_jobs < jobs → is_allowed jobs last ≡ false
-  unfolding is_allowed
-  allowed-many h k = rw (le-leb 1 jobs h, lt-leb jobs max_jobs k)
-
-  pub allowed-last : 1 ≤ jobs → jobs ≤ max_jobs → is_allowed jobs last ≡ ltb last jobs
-  unfolding is_allowed
-  allowed-last h k = rw (le-leb 1 jobs h, le-leb jobs max_jobs k)
-
   pub allowed-numbers : is_allowed jobs last ≡ true → (last < jobs) × (jobs ≤ max_jobs)
   unfolding is_allowed
   allowed-numbers e = go (leb 1 jobs) (leb jobs max_jobs) refl e

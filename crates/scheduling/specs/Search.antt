@@ -1,11 +1,12 @@
 -- A search over jobs, job by job, for the next that has rules left.
-use Rattle.std.specs.Prelude.{List, ◌≡◌, Bool, true, false, cond, ◌&&◌, ℕ, suc, zero, ◌+◌, ◌≤◌, ◌<◌, leb, ltb}
+use Rattle.std.specs.Prelude.{List, ◌≡◌, Bool, true, cond, ◌&&◌, ℕ, suc, zero, ◌+◌, ◌≤◌, ◌<◌, leb, ltb, Option, Some, None, is_some}
 use Rattle.std.proofs.Math.ListN
 use Rattle.operations.specs.declared.Job.{Job}
 use Rattle.operations.specs.Jobs.{max_jobs, job_at, book_of, has_left}
 use Rattle.seeking.specs.declared.Standing.{Standing}
 use Rattle.seeking.specs.declared.Standing.TheVariants.{Bad, Done, Left}
 use Rattle.seeking.specs.One.{file_standing}
+use Rattle.scheduling.specs.declared.Found.{Found}
 use Rattle.scheduling.specs.declared.Search.{Search}
 
 -- How a job stands: as its book does, where that lies in the buffer.
@@ -17,44 +18,30 @@ unfoldable pub is_allowed : ℕ → ℕ → Bool
 is_allowed jobs last = leb 1 jobs && leb jobs max_jobs && ltb last jobs
 
 -- The index comes after the last served, and the one that was found does not; or none was found.
+abbrev pub precedes : ℕ → Option Found → ℕ → Bool
+precedes last (Some f) i = ltb last i && leb f.index last
+precedes last None i = true
+
 unfoldable pub comes_first : Search → ℕ → Bool
-comes_first s i = cond (ltb s.next s.jobs) (cond (ltb s.last i) (leb s.next s.last) false) true
+comes_first s i = precedes s.last s.next i
 
 unfoldable pub begun : ℕ → ℕ → Search
-begun jobs last = record {
-  jobs = jobs;
-  last = last;
-  bad = jobs;
-  next = jobs;
-  start = 0;
-  length = 0;
-  marked = 0;
-  at = 0;
-}
+begun jobs last = record { jobs = jobs; last = last; bad = None; next = None }
+
+-- What is found at an index: nothing where that is no job's.
+abbrev pub at_index : {A : Type 0} → Search → ℕ → A → Option A
+at_index s i a = cond (ltb i s.jobs) (Some a) None
 
 -- The search with a job that is not sound, and with one that comes first.
 abbrev pub found_bad : Search → ℕ → Search
-found_bad s i = record {
-  jobs = s.jobs;
-  last = s.last;
-  bad = i;
-  next = s.next;
-  start = s.start;
-  length = s.length;
-  marked = s.marked;
-  at = s.at;
-}
+found_bad s i = record { jobs = s.jobs; last = s.last; bad = at_index s i i; next = s.next }
 
 abbrev pub found_next : Search → ℕ → Job → ℕ → Search
 found_next s i job at = record {
   jobs = s.jobs;
   last = s.last;
   bad = s.bad;
-  next = i;
-  start = job.start;
-  length = job.length;
-  marked = job.marked;
-  at = at;
+  next = at_index s i (record { index = i; job = job; at = at });
 }
 
 abbrev pub found_at : Standing → Search → ℕ → Job → Search
@@ -64,19 +51,20 @@ found_at (Left at) s i job = cond (comes_first s i) (found_next s i job at) s
 
 unfoldable pub looked : Search → ℕ → Job → List ℕ → Search
 looked s i job buffer =
-    cond (is_allowed s.jobs s.last) (cond (ltb s.bad s.jobs) s (found_at (standing_of job buffer) s i job)) s
+    cond (is_allowed s.jobs s.last) (cond (is_some s.bad) s (found_at (standing_of job buffer) s i job)) s
 
 -- The search once the first i jobs have been looked at.
 abbrev pub scanned : List Job → List ℕ → ℕ → ℕ → Search
 scanned jobs buffer last zero = begun (ListN.length jobs) last
 scanned jobs buffer last (suc i) = looked (scanned jobs buffer last i) i (job_at jobs i) buffer
 
--- The job that was found.
-abbrev pub job_found : Search → Job
-job_found s = record { start = s.start; length = s.length; marked = s.marked }
+-- A job that was found is one of so many, its book is in the buffer, and it has rules left, the next of which begins
+-- there.
+pub record FoundIn (jobs : ℕ) (buffer : List ℕ) (f : Found) : Type 0 where
+  pub listed : f.index < jobs
+  pub within : f.job.start + f.job.length ≤ ListN.length buffer
+  pub unfinished : has_left buffer f.job ≡ true
+  pub begins : file_standing (book_of buffer f.job) f.job.marked ≡ Left f.at
 
--- The job that was found, if one was, has its book in the buffer, and rules left, the next of which begins there.
-pub record Ready (s : Search) (buffer : List ℕ) : Type 0 where
-  pub within : s.next < s.jobs → s.start + s.length ≤ ListN.length buffer
-  pub unfinished : s.next < s.jobs → has_left buffer (job_found s) ≡ true
-  pub begins : s.next < s.jobs → file_standing (book_of buffer (job_found s)) s.marked ≡ Left s.at
+abbrev pub Ready : Search → List ℕ → Type 0
+Ready s buffer = (f : Found) → s.next ≡ Some f → FoundIn s.jobs buffer f

@@ -2,153 +2,138 @@
 #![tactic(auto)]
 
 ghost use Rattle.std.specs.Prelude.{◌≡◌, length};
-ghost use Rattle.operations.specs.Enums.{turn_reply};
-ghost use Rattle.scheduling.specs.Search.{standing_of, is_allowed, comes_first, begun, looked};
-ghost use Rattle.scheduling.specs.Search.{Ready};
-ghost use Rattle.scheduling.specs.Run.{reply_of, marks_after};
+ghost use Rattle.operations.specs.Enums.{reply_of};
+ghost use Rattle.scheduling.specs.Search.{standing_of, is_allowed, comes_first, begun, looked, Ready};
+ghost use Rattle.scheduling.specs.Run.{served, marks_after};
 
-use answers::refusal;
-use operations::{Job, Turn, TurnReply};
+use format::{ErrorCode, MAX_RULES};
+use operations::{Error, Job};
 use seeking::Standing;
 
 const MAX_JOBS: usize = 32;
 
+// A job with rules left: its index, the job, and the bit of its book where its next rule begins.
+#[derive(Clone, Copy)]
+pub struct Found {
+    pub index: usize,
+    pub job: Job,
+    pub at: usize,
+}
+
 // What a search over jobs has found so far: the first that is not sound, and, of those with rules left, the one that
-// comes first after the last served, going round, with its book, its count and the bit where its next rule begins. An
-// index that is `jobs`, the number of jobs, is none.
+// comes first after the last served, going round.
 #[derive(Clone, Copy)]
 pub struct Search {
     pub jobs: usize,
     pub last: usize,
-    pub bad: usize,
-    pub next: usize,
-    pub start: usize,
-    pub length: usize,
-    pub marked: usize,
-    pub at: usize,
+    pub bad: Option<usize>,
+    pub next: Option<Found>,
 }
 
 // How a job stands, by its book.
-fn inspect(start: usize, length: usize, marked: usize, buffer: &[u8]) -> Standing
-    ensures { result ≡ standing_of (record { start = start; length = length; marked = marked }) buffer.now }
+#[tactic(auto, unfolding(crate::specs::Search::standing_of))]
+fn inspect(job: Job, buffer: &[u8]) -> Standing
+    ensures { result ≡ standing_of job buffer.now }
 {
-    if buffer.len() < start {
+    if buffer.len() < job.start || buffer.len() - job.start < job.length {
         return Standing::Bad;
     }
-    if buffer.len() - start < length {
-        return Standing::Bad;
-    }
-    seeking::find_next(&buffer[start..start + length], marked)
+    seeking::find_next(&buffer[job.start..job.start + job.length], job.marked)
 }
 
 // Whether there are 1 to 32 jobs, and the last served is one of them.
+#[tactic(auto, unfolding(crate::specs::Search::is_allowed))]
 fn is_allowed(jobs: usize, last: usize) -> bool
     ensures { result ≡ is_allowed jobs last }
 {
-    if jobs < 1 {
-        return false;
-    }
-    if MAX_JOBS < jobs {
-        return false;
-    }
-    last < jobs
+    1 <= jobs && jobs <= MAX_JOBS && last < jobs
 }
 
-// Whether a job with rules left, met after those so far, comes before the one that was found.
-fn comes_first(s: Search, index: usize) -> bool
-    ensures { result ≡ comes_first s index }
-{
-    if s.next < s.jobs {
-        if s.last < index {
-            return s.next <= s.last;
-        }
-        return false;
-    }
-    true
-}
-
-// The start of a search over so many jobs.
-pub fn begin(jobs: usize, last: usize) -> Search
-    ensures { result ≡ begun jobs last }
-{
-    Search {
-        jobs,
-        last,
-        bad: jobs,
-        next: jobs,
-        start: 0,
-        length: 0,
-        marked: 0,
-        at: 0,
-    }
-}
-
-// What is found once a job has been looked at too. After a fault no further book is read.
-pub fn look(s: Search, index: usize, job: Job, buffer: &[u8]) -> Search
-    ensures { result ≡ looked s index job buffer.now }
-{
-    if !is_allowed(s.jobs, s.last) {
-        return s;
-    }
-    if s.bad < s.jobs {
-        return s;
-    }
-    match inspect(job.start, job.length, job.marked, buffer) {
-        Standing::Done => s,
-        Standing::Bad => Search {
-            jobs: s.jobs,
-            last: s.last,
-            bad: index,
-            next: s.next,
-            start: s.start,
-            length: s.length,
-            marked: s.marked,
-            at: s.at,
-        },
-        Standing::Left { at } => {
-            if comes_first(s, index) {
-                return Search {
-                    jobs: s.jobs,
-                    last: s.last,
-                    bad: s.bad,
-                    next: index,
-                    start: job.start,
-                    length: job.length,
-                    marked: job.marked,
-                    at,
-                };
-            }
-            s
+impl Search {
+    // The start of a search over so many jobs.
+    #[tactic(auto, unfolding(crate::specs::Search::begun))]
+    pub fn begin(jobs: usize, last: usize) -> Search
+        ensures { result ≡ begun jobs last }
+    {
+        Search {
+            jobs,
+            last,
+            bad: None,
+            next: None,
         }
     }
-}
 
-// The turn of the job that was found: its next rule is marked. The jobs' errors come in the order 24, 25, 12.
-pub fn run_next(s: Search, buffer: &[u8], marks: &mut [u8]) -> TurnReply
-    requires { Ready s buffer.now }
-    ensures result_value { turn_reply result ≡ reply_of s (length marks.old) }
-    ensures marks_after { marks.new ≡ marks_after s buffer.now marks.old }
-{
-    if !is_allowed(s.jobs, s.last) {
-        return TurnReply::Refused(refusal(format::NO_SUCH_JOB, 0, 0));
+    // Whether a job with rules left, met after those so far, comes before the one that was found.
+    #[tactic(auto, unfolding(crate::specs::Search::comes_first))]
+    fn comes_first(self, index: usize) -> bool
+        ensures { result ≡ comes_first self index }
+    {
+        match self.next {
+            None => true,
+            Some(found) => self.last < index && found.index <= self.last,
+        }
     }
-    let jobs = s.jobs;
-    let bad = s.bad;
-    let wanted = format::MAX_RULES * jobs;
-    let room = marks.len();
-    if bad < jobs {
-        return TurnReply::Refused(refusal(format::BAD_JOB, 0, bad));
+
+    // What is found once a job has been looked at too, nothing at an index that is no job's. After a fault no further
+    // book is read.
+    #[tactic(auto, unfolding(crate::specs::Search::looked))]
+    pub fn look(self, index: usize, job: Job, buffer: &[u8]) -> Search
+        ensures { result ≡ looked self index job buffer.now }
+    {
+        if !is_allowed(self.jobs, self.last) || self.bad.is_some() {
+            return self;
+        }
+        match inspect(job, buffer) {
+            Standing::Bad => Search {
+                bad: (index < self.jobs).then_some(index),
+                ..self
+            },
+            Standing::Left { at } if self.comes_first(index) => Search {
+                next: (index < self.jobs).then_some(Found { index, job, at }),
+                ..self
+            },
+            Standing::Left { .. } | Standing::Done => self,
+        }
     }
-    if room < wanted {
-        return TurnReply::Refused(refusal(format::MARKS_TOO_SHORT, 2, 0));
+
+    // The turn of the job that was found, which is answered: its next rule is marked. The jobs' errors come in the order
+    // 24, 25, 12.
+    #[tactic(auto, unfolding(crate::specs::Run::served, crate::specs::Run::marks_after))]
+    pub fn run_next(self, buffer: &[u8], marks: &mut [u8]) -> Result<Option<Found>, Error>
+        requires { Ready self buffer.now }
+        ensures result_value { reply_of result ≡ served self (length marks.old) }
+        ensures marks_after { marks.new ≡ marks_after self buffer.now marks.old }
+    {
+        if !is_allowed(self.jobs, self.last) {
+            let code = ErrorCode::NoSuchJob;
+            return Err(Error {
+                code,
+                input: 0,
+                offset: 0,
+            });
+        }
+        if let Some(offset) = self.bad {
+            let code = ErrorCode::BadJob;
+            return Err(Error {
+                code,
+                input: 0,
+                offset,
+            });
+        }
+        if marks.len() < MAX_RULES * self.jobs {
+            let code = ErrorCode::MarksTooShort;
+            return Err(Error {
+                code,
+                input: 2,
+                offset: 0,
+            });
+        }
+        let Some(found) = self.next else {
+            return Ok(None);
+        };
+        let job = found.job;
+        let book = &buffer[job.start..job.start + job.length];
+        marks[MAX_RULES * found.index + job.marked] = seeking::mark_at(book, found.at);
+        Ok(Some(found))
     }
-    let next = s.next;
-    if next < jobs {
-        let start = s.start;
-        let end = start + s.length;
-        let byte = format::MAX_RULES * next + s.marked;
-        marks[byte] = seeking::mark_at(&buffer[start..end], s.at);
-        return TurnReply::Accepted(Turn::Served { index: next });
-    }
-    TurnReply::Accepted(Turn::Idle)
 }

@@ -2,7 +2,7 @@
 --     rules-end, rest-whole        where rules end, and those of a whole file
 --     standing-few, standing-unread, standing-cut, standing-unended, standing-left, standing-done      under a table
 --     file-unread, file-read       in a file
-use mathlib.Core.List.{List, [], ◌++◌}
+use mathlib.Core.List.{List, ◌++◌}
 use mathlib.Core.Path.{◌≡◌, refl, sym, ap, ◌∙◌}
 use mathlib.Core.Bool.{true, false, false≢true}
 use Prim.Native.Nat.{ℕ, ◌+◌, ◌-◌, ◌*◌, ◌≤◌, ◌<◌}
@@ -25,6 +25,7 @@ use Rattle.format.proofs.SpellingLaws.{spells→coded}
 use Rattle.format.proofs.FormatLaws.{rules-read, rules-length}
 use Rattle.format.proofs.CodingLaws.{bit-coding}
 use Rattle.reader.specs.Source.{source_of}
+use Rattle.reader.specs.Source.Input.{from_bytes}
 use Rattle.reader.specs.File.{rest_reader}
 use Rattle.reader.proofs.FileLaws.{rest-unread, rest-unended, rest_ended}
 use Rattle.reader.proofs.RuleLaws.{done_all}
@@ -50,7 +51,7 @@ module _ (bytes : List ℕ) where
     rules-here = rules_reader (bit_source bytes) (unused_of form_number) σ count at
 
     abbrev rest-here : Reading RuleFile
-    rest-here = rest_reader form true bytes [] σ count at
+    rest-here = rest_reader form (from_bytes bytes) σ count at
 
     -- The rules of a file that is read whole are read up to its end.
     pub rest-whole : (file : RuleFile) (last : ℕ) → rest-here ≡ got file last →
@@ -88,7 +89,7 @@ module _ (bytes : List ℕ) where
 
       pub standing-unread : (code offset : ℕ) → rules-here ≡ fault code offset → Bad ≡ standing_in marked rest-here
       unfolding source_of
-      standing-unread code offset e = rw (rest-unread form_number form taken true bytes [] σ count at code offset e)
+      standing-unread code offset e = rw (rest-unread form_number form taken (from_bytes bytes) σ count at code offset e)
 
       -- The rules that are marked are done, and the others are read from a bit on.
       module _ (few : marked ≤ count) (done : List Sides) (start : ℕ)
@@ -113,12 +114,12 @@ module _ (bytes : List ℕ) where
             pub standing-unended : is_padding bytes end ≡ false → Bad ≡ standing_in marked rest-here
             unfolding source_of
             standing-unended p =
-                rw (rest-unended form_number form taken true bytes [] σ count at (done ++ rest) end all_read bad_padding end (rw p))
+                rw (rest-unended form_number form taken (from_bytes bytes) σ count at (done ++ rest) end all_read bad_padding end (rw p))
 
             module _ (ends : is_padding bytes end ≡ true) where
               whole : rest-here ≡ got (record { form = form; signature = σ; rules = done ++ rest }) end
               unfolding source_of
-              whole = rest_ended form_number form taken true bytes [] σ count at (done ++ rest) end all_read end (rw ends)
+              whole = rest_ended form_number form taken (from_bytes bytes) σ count at (done ++ rest) end all_read end (rw ends)
 
               lengths : (length (done ++ rest) ≡ count) × (length done ≡ marked)
               lengths =

@@ -1,7 +1,8 @@
 -- Marking a rule that was found.
 --     rule-at                           the rule with a number, and where it is read
---     one-marked                        marking one rule, under a table
+--     one-marked, one-unread            marking one rule
 --     never-found, found_within, mark-found      and in a file
+use Rattle.std.specs.Prelude.{Result, Ok, Err}
 use mathlib.Core.List.{List, [], ◌∷◌, map}
 use mathlib.Core.Path.{◌≡◌, refl, sym, ap, ◌∙◌}
 use mathlib.Core.Bool.{true, false≢true}
@@ -9,14 +10,12 @@ use Prim.Native.Nat.{ℕ, suc, zero, ◌-◌, ◌*◌, ◌≤◌, ◌<◌}
 use native.Mathlib.Nat.{sub-zero}
 use native.Mathlib.Omega.{arith}
 use lib.Dec.{leb}
-use lib.IntN.{ℤ}
 use lib.ListN.{length, get_or, drop}
-use lib.Seq.{sets}
 use borrow.Author.Tests.{lt-ltb, le-ltb, le-leb, lt-leb}
 use Rattle.multisets.proofs.Relations.{by_test, by_order}
 use Rattle.terms.specs.Signature.{Signature}
 use Rattle.format.specs.Layout.{form_number, max_bytes}
-use Rattle.format.specs.Errors.{file_too_long}
+use Rattle.format.specs.Errors.{number_of, file_too_long}
 use Rattle.format.specs.Reading.{Reading, and_then, give, Source, bit_source}
 use Rattle.format.specs.Reading.Reading.{got, fault}
 use Rattle.format.specs.Forms.{is_taken, unused_of}
@@ -25,14 +24,16 @@ use Rattle.format.specs.Files.{read_bytes, read_bytes_in}
 use Rattle.format.proofs.FormatLaws.{rules-length}
 use Rattle.format.proofs.FaultLaws.{within-got, whole-within, bits-bounded}
 use Rattle.operations.specs.Jobs.{book_marks}
+use Rattle.reader.specs.Source.Input.{from_bytes}
 use Rattle.reader.specs.File.{rest_reader}
-use Rattle.answers.specs.declared.Answer.{Answer}
-use Rattle.answers.specs.declared.Answer.TheVariants as answer
-use Rattle.reader.proofs.RuleLaws.{rules-step, done_none, done_more, done_all}
+use Rattle.operations.specs.Enums.{mark_number}
+use Rattle.answers.specs.declared.Fault.{Fault}
+use Rattle.reader.proofs.RuleLaws.{rules-step}
 use Rattle.seeking.specs.declared.Standing.TheVariants.{Bad, Done, Left}
-use Rattle.marking.specs.Rule.{sides_mark, AllMarked}
+use Rattle.marking.specs.declared.rule.MarkedRule.{MarkedRule}
+use Rattle.marking.specs.Rule.{sides_mark, MarksRead}
 use Rattle.seeking.specs.One.{rules_bits, standing_in, file_standing}
-use Rattle.marking.proofs.WalkLaws.{marks-sides}
+use Rattle.marking.proofs.WalkLaws.{sides_themselves, marks-sides}
 use Rattle.seeking.proofs.FindLaws.{rules-end, rest-whole}
 
 -- ---- where a rule is read
@@ -104,24 +105,19 @@ module _ (source : Source) (unused : ℕ) (σ : Signature) where
 
 -- ---- marking a rule that was found
 
-module _ (source : Source) (unused : ℕ) (σ : Signature) (at : ℕ) (sides : Sides) (next : ℕ)
-    (e : rule_reader source unused σ at ≡ got sides next) where
-  one-read : rules_reader source unused σ 1 at ≡ got (sides ∷ []) next
-  one-read =
-      done_all source unused σ 1 at 1 next (sides ∷ [])
-      (done_more source unused σ 1 at 0 at [] (done_none source unused σ 1 at) (omega arith) sides next e) (omega arith)
+-- A rule that is read there and marked has its mark.
+module _ (σ : Signature) (reading : Reading Sides) (r : Result MarkedRule Fault)
+    (read : MarksRead σ sides_themselves reading r) (sides : Sides) (next : ℕ) (e : reading ≡ got sides next) where
+  pub one-marked : (m : MarkedRule) → r ≡ Ok m → mark_number m.mark ≡ sides_mark σ sides
+  one-marked m q =
+      let (a, f, x) = rw q at read in
+      let z : got a m.cursor.at ≡ got sides next = sym f ∙ e in
+      let same : a ≡ sides = cc in
+      rw (← same) x.mark
 
-  -- Where one rule is marked, its mark stands first.
-  pub one-marked : (r : Answer) (mark : ℕ) (marks₀ marks : List ℕ) (margins₀ margins : List ℤ) →
-      AllMarked σ (rules_reader source unused σ 1 at) r (mark ∷ marks₀) marks margins₀ margins →
-      get_or marks 0 0 ≡ sides_mark σ sides
-  one-marked (answer.Got decreasing end) mark marks₀ marks margins₀ margins (rules, read, listed) =
-      let z : got rules end ≡ got (sides ∷ []) next = sym read ∙ one-read in
-      let q : rules ≡ sides ∷ [] = cc in
-      let stored : marks ≡ sets (mark ∷ marks₀) 0 (sides_mark σ sides ∷ []) = rw q at listed.marks in
-      ap (λ (l : List ℕ). get_or l 0 0) stored
-  one-marked (answer.Fault offset code) mark marks₀ marks margins₀ margins read =
-      let z : fault code offset ≡ got (sides ∷ []) next = sym read ∙ one-read in absurd (false≢true (cc))
+  pub one-unread : {A : Type 0} (f : Fault) → r ≡ Err f → A
+  one-unread f q =
+      let z : fault (number_of f.code) f.offset ≡ got sides next = sym (rw q at read) ∙ e in absurd (false≢true (cc))
 
 -- A rule that is found has its number below the count of rules.
 left_is : (file : RuleFile) (marked last at : ℕ) → standing_in marked (got file last) ≡ Left at →
@@ -160,19 +156,19 @@ module _ (bytes : List ℕ) (marked at : ℕ) (found : file_standing bytes marke
       go (fault code offset) e = never-found code offset e
 
   pub mark-found : (form : ℕ) → is_taken form_number form ≡ true → (σ : Signature) (count head mark : ℕ) →
-      read_bytes bytes ≡ rest_reader form true bytes [] σ count head → head ≤ 8 * length bytes →
+      read_bytes bytes ≡ rest_reader form (from_bytes bytes) σ count head → head ≤ 8 * length bytes →
       ((sides : Sides) (next : ℕ) →
       rule_reader (bit_source bytes) (unused_of form_number) σ at ≡ got sides next → mark ≡ sides_mark σ sides) →
       mark ≡ get_or (book_marks bytes) marked 0
   unfolding file_standing book_marks
-  mark-found form taken σ count head mark read h marks = go (rest_reader form true bytes [] σ count head) refl
+  mark-found form taken σ count head mark read h marks = go (rest_reader form (from_bytes bytes) σ count head) refl
     where
       there : (middle : ℕ) (rule : Sides) (next : ℕ) → middle ≡ at →
           rule_reader (bit_source bytes) (unused_of form_number) σ middle ≡ got rule next →
           rule_reader (bit_source bytes) (unused_of form_number) σ at ≡ got rule next
       there middle rule next m e = rw (← m) e
 
-      go : (x : Reading RuleFile) → rest_reader form true bytes [] σ count head ≡ x →
+      go : (x : Reading RuleFile) → rest_reader form (from_bytes bytes) σ count head ≡ x →
           mark ≡ get_or (book_marks bytes) marked 0
       go (got file last) e =
           let whole = read ∙ e in

@@ -1,14 +1,15 @@
 -- One rule of a packed file, by its number: where it begins, and what reading past those before it gives.
 use mathlib.Core.List.{List, ◌++◌, flat_map}
-use Rattle.std.specs.Prelude.{◌≡◌, cond, ℕ, ◌-◌, ◌≤◌, leb, ltb, length, drop}
+use Rattle.std.specs.Prelude.{◌≡◌, cond, ℕ, ◌-◌, ◌≤◌, leb, ltb, length, drop, Result, Ok, Err}
 use Rattle.terms.specs.Signature.{Signature}
 use Rattle.format.specs.Reading.{Reading, and_then, give, Source}
 use Rattle.format.specs.Reading.Reading.{got, fault}
 use Rattle.format.specs.Format.{Sides, RuleFile, rules_reader}
 use Rattle.format.specs.Packing.{rule_items, item_bits}
 use Rattle.format.specs.Files.{read_bytes}
-use Rattle.answers.specs.declared.Answer.{Answer}
-use Rattle.answers.specs.declared.Answer.TheVariants.{Got, Fault}
+use Rattle.format.specs.Errors.{number_of}
+use Rattle.answers.specs.declared.Fault.{Fault}
+use Rattle.bits.specs.declared.BitCursor.{BitCursor}
 use Rattle.seeking.specs.declared.Standing.{Standing}
 use Rattle.seeking.specs.declared.Standing.TheVariants.{Bad, Done, Left}
 
@@ -30,14 +31,19 @@ unfoldable pub file_standing : List ℕ → ℕ → Standing
 file_standing book marked = standing_in marked (read_bytes book)
 
 -- What reading past a rule gives: where it ends, or its fault.
-abbrev pub RuleSkipped : Reading Sides → Answer → Type 0
-RuleSkipped reading (Got value next) = (sides : Sides) × (reading ≡ got sides next)
-RuleSkipped reading (Fault offset code) = reading ≡ fault code offset
+abbrev pub RuleSkipped : Reading Sides → Result BitCursor Fault → Type 0
+RuleSkipped reading (Ok next) = (sides : Sides) × (reading ≡ got sides next.at)
+RuleSkipped reading (Err f) = reading ≡ fault (number_of f.code) f.offset
 
 -- What reading past so many rules, of as many or more, gives: they and those that follow, or their fault.
-abbrev pub RulesSkipped : Source → ℕ → Signature → ℕ → ℕ → Answer → Type 0
-RulesSkipped source unused σ count at (Got value next) =
+abbrev pub RulesSkipped : Source → ℕ → Signature → ℕ → ℕ → Result BitCursor Fault → Type 0
+RulesSkipped source unused σ count at (Ok next) =
     (total : ℕ) → count ≤ total → (done : List Sides) × (rules_reader source unused σ total at
-    ≡ and_then (rules_reader source unused σ (total - count) next) (λ rest. give (done ++ rest)))
-RulesSkipped source unused σ count at (Fault offset code) =
-    (total : ℕ) → count ≤ total → rules_reader source unused σ total at ≡ fault code offset
+    ≡ and_then (rules_reader source unused σ (total - count) next.at) (λ rest. give (done ++ rest)))
+RulesSkipped source unused σ count at (Err f) =
+    (total : ℕ) → count ≤ total → rules_reader source unused σ total at ≡ fault (number_of f.code) f.offset
+
+-- They end by that offset.
+abbrev pub SkippedWithin : ℕ → Result BitCursor Fault → Type 0
+SkippedWithin last (Ok next) = next.at ≤ last
+SkippedWithin last (Err f) = Unit {0}

@@ -3,24 +3,28 @@
 
 ghost use Rattle.std.specs.Prelude.{◌≡◌, [], true, ℕ, ◌*◌, ◌≤◌, length, get_or};
 ghost use Rattle.terms.specs.Signature.{Signature};
-ghost use Rattle.format.specs.Layout.{form_number, max_bytes, max_nodes};
+ghost use Rattle.format.specs.Layout.{form_number};
 ghost use Rattle.format.specs.Reading.{bit_source};
-ghost use Rattle.format.specs.Reading.Reading.{got};
 ghost use Rattle.format.specs.Forms.{is_taken, unused_of};
 ghost use Rattle.format.specs.Format.{Sides, rule_reader};
 ghost use Rattle.operations.specs.Jobs.{book_marks};
 ghost use Rattle.format.specs.Statements.{Unscaled};
-ghost use Rattle.symbols.specs.Table.{signature_of, max_table_words};
+ghost use Rattle.symbols.specs.Table.{signature_of};
 ghost use Rattle.symbols.specs.Arities.{Arities};
-ghost use Rattle.answers.specs.Answer.{Within};
-ghost use Rattle.bits.specs.Cursor.{told};
+ghost use Rattle.reader.specs.Source.Input.{from_bytes};
 ghost use Rattle.reader.specs.File.{rest_reader};
 ghost use Rattle.reader.specs.Promise.{IsTable};
+ghost use Rattle.marking.specs.Rule.{MarksRead};
 ghost use Rattle.seeking.specs.declared.Standing.TheVariants.{Left};
-ghost use Rattle.marking.specs.Rule.{sides_mark};
-ghost use Rattle.seeking.specs.One.{standing_in, file_standing, RuleSkipped, RulesSkipped};
+ghost use Rattle.seeking.specs.One.{standing_in, file_standing, RuleSkipped, RulesSkipped, SkippedWithin};
 
-use bits::{BitCursor, Read};
+use answers::Fault;
+use bits::{BitCursor, Book};
+use format::{MAX_NODES, NODE_WORDS};
+use marking::Under;
+use marking::rule::{MarkedRule, mark_rule};
+use reader::Form;
+use weights::{Totals, Weighing};
 
 // How a packed file stands of which so many rules are marked: it is refused or has fewer rules, it has no others, or
 // the next begins at a bit.
@@ -32,75 +36,64 @@ pub enum Standing {
 }
 
 // Reads past a rule. `sides::read_rule_into` is left to one caller, of whose loop it is then made part.
-fn skip_rule(book: &[u8], arities: &[u32; format::NODE_WORDS], cursor: BitCursor) -> Read
-    requires { (length book.now ≤ max_bytes) × (cursor.at ≤ 8 * length book.now) }
+fn skip_rule(book: Book, arities: &[u32; NODE_WORDS], cursor: BitCursor) -> Result<BitCursor, Fault>
+    requires { cursor.at ≤ 8 * length book.bytes.now }
     ensures rule_skipped { (σ : Signature) → Arities σ arities.now → Unscaled σ →
-        RuleSkipped (rule_reader (bit_source book.now) (unused_of form_number) σ cursor.at) (told result) }
-    ensures within { Within max_nodes (8 * length book.now) (told result) }
+        RuleSkipped (rule_reader (bit_source book.entry.bytes.now) (unused_of form_number) σ cursor.at) result }
+    ensures within { SkippedWithin (8 * length book.entry.bytes.now) result }
 {
     let mut unused = variables::unused_at_start(format::FORM);
-    let mut side = [0u16; format::MAX_NODES];
-    let read = sides::read_side(book, arities, &mut side, &mut unused, cursor);
-    let Read::Got { value: _, cursor } = read else {
-        return read;
-    };
-    sides::read_side(book, arities, &mut side, &mut unused, cursor)
+    let mut side = [0u16; MAX_NODES];
+    let (_, middle) = sides::read_side(book, arities, &mut side, &mut unused, cursor)?;
+    let (_, end) = sides::read_side(book, arities, &mut side, &mut unused, middle)?;
+    Ok(end)
 }
 
 // Reads past that many rules.
 fn skip_rules(
-    book: &[u8],
-    arities: &[u32; format::NODE_WORDS],
+    book: Book,
+    arities: &[u32; NODE_WORDS],
     count: usize,
     cursor: BitCursor,
-) -> Read
-    requires { (length book.now ≤ max_bytes) × (cursor.at ≤ 8 * length book.now) }
+) -> Result<BitCursor, Fault>
+    requires { cursor.at ≤ 8 * length book.bytes.now }
     ensures rules_skipped { (σ : Signature) → Arities σ arities.now → Unscaled σ →
-        RulesSkipped (bit_source book.now) (unused_of form_number) σ count cursor.at (told result) }
-    ensures within { Within 0 (8 * length book.now) (told result) }
+        RulesSkipped (bit_source book.entry.bytes.now) (unused_of form_number) σ count cursor.at result }
+    ensures within { SkippedWithin (8 * length book.entry.bytes.now) result }
 {
     let mut here = cursor;
-    let mut i = 0;
-    while i < count {
-        match skip_rule(book, arities, here) {
-            Read::Fault { code, offset } => return Read::Fault { code, offset },
-            Read::Got { value: _, cursor } => here = cursor,
-        }
-        i += 1;
+    for _i in 0..count {
+        here = skip_rule(book, arities, here)?;
     }
-    Read::Got {
-        value: 0,
-        cursor: here,
-    }
+    Ok(here)
 }
 
 // Reads the rules under a symbol table, that many of them, to the end of the file; `marked` of them are marked.
-fn find_after(book: &[u8], table: &[u16], marked: usize, count: usize, first: BitCursor) -> Standing
-    requires book_len_bound { (length book.now ≤ max_bytes) × (first.at ≤ 8 * length book.now) }
+fn find_after(book: Book, table: &[u16], marked: usize, count: usize, first: BitCursor) -> Standing
+    requires cursor_bound { first.at ≤ 8 * length book.bytes.now }
     requires table { IsTable table.now }
     ensures { (form : ℕ) → is_taken form_number form ≡ true →
         result
         ≡ standing_in marked
-        (rest_reader form true book.now [] (signature_of table.now) count first.at) }
+        (rest_reader form (from_bytes book.entry.bytes.now) (signature_of table.now) count first.at) }
 {
     if count < marked {
         return Standing::Bad;
     }
     let arities = symbols::arities(table);
-    let Read::Got { value: _, cursor } = skip_rules(book, &arities, marked, first) else {
+    let Ok(start) = skip_rules(book, &arities, marked, first) else {
         return Standing::Bad;
     };
-    let start = cursor;
-    let Read::Got { value: _, cursor } = skip_rules(book, &arities, count - marked, start) else {
+    let Ok(end) = skip_rules(book, &arities, count - marked, start) else {
         return Standing::Bad;
     };
-    if cursor.is_padding(book) {
-        if marked < count {
-            return Standing::Left { at: start.at };
-        }
-        return Standing::Done;
+    if !end.is_padding(book) {
+        return Standing::Bad;
     }
-    Standing::Bad
+    if marked < count {
+        return Standing::Left { at: start.at };
+    }
+    Standing::Done
 }
 
 // Reads a packed file, and finds the rule that the count of those marked numbers.
@@ -108,50 +101,61 @@ pub fn find_next(book: &[u8], marked: usize) -> Standing
     ensures { result ≡ file_standing book.now marked }
 {
     let mut table = [0u16; symbols::TABLE_WORDS];
-    let mut rules = 0;
-    match reader::read_head(book, &[0u16; 0], true, format::FORM, &mut table, &mut rules) {
-        Read::Fault { .. } => Standing::Bad,
-        Read::Got { value, cursor } => {
-            let front = symbols::front(value);
-            find_after(book, &table[..front], marked, rules, cursor)
+    let form = Form {
+        number: format::FORM,
+    };
+    match reader::read_head(book, form, &mut table) {
+        Err(_) => Standing::Bad,
+        Ok(head) => {
+            let front = symbols::front(head.symbols);
+            find_after(
+                Book { bytes: book },
+                &table[..front],
+                marked,
+                head.rules,
+                head.cursor,
+            )
         }
     }
 }
 
-// The mark of the rule that begins at a bit, under a symbol table. `mark_rule` is left to one caller, of whose loop it
-// is then made part.
-fn mark_there(book: &[u8], table: &[u16], cursor: BitCursor) -> u8
-    requires book_len_bound { (length book.now ≤ max_bytes) × (cursor.at ≤ 8 * length book.now) }
+// Marks the rule that begins at a bit, under a symbol table.
+fn mark_there(book: Book, table: &[u16], cursor: BitCursor) -> Result<MarkedRule, Fault>
+    requires cursor_bound { cursor.at ≤ 8 * length book.bytes.now }
     requires table { IsTable table.now }
-    ensures { (sides : Sides) (next : ℕ) →
-        rule_reader (bit_source book.now) (unused_of form_number) (signature_of table.now)
-        cursor.at ≡ got sides next → result ≡ sides_mark (signature_of table.now) sides }
+    ensures { MarksRead (signature_of table.now) (λ (sides : Sides). sides)
+        (rule_reader (bit_source book.entry.bytes.now) (unused_of form_number) (signature_of table.now)
+        cursor.at) result }
 {
     let arities = symbols::arities(table);
-    let mut adds = [0u64; weights::NODE_SUMS];
-    weights::nodes::put_node_sums(table, &mut adds);
-    let mut marks = [0u8; 1];
-    let mut none = [0i64; 0];
-    marking::walk::mark_rules(
-        book, table, &arities, &adds, &mut marks, &mut none, 1, cursor,
-    );
-    marks[0]
+    let mut adds = [Totals::NONE; NODE_WORDS];
+    weights::put_node_sums(table, &mut adds);
+    let weighing = Weighing { table, adds: &adds };
+    let under = Under {
+        arities: &arities,
+        weighing,
+    };
+    mark_rule(book, &under, cursor)
 }
 
-// The mark of the rule that was found at a bit of a packed file.
+// The mark of the rule that begins at a bit of a packed file, 0 where none does.
 pub fn mark_at(book: &[u8], at: usize) -> u8
     requires { at ≤ 8 * length book.now }
     ensures { (marked : ℕ) → file_standing book.now marked ≡ Left at →
         result ≡ get_or (book_marks book.now) marked 0 }
 {
     let mut table = [0u16; symbols::TABLE_WORDS];
-    let mut rules = 0;
-    match reader::read_head(book, &[0u16; 0], true, format::FORM, &mut table, &mut rules) {
-        Read::Fault { .. } => 0,
-        Read::Got { value, cursor: _ } => {
-            let front = symbols::front(value);
-            let start = BitCursor { at };
-            mark_there(book, &table[..front], start)
+    let form = Form {
+        number: format::FORM,
+    };
+    match reader::read_head(book, form, &mut table) {
+        Err(_) => 0,
+        Ok(head) => {
+            let front = symbols::front(head.symbols);
+            match mark_there(Book { bytes: book }, &table[..front], BitCursor { at }) {
+                Err(_) => 0,
+                Ok(rule) => marks::number(rule.mark),
+            }
         }
     }
 }

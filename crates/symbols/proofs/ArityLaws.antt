@@ -1,9 +1,9 @@
 -- The cells of the node words.
 --     variable-cell, symbol-cell, no_cell     what stands in a cell
---     between_none, between_more              some cells written, and one more
+--     between_more                            one cell more that is written
 --     cells-all                               those of the symbols and of the variables are all
 use mathlib.Core.List.{List}
-use mathlib.Core.Path.{◌≡◌, refl, sym, ◌∙◌}
+use mathlib.Core.Path.{◌≡◌, sym, ◌∙◌}
 use Prim.Native.Nat.{ℕ, suc, ◌+◌, ◌≤◌, ◌<◌}
 use native.Mathlib.Omega.{arith}
 use lib.ListN.{length, set, replicate, get_or-replicate}
@@ -23,10 +23,6 @@ module _ (σ : Signature) where
 
   pub no_cell : (word : ℕ) → word < 256 → length σ.symbols ≤ word → cell_of σ word ≡ 0
   no_cell word h k = rw (lt-leb 256 word h, le-ltb word (length σ.symbols) k)
-
-  pub between_none : (from : ℕ) (cells : List ℕ) → Between σ from from cells cells
-  between_none from cells =
-      record { inside = λ word h k. absurd (omega arith); lower = λ word h. refl; higher = λ word h. refl }
 
   pub between_more : (from to value : ℕ) (before cells : List ℕ) → from ≤ to → to < length cells →
       value ≡ cell_of σ to → Between σ from to before cells → Between σ from (to + 1) before (set cells to value)

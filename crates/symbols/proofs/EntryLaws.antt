@@ -1,5 +1,4 @@
 -- The words of entries in a table, and in a sheet.
---     stored-four                        four stores one after the other
 --     table-le, table_more, table-next, table-start, table-entries, table-some     how many words a table has
 --     symbols-stand                      one symbol more that stands
 --     symbols-put, scaled-put, form-put  one symbol more that was stored, without and with coefficients, and the form
@@ -14,7 +13,7 @@ use Prim.Native.Nat.{ℕ, suc, zero, ◌+◌, ◌-◌, ◌*◌, ◌/◌, ◌%◌
 use native.Mathlib.Nat.{add-zero}
 use native.Mathlib.Numerals.{add-one}
 use native.Mathlib.Omega.{arith}
-use lib.ListN.{length, length-append, get_or, take, drop, set, get_or-append}
+use lib.ListN.{length, length-append, get_or, take, drop, get_or-append}
 use lib.Dec.{eqb}
 use lib.Seq.{sets, sets-eq, get_or-take, get_or-append-add, length-take-le, take-append_seam}
 use Rattle.multisets.proofs.ListLaws.{sets-append}
@@ -27,14 +26,7 @@ use Rattle.symbols.specs.Table.{digits, scaled_words, symbol_in, symbols_in, for
 use Rattle.symbols.specs.Table.{weight_of}
 use Rattle.symbols.specs.Table.{table_words, max_table_words, symbols_words, front_words}
 
-pub stored-four : (l l₁ l₂ l₃ l₄ : List ℕ) (i a b c d : ℕ) → l₁ ≡ set l i a → l₂ ≡ set l₁ (i + 1) b →
-    l₃ ≡ set l₂ (i + 2) c → l₄ ≡ set l₃ (i + 3) d → l₄ ≡ sets l i (a ∷ b ∷ c ∷ d ∷ [])
-stored-four l l₁ l₂ l₃ l₄ i a b c d h₁ h₂ h₃ h₄ =
-    let e₁ : i + 1 ≡ suc i = omega arith in
-    let e₂ : i + 2 ≡ suc (suc i) = omega arith in
-    let e₃ : i + 3 ≡ suc (suc (suc i)) = omega arith in
-    h₄ ∙ rw (h₃, h₂, h₁, e₁, e₂, e₃)
-
+-- Words copied to the part of a list from an index on.
 -- ---- in a table
 
 pub table-le : (n : ℕ) → n < 256 → table_words n ≤ max_table_words

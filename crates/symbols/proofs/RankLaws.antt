@@ -1,17 +1,16 @@
 -- The ranks of the symbols of a table, one by one.
---     Unranked: unranked-none, unranked-more, unranked-found, unranked-done     a search for a higher rank
+--     Unranked: unranked-more                   a search for a higher rank
 --     outranked-layout                          the words for coefficients have no part in it
---     Searched: searched-none, searched-more, searched-found, searched-done     a search for a symbol that is outranked
+--     Searched: searched-more                   a search for a symbol that is outranked
 use mathlib.Core.Path.{◌≡◌, refl, ◌∙◌}
 use mathlib.Core.List.{List}
-use mathlib.Core.Bool.{Bool, true, false, ◌&&◌}
+use mathlib.Core.Bool.{Bool, false, ◌&&◌}
 use Prim.Native.Nat.{ℕ, suc, zero, ◌+◌, ◌-◌, ◌*◌, ◌≤◌, ◌<◌}
-use native.Mathlib.Nat.{sub-zero, zero-add}
 use native.Mathlib.Numerals.{add-one}
 use native.Mathlib.Omega.{arith}
 use lib.Dec.{eqb}
 use lib.ListN.{get_or}
-use borrow.Author.Tests.{lt-ltb, le-ltb}
+use borrow.Author.Tests.{le-ltb}
 use Rattle.terms.specs.Signature.{Symbol}
 use Rattle.format.specs.Symbols.{outranks, outranked_from, first_outranked}
 use Rattle.symbols.specs.Table.{symbols_in, symbol_at, symbols_at}
@@ -22,24 +21,10 @@ module _ (table : List ℕ) (count : ℕ) where
     abbrev pub Unranked : ℕ → Type 0
     Unranked g = outranks (symbols_at table 0 count) rank ≡ outranks (symbols_at table g (count - g)) rank
 
-    pub unranked-none : Unranked 0
-    unranked-none = rw sub-zero
-
-    pub unranked-found : (g : ℕ) → g < count → Unranked g → rank < get_or table (4 * g + 7) 0 →
-        outranks (symbols_at table 0 count) rank ≡ true
-    unranked-found g h so l =
-        let n : count - g ≡ suc (count - (g + 1)) = omega arith in
-        so ∙ rw (n, lt-ltb rank (get_or table (4 * g + 7) 0) l)
-
     pub unranked-more : (g : ℕ) → g < count → Unranked g → get_or table (4 * g + 7) 0 ≤ rank → Unranked (g + 1)
     unranked-more g h so l =
         let n : count - g ≡ suc (count - suc g) = omega arith in
         so ∙ rw (n, le-ltb rank (get_or table (4 * g + 7) 0) l, add-one g)
-
-    pub unranked-done : (g : ℕ) → count ≤ g → Unranked g → outranks (symbols_at table 0 count) rank ≡ false
-    unranked-done g h so =
-        let n : count - g ≡ 0 = omega arith in
-        so ∙ rw n
 
   abbrev symbols : List Symbol
   symbols = symbols_at table 0 count
@@ -54,26 +39,11 @@ module _ (table : List ℕ) (count : ℕ) where
   abbrev pub Searched : ℕ → Type 0
   Searched f = first_outranked symbols ≡ f + outranked_from symbols (symbols_at table f (count - f))
 
-  pub searched-none : Searched 0
-  searched-none = rw (sub-zero, zero-add)
-
-  pub searched-found : (f : ℕ) → f < count → Searched f → is_too_low f ≡ true → first_outranked symbols ≡ f
-  searched-found f h so low =
-      let n : count - f ≡ suc (count - (f + 1)) = omega arith in
-      let z : outranked_from symbols (symbols_at table f (count - f)) ≡ 0 = rw (n, low) in
-      omega arith
-
   pub searched-more : (f : ℕ) → f < count → Searched f → is_too_low f ≡ false → Searched (f + 1)
   searched-more f h so low =
       let n : count - f ≡ suc (count - suc f) = omega arith in
       let z : outranked_from symbols (symbols_at table f (count - f)) ≡
       suc (outranked_from symbols (symbols_at table (f + 1) (count - (f + 1)))) = rw (n, low, add-one f) in
-      omega arith
-
-  pub searched-done : (f : ℕ) → f ≤ count → count ≤ f → Searched f → first_outranked symbols ≡ count
-  searched-done f l h so =
-      let n : count - f ≡ 0 = omega arith in
-      let z : outranked_from symbols (symbols_at table f (count - f)) ≡ 0 = rw n in
       omega arith
 
 -- ---- with and without coefficients

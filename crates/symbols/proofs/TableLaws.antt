@@ -81,3 +81,6 @@ symbol-count table = length_symbols (has_coefficients (form_of table)) table 0 (
 
 pub few-at : (table : List ℕ) → length table ≤ 1025 → length (signature_of table).symbols ≤ 256
 few-at table h = omega (arith, symbol-count table)
+
+-- What the functions on a table cite.
+pub ruleset table_laws = (symbol-at, symbol-count)

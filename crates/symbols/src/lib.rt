@@ -1,4 +1,5 @@
-// The decoded symbol table: access to a symbol by its number. Only these functions know how the words lie.
+// The decoded symbol table: access to a symbol by its number. Only these functions know how the words lie. They take the
+// table as the slice that it is: a struct around the one slice would hold no fact, and each caller would have to wrap it.
 #![tactic(auto)]
 
 ghost use Rattle.std.specs.Prelude.{◌≡◌, not, ◌&&◌, ◌||◌, cond, ◌+◌, ◌*◌, ◌^◌, ◌≤◌, ◌<◌, eqb, length, get_or};
@@ -13,28 +14,16 @@ use format::{FIRST_FORM, FIRST_VARIABLE, NODE_WORDS};
 mod entries;
 mod ranks;
 
-pub use crate::entries::{TABLE_WORDS, count, front, put_header, put_scaled_symbol, put_symbol};
+pub use crate::entries::{
+    Entry, TABLE_WORDS, count, front, put_header, put_scaled_symbol, put_symbol,
+};
 pub use crate::ranks::first_outranked;
-
-// The word as an index.
-pub fn wide(word: u16) -> usize
-    ensures { (result ≡ word) × (result < 65536) }
-{
-    word as usize
-}
-
-// The word as a weight.
-pub fn long(word: u16) -> u64
-    ensures { (result ≡ word) × (result < 65536) }
-{
-    word as u64
-}
 
 // The word at an index, and 0 past the end.
 pub fn word_at(words: &[u16], index: usize) -> u16
     ensures { result ≡ get_or words.now index 0 }
 {
-    if index < words.len() { words[index] } else { 0 }
+    words.get(index).copied().unwrap_or(0)
 }
 
 // Whether symbols have coefficients; else all are 1.
@@ -44,28 +33,32 @@ pub fn has_coefficients(table: &[u16]) -> bool
     word_at(table, 0) == format::COEFFICIENT_FORM
 }
 
+#[tactic(auto, using(crate::proofs::TableLaws::table_laws))]
 pub fn arity(table: &[u16], f: u16) -> usize
     ensures { (result ≡ (symbol_of (signature_of table.now) f).arity) × (result < 65536) }
 {
-    wide(word_at(table, 4 * wide(f) + 4) % 8)
+    usize::from(word_at(table, 4 * usize::from(f) + 4) % 8)
 }
 
+#[tactic(auto, using(crate::proofs::TableLaws::table_laws))]
 pub fn is_ac(table: &[u16], f: u16) -> bool
     ensures { result ≡ (symbol_of (signature_of table.now) f).ac }
 {
-    word_at(table, 4 * wide(f) + 5) % 2 == 1
+    word_at(table, 4 * usize::from(f) + 5) % 2 == 1
 }
 
+#[tactic(auto, using(crate::proofs::TableLaws::table_laws))]
 pub fn weight(table: &[u16], f: u16) -> u64
     ensures { (result ≡ (symbol_of (signature_of table.now) f).weight) × (result < 65536) }
 {
-    long(word_at(table, 4 * wide(f) + 6))
+    u64::from(word_at(table, 4 * usize::from(f) + 6))
 }
 
+#[tactic(auto, using(crate::proofs::TableLaws::table_laws))]
 pub fn precedence(table: &[u16], f: u16) -> u16
     ensures { result ≡ (symbol_of (signature_of table.now) f).precedence }
 {
-    word_at(table, 4 * wide(f) + 7)
+    word_at(table, 4 * usize::from(f) + 7)
 }
 
 // Seven digits, of which a symbol's coefficients are the last ones.
@@ -74,8 +67,9 @@ fn last_digits(table: &[u16], f: u16) -> u64
         × (result < 2 ^ 28) }
 {
     if has_coefficients(table) {
-        let first = 4 * wide(f) + 4;
-        return 32768 * long(word_at(table, first) / 8) + long(word_at(table, first + 1) / 2);
+        let first = 4 * usize::from(f) + 4;
+        let high = u64::from(word_at(table, first) / 8);
+        return 32768 * high + u64::from(word_at(table, first + 1) / 2);
     }
     0x1111111
 }
@@ -88,10 +82,11 @@ pub fn row(table: &[u16], f: u16) -> u64
 }
 
 // The weight of a variable.
+#[tactic(auto, unfolding(crate::specs::Table::signature_of))]
 pub fn variable_weight(table: &[u16]) -> u64
     ensures { (result ≡ (signature_of table.now).w0) × (result < 65536) }
 {
-    long(word_at(table, 2))
+    u64::from(word_at(table, 2))
 }
 
 // Whether a symbol that is AC has two arguments: 4 shifted by the arity is odd for two alone. There is no branch on the
@@ -107,34 +102,25 @@ pub fn binary_if_ac(arity: u16, ac: u16) -> bool
 pub fn may_weigh_less(form: u16, arity: u16) -> bool
     ensures { result ≡ (not (eqb form first_form) && eqb arity 1) }
 {
-    if form == FIRST_FORM {
-        return false;
-    }
-    arity == 1
+    form != FIRST_FORM && arity == 1
 }
 
 // Stores the cells of all symbols of a table, one more than how many arguments each calls for.
 fn put_symbol_cells(table: &[u16], cells: &mut [u32; NODE_WORDS], count: usize)
-    requires { (count ≡ length (signature_of table.now).symbols) × (count ≤ 256) × (length cells.old ≡ 272) }
-    ensures between { Between (signature_of table.now) 0 count cells.old cells.new }
-    ensures cells_len { length cells.new ≡ 272 }
+    requires { (count ≡ length (signature_of table.now).symbols) × (count ≤ 256) }
+    ensures { Between (signature_of table.now) 0 count cells.old cells.new }
 {
-    let mut f = 0;
-    while f < count {
-        cells[f] = wide(table[4 * f + 4] % 8) as u32 + 1;
-        f += 1;
+    for f in 0..count {
+        cells[f] = u32::from(table[4 * f + 4] % 8) + 1;
     }
 }
 
 // Stores the cells of the variables, which call for none.
 fn put_variable_cells(cells: &mut [u32; NODE_WORDS])
-    requires { length cells.old ≡ 272 }
     ensures { (σ : Signature) → Between σ 256 272 cells.old cells.new }
 {
-    let mut word = FIRST_VARIABLE as usize;
-    while word < NODE_WORDS {
+    for word in FIRST_VARIABLE as usize..NODE_WORDS {
         cells[word] = 1;
-        word += 1;
     }
 }
 
@@ -149,17 +135,10 @@ pub fn arities(table: &[u16]) -> [u32; NODE_WORDS]
     cells
 }
 
-// The number as an index.
-fn widest(cell: u32) -> usize
-    ensures { (result ≡ cell) × (result < 2 ^ 32) }
-{
-    cell as usize
-}
-
 // The cell of a node word.
 pub fn cell_at(cells: &[u32; NODE_WORDS], word: u16) -> usize
     requires { word < 272 }
     ensures { (result ≡ get_or cells.now word 0) × (result < 2 ^ 32) }
 {
-    widest(cells[wide(word)])
+    cells[usize::from(word)] as usize
 }

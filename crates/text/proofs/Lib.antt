@@ -1,3 +1,2 @@
 -- The laws of text in a buffer.
 pub mod TextLaws
-pub mod SignLaws

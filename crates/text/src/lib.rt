@@ -1,125 +1,116 @@
-// Text in a buffer: each function writes at an index, and answers the index past what it wrote.
+// Text that is written into a buffer, each piece after the one before.
 #![tactic(auto)]
 
-ghost use Rattle.std.specs.Prelude.{◌≡◌, [], ◌∷◌, ◌++◌, ◌+◌, ◌^◌, ◌≤◌, ◌<◌, length, nat_abs};
-ghost use Rattle.std.proofs.lemmas.List.Edits.{sets};
+ghost use Rattle.std.specs.Prelude.{◌≡◌, [], ◌∷◌, ◌++◌, ◌+◌, ◌^◌, ◌≤◌, ◌<◌, length};
 ghost use Rattle.operations.specs.Text.{decimal, signed_decimal, spaces, right_set, left_set};
-ghost use Rattle.text.specs.Put.{Put};
+ghost use Rattle.text.specs.Put.{Put, Pushed};
 
-// A byte past the end is left out.
-pub fn put_byte(out: &mut [u8], at: usize, byte: u8) -> usize
-    requires { at < 2 ^ 63 }
-    ensures value { result ≡ at + 1 }
-    ensures out_after { out.new ≡ sets out.old at (byte ∷ []) }
-{
-    if at < out.len() {
-        out[at] = byte;
+// A buffer and the index past the text in it. What has no room in the buffer is left out, and counts.
+#[derive(Drop)]
+pub struct Text<'a> {
+    pub out: &'a mut [u8],
+    pub end: usize,
+}
+
+impl<'a> Text<'a> {
+    // No text yet.
+    pub fn new(out: &'a mut [u8]) -> Text<'a>
+        ensures same { result.out.ghost_name ≡ out.entry.ghost_name }
+        ensures value { (result.out.now ≡ out.old) × (result.end ≡ 0) }
+    {
+        Text { out, end: 0 }
     }
-    at + 1
-}
 
-// The decimal digits of n.
-pub fn put_decimal(out: &mut [u8], at: usize, n: u64) -> usize
-    requires { at < 2 ^ 32 }
-    ensures value { result ≡ at + length (decimal n) }
-    ensures out_after { out.new ≡ sets out.old at (decimal n) }
-{
-    if n < 10 {
-        return put_byte(out, at, (48 + n) as u8);
+    pub fn push_byte(&mut self, byte: u8)
+        requires { self.old.end < 2 ^ 63 }
+        ensures { Pushed self.old (byte ∷ []) self.new }
+    {
+        if self.end < self.out.len() {
+            self.out[self.end] = byte;
+        }
+        self.end += 1;
     }
-    let next = put_decimal(out, at, n / 10);
-    put_byte(out, next, (48 + n % 10) as u8)
-}
 
-// The decimal digits of n, and a byte after them.
-pub fn put_number(out: &mut [u8], at: usize, n: u64, after: u8) -> usize
-    requires { (at < 2 ^ 31) × (n < 10 ^ 9) }
-    ensures value { result ≡ at + length (decimal n ++ (after ∷ [])) }
-    ensures out_after { out.new ≡ sets out.old at (decimal n ++ (after ∷ [])) }
-    ensures upper_bound { result ≤ at + 10 }
-{
-    let next = put_decimal(out, at, n);
-    put_byte(out, next, after)
-}
-
-// All bytes of a text.
-pub fn put_bytes(out: &mut [u8], at: usize, bytes: &[u8]) -> usize
-    requires { at + length bytes.now < 2 ^ 63 }
-    ensures value { result ≡ at + length bytes.now }
-    ensures out_after { out.new ≡ sets out.old at bytes.now }
-{
-    let mut i = 0;
-    while i < bytes.len() {
-        put_byte(out, at + i, bytes[i]);
-        i += 1;
+    pub fn push_bytes(&mut self, bytes: &[u8])
+        requires { self.old.end + length bytes.now < 2 ^ 63 }
+        ensures { Pushed self.old bytes.now self.new }
+    {
+        for &byte in bytes {
+            self.push_byte(byte);
+        }
     }
-    at + i
-}
 
-// The number without its sign; !n is -n - 1.
-fn magnitude(n: i64) -> u64
-    ensures { result ≡ nat_abs n }
-{
-    if n < 0 {
-        return !n as u64 + 1;
+    // The decimal digits of n.
+    pub fn push_decimal(&mut self, n: u64)
+        requires { self.old.end < 2 ^ 32 }
+        ensures { Pushed self.old (decimal n) self.new }
+    {
+        if 10 <= n {
+            self.push_decimal(n / 10);
+        }
+        self.push_byte(b'0' + (n % 10) as u8);
     }
-    n as u64
-}
 
-// The decimal digits of a number, with a sign before a negative one.
-pub fn put_signed(out: &mut [u8], at: usize, n: i64) -> usize
-    requires { at < 2 ^ 31 }
-    ensures value { result ≡ at + length (signed_decimal n) }
-    ensures out_after { out.new ≡ sets out.old at (signed_decimal n) }
-    ensures upper_bound { result ≤ at + 20 }
-{
-    if n < 0 {
-        let next = put_byte(out, at, b'-');
-        return put_decimal(out, next, magnitude(n));
+    // The decimal digits of n, and a byte after them.
+    pub fn push_number(&mut self, n: u64, after: u8)
+        requires { (self.old.end < 2 ^ 31) × (n < 10 ^ 9) }
+        ensures pushed { Pushed self.old (decimal n ++ (after ∷ [])) self.new }
+        ensures upper_bound { self.new.end ≤ self.old.end + 10 }
+    {
+        self.push_decimal(n);
+        self.push_byte(after);
     }
-    put_decimal(out, at, magnitude(n))
-}
 
-fn put_spaces(out: &mut [u8], at: usize, count: usize) -> usize
-    requires { at + count < 2 ^ 63 }
-    ensures { Put out.old at (spaces count) result out.new }
-{
-    let mut done = 0;
-    while done < count {
-        put_byte(out, at + done, b' ');
-        done += 1;
+    // The decimal digits of a number, with a sign before a negative one.
+    pub fn push_signed(&mut self, n: i64)
+        requires { self.old.end < 2 ^ 31 }
+        ensures pushed { Pushed self.old (signed_decimal n) self.new }
+        ensures upper_bound { self.new.end ≤ self.old.end + 20 }
+    {
+        if n < 0 {
+            self.push_byte(b'-');
+        }
+        self.push_decimal(n.unsigned_abs());
     }
-    at + done
+
+    fn push_spaces(&mut self, count: usize)
+        requires { self.old.end + count < 2 ^ 63 }
+        ensures { Pushed self.old (spaces count) self.new }
+    {
+        for _i in 0..count {
+            self.push_byte(b' ');
+        }
+    }
+
+    // A text at the start of so many columns.
+    pub fn push_left_set(&mut self, width: usize, text: &[u8])
+        requires { (self.old.end + width < 2 ^ 63) × (length text.now ≤ width) }
+        ensures pushed { Pushed self.old (left_set width text.now) self.new }
+        ensures end { self.new.end ≡ self.old.end + width }
+    {
+        self.push_bytes(text);
+        self.push_spaces(width - text.len());
+    }
+
+    // A number at the end of so many columns.
+    pub fn push_right_set(&mut self, width: usize, n: i64)
+        requires { (self.old.end < 2 ^ 31) × (width < 2 ^ 31) × (length (signed_decimal n) ≤ width) }
+        ensures pushed { Pushed self.old (right_set width (signed_decimal n)) self.new }
+        ensures end { self.new.end ≡ self.old.end + width }
+    {
+        let mut digits = [0u8; 20];
+        let count = put_signed(&mut digits, n);
+        self.push_spaces(width - count);
+        self.push_bytes(&digits[..count]);
+    }
 }
 
-// A text between spaces.
-fn put_spaced(out: &mut [u8], at: usize, before: usize, text: &[u8], after: usize) -> usize
-    requires { at + before + length text.now + after < 2 ^ 63 }
-    ensures { Put out.old at (spaces before ++ (text.now ++ spaces after)) result out.new }
+// Stores the decimal digits of a number, with their sign, and answers how many bytes they take.
+fn put_signed(out: &mut [u8], n: i64) -> usize
+    ensures put { Put out.old 0 (signed_decimal n) result out.new }
+    ensures upper_bound { result ≤ 20 }
 {
-    let start = put_spaces(out, at, before);
-    let end = put_bytes(out, start, text);
-    put_spaces(out, end, after)
-}
-
-// A text at the start of so many columns.
-pub fn put_left_set(out: &mut [u8], at: usize, width: usize, text: &[u8]) -> usize
-    requires { (at + width < 2 ^ 63) × (length text.now ≤ width) }
-    ensures put { Put out.old at (left_set width text.now) result out.new }
-    ensures value { result ≡ at + width }
-{
-    let rest = width - text.len();
-    put_spaced(out, at, 0, text, rest)
-}
-
-// A number at the end of so many columns.
-pub fn put_right_set(out: &mut [u8], at: usize, width: usize, n: i64) -> usize
-    requires { (at < 2 ^ 31) × (width < 2 ^ 31) × (length (signed_decimal n) ≤ width) }
-    ensures put { Put out.old at (right_set width (signed_decimal n)) result out.new }
-    ensures value { result ≡ at + width }
-{
-    let mut digits = [0u8; 20];
-    let count = put_signed(&mut digits, 0, n);
-    let rest = width - count;
-    put_spaced(out, at, rest, &digits[..count], 0)
+    let mut text = Text::new(out);
+    text.push_signed(n);
+    text.end
 }

@@ -11,11 +11,13 @@ use Rattle.terms.specs.Term.{variable_count}
 use Rattle.terms.specs.Words.{first_variable}
 use Rattle.terms.specs.FirstUse.{see, renumbered}
 use Rattle.terms.proofs.FirstUseLaws.{renumber_from, renumber-at-once}
+use Rattle.variables.specs.declared.Renumbering.{Renumbering}
+use Rattle.std.specs.Prelude.{None}
 use Rattle.variables.specs.Renumbering.{AllNodes, Numbered, WordNumbered}
 use Rattle.variables.proofs.CellLaws.{cells-none}
 
 -- The words before the index are those aimed at; the node words from there to the end are yet to be renumbered.
-pub record Passing (aim words : List ℕ) (i end : ℕ) (cells : List ℕ) (unused : ℕ) : Type 0 where
+pub record Passing (aim words : List ℕ) (i end : ℕ) (r : Renumbering) : Type 0 where
   pub front : List ℕ
   pub rest : List ℕ
   pub back : List ℕ
@@ -25,17 +27,17 @@ pub record Passing (aim words : List ℕ) (i end : ℕ) (cells : List ℕ) (unus
   pub left : i + length rest ≡ end
   pub nodes : AllNodes rest
   pub aimed : aim ≡ front ++ (renumber_from seen rest ++ back)
-  pub numbered : Numbered seen cells unused
+  pub numbered : Numbered seen r
 
 -- So in any words where a rule's node words are stored, aimed at those where they are renumbered.
-abbrev pub RulePassing : ℕ → ℕ → List ℕ → List ℕ → ℕ → List ℕ → ℕ → Type 0
-RulePassing start end before words i cells unused =
+abbrev pub RulePassing : ℕ → ℕ → List ℕ → List ℕ → ℕ → Renumbering → Type 0
+RulePassing start end before words i r =
     (old nodes : List ℕ) → before ≡ sets old start nodes → start + length nodes ≡ end → end ≤ length old →
-    AllNodes nodes → Passing (sets old start (renumbered nodes)) words i end cells unused
+    AllNodes nodes → Passing (sets old start (renumbered nodes)) words i end r
 
 pub passing-none : (words nodes : List ℕ) (start end : ℕ) → start + length nodes ≡ end → end ≤ length words →
     AllNodes nodes → Passing (sets words start (renumbered nodes)) (sets words start nodes) start end
-    (replicate variable_count 0) first_variable
+    (record { cells = replicate variable_count None; unused = first_variable })
 passing-none words nodes start end e room all =
     let front = take start words in
     let back = drop (start + length nodes) words in
@@ -54,7 +56,7 @@ passing-none words nodes start end e room all =
       numbered = cells-none;
     }
 
-module _ {aim words : List ℕ} {i end : ℕ} {cells : List ℕ} {unused : ℕ} (p : Passing aim words i end cells unused) where
+module _ {aim words : List ℕ} {i end : ℕ} {r : Renumbering} (p : Passing aim words i end r) where
   pub passing-done : end ≤ i → words ≡ aim
   unfolding renumber_from
   passing-done h = go p.rest p.stand p.aimed (omega (arith, p.left))
@@ -65,20 +67,20 @@ module _ {aim words : List ℕ} {i end : ℕ} {cells : List ℕ} {unused : ℕ} 
       go (w ∷ ws) e f z = absurd (omega arith)
 
   -- The word at the index may be a node's, and once it is renumbered the next one is at hand.
-  pub passing-more : i < end → (new unused' : ℕ) (cells' : List ℕ) →
-      ((seen : List ℕ) → get_or words i 0 < first_variable + variable_count → Numbered seen cells unused →
-      WordNumbered seen (get_or words i 0) new cells' unused') →
-      Passing aim (set words i new) (i + 1) end cells' unused'
+  pub passing-more : i < end → (new : ℕ) (r' : Renumbering) →
+      ((seen : List ℕ) → get_or words i 0 < first_variable + variable_count → Numbered seen r →
+      WordNumbered seen (get_or words i 0) new r') →
+      Passing aim (set words i new) (i + 1) end r'
   unfolding renumber_from
-  passing-more h new unused' cells' word = go p.rest p.stand p.left p.nodes p.aimed
+  passing-more h new r' word = go p.rest p.stand p.left p.nodes p.aimed
     where
       go : (rest : List ℕ) → words ≡ p.front ++ (rest ++ p.back) → i + length rest ≡ end → AllNodes rest →
           aim ≡ p.front ++ (renumber_from p.seen rest ++ p.back) →
-          Passing aim (set words i new) (i + 1) end cells' unused'
+          Passing aim (set words i new) (i + 1) end r'
       go [] e l a f = absurd (omega arith)
       go (w ∷ ws) e l a f =
           let at : get_or words i 0 ≡ w = rw e (get_or_at p.front w (ws ++ p.back) 0 i p.passed) in
-          let (r, n) = rw at at (word p.seen (rw at a.0) p.numbered) in
+          let (q, n) = rw at at (word p.seen (rw at a.0) p.numbered) in
           record {
             front = p.front ++ (new ∷ []);
             rest = ws;
@@ -89,7 +91,7 @@ module _ {aim words : List ℕ} {i end : ℕ} {cells : List ℕ} {unused : ℕ} 
             passed = omega (arith, p.passed, length-append p.front (new ∷ []));
             left = omega arith;
             nodes = a.1;
-            aimed = f ∙ rw (← r)
+            aimed = f ∙ rw (← q)
                 (sym (append_assoc p.front (new ∷ []) (renumber_from (see p.seen w) ws ++ p.back)));
             numbered = n;
           }

@@ -16,9 +16,10 @@ pub fn unused_at_start(form: u16) -> usize
     ensures { (result ≡ unused_of form) × (result ≤ 16) }
 {
     if form == format::FIRST_FORM {
-        return VARIABLES;
+        VARIABLES
+    } else {
+        0
     }
-    0
 }
 
 // The word of the lowest unused variable after a node word that is in turn.
@@ -27,39 +28,46 @@ pub fn unused_after(unused: usize, word: usize) -> usize
     ensures by_index { (n : ℕ) → unused ≡ first_variable + n → result ≡ first_variable + unused_after n word }
     ensures lower_bound { (unused ≤ result) × (result ≤ 272) }
 {
-    if word < unused {
-        return unused;
-    }
-    word + 1
+    unused.max(word + 1)
 }
 
-// The new word of a node: that in its variable's cell, and the lowest unused one where the cell has none yet. A
-// symbol's word is unchanged, and so is one that is no node's.
-fn new_word(cells: &mut [u16; VARIABLES], unused: &mut u16, word: u16) -> u16
-    requires { unused.old < first_variable + 2 * max_nodes }
-    ensures by_index { (seen : List ℕ) → word < first_variable + variable_count →
-        Numbered seen cells.old unused.old →
-        WordNumbered seen word result cells.new unused.new }
-    ensures unused_bound { unused.new ≤ unused.old + 1 }
-{
-    if word < FIRST_VARIABLE {
-        return word;
+// The new word of each variable that was met, and the lowest unused word of a variable.
+#[derive(Clone, Copy)]
+struct Renumbering {
+    cells: [Option<u16>; VARIABLES],
+    unused: u16,
+}
+
+impl Renumbering {
+    // The new word of a node: that of its variable, and the lowest unused one where the variable is new. A symbol's
+    // word is unchanged, and so is one that is no node's.
+    fn rename(&mut self, word: u16) -> u16
+        requires { self.old.unused < first_variable + 2 * max_nodes }
+        ensures by_index { (seen : List ℕ) → word < first_variable + variable_count →
+            Numbered seen self.old → WordNumbered seen word result self.new }
+        ensures unused_bound { self.new.unused ≤ self.old.unused + 1 }
+    {
+        if word < FIRST_VARIABLE {
+            return word;
+        }
+        let variable = usize::from(word - FIRST_VARIABLE);
+        if VARIABLES <= variable {
+            return word;
+        }
+        match self.cells[variable] {
+            Some(known) => known,
+            None => {
+                let new = self.unused;
+                self.cells[variable] = Some(new);
+                self.unused = new + 1;
+                new
+            }
+        }
     }
-    let variable = symbols::wide(word - FIRST_VARIABLE);
-    if VARIABLES <= variable {
-        return word;
-    }
-    let known = cells[variable];
-    if known != 0 {
-        return known;
-    }
-    let new = *unused;
-    cells[variable] = new;
-    *unused = new + 1;
-    new
 }
 
 // Renumbers by first use the variables of a rule whose node words stand from an index up to another.
+// The words are reached by index, since a part `words[start..end]` would want a second test, of the start.
 pub fn renumber(words: &mut [u16], start: usize, end: usize)
     requires { end ≤ start + 2 * max_nodes }
     ensures { RuleRenumbered start end words.old words.new }
@@ -67,11 +75,11 @@ pub fn renumber(words: &mut [u16], start: usize, end: usize)
     if words.len() < end {
         return;
     }
-    let mut cells = [0u16; VARIABLES];
-    let mut unused = FIRST_VARIABLE;
-    let mut i = start;
-    while i < end {
-        words[i] = new_word(&mut cells, &mut unused, words[i]);
-        i += 1;
+    let mut renumbering = Renumbering {
+        cells: [None; VARIABLES],
+        unused: FIRST_VARIABLE,
+    };
+    for i in start..end {
+        words[i] = renumbering.rename(words[i]);
     }
 }

@@ -1,13 +1,18 @@
 -- The sums over the words of a term.
---     totals-none, totals-more, sums-within-more     the sums, node by node from the right
+--     sums-within-more                               sums of fewer nodes
+--     totals-more, totals-next                       the sums with those of one more word
+--     within-more, can_add                           they are small
+--     number-some, number-none                       the variable that was found
 --     term-nodes, totalled                           those of a whole term
-use mathlib.Core.List.{List}
+use mathlib.Core.List.{List, [], ◌∷◌, ◌++◌}
 use mathlib.Core.Path.{◌≡◌, sym, ◌∙◌}
-use Prim.Native.Nat.{ℕ, ◌+◌, ◌-◌, ◌*◌, ◌≤◌, ◌<◌}
+use Prim.Native.Nat.{ℕ, ◌+◌, ◌≤◌, ◌<◌}
+use Rattle.std.proofs.Common.{Option, Some, None, is_some, IfSome, true, false}
+use Rattle.std.proofs.lemmas.Bool.{false≢true}
+use Rattle.terms.specs.Term.{variable_count}
 use native.Mathlib.Omega.{arith}
-use native.Mathlib.Numerals.{add-one}
-use lib.ListN.{length, get_or, drop}
-use lib.Seq.{drop-cons, drop-length}
+use lib.ListN.{length, get_or, take}
+use Rattle.std.proofs.lemmas.List.{take_more}
 use Rattle.terms.specs.Signature.{Signature, coefficients_of}
 use Rattle.terms.specs.Words.{term_of}
 use Rattle.terms.proofs.MeasureLaws.{measure-ones}
@@ -15,8 +20,8 @@ use Rattle.format.specs.Statements.{IsTerm}
 use Rattle.subterms.proofs.PartLaws.{node-range}
 use Rattle.subterms.proofs.FormedLaws.{term-complete, term-size}
 use Rattle.weights.specs.declared.totals.Totals.{Totals}
-use Rattle.weights.specs.Nodes.{at_variable, at_symbol, node_sum, word_sum, term_sum, NodeSums}
-use Rattle.weights.specs.Totals.{SumsWithin, Added, WordTotals, Totalled}
+use Rattle.weights.specs.Nodes.{node, nodes, at_variable, at_symbol, node_sum, word_sum, term_sum, SumsWithin, NodeTotals, NodeSums}
+use Rattle.weights.specs.Totals.{oftener_number, added, CanAdd, WordTotals, Totalled}
 use Rattle.weights.proofs.SumLaws.{term-sum}
 
 pub sums-within-more : {m n : ℕ} {r : Totals} → m ≤ n → SumsWithin m r → SumsWithin n r
@@ -26,36 +31,50 @@ sums-within-more h b = record {
   high = omega (arith, b.high);
 }
 
-sum_more : (σ : Signature) (kind : ℕ) (ws : List ℕ) (i sum v : ℕ) → 0 < i → i ≤ length ws →
-    sum ≡ word_sum σ kind (drop i ws) → v ≡ node_sum σ kind (get_or ws (i - 1) 0) →
-    sum + v ≡ word_sum σ kind (drop (i - 1) ws)
-sum_more σ kind ws i sum v p h e d =
-    let f : i - 1 + 1 ≡ i = omega arith in
-    let n : word_sum σ kind (drop (i - 1) ws) ≡ node_sum σ kind (get_or ws (i - 1) 0) + word_sum σ kind (drop (i - 1 + 1) ws)
-    =
-    rw (drop-cons ws (i - 1) 0 (omega arith), add-one) in
-    omega (arith, rw f at n)
+-- The sums over words and those of one more word before them.
+module _ {σ : Signature} {word : ℕ} {ws : List ℕ} {here more : Totals} (T : WordTotals σ ws here)
+    (M : NodeTotals σ word more) where
+  pub totals-more : WordTotals σ (word ∷ ws) (added here more)
+  totals-more = record {
+    weight = omega (arith, T.weight, M.weight);
+    low = omega (arith, T.low, M.low);
+    high = omega (arith, T.high, M.high);
+  }
 
-pub totals-none : (σ : Signature) (ws : List ℕ) →
-    WordTotals σ (drop (length ws) ws) (record { weight = 0; low = 0; high = 0 })
-totals-none σ ws = record { weight = rw (drop-length ws); low = rw (drop-length ws); high = rw (drop-length ws) }
+-- And after them.
+nodes-append : (v w : ℕ → ℕ) (us : List ℕ) (u : ℕ) → nodes v w (us ++ u ∷ []) ≡ nodes v w us + node v w u
+nodes-append v w [] u = omega arith
+nodes-append v w (t ∷ us) u = omega (arith, nodes-append v w us u)
 
-module _ {σ : Signature} {adds ws : List ℕ} (N : NodeSums σ adds) (p : IsTerm σ ws) where
+pub totals-next : {σ : Signature} {i : ℕ} (ws : List ℕ) {here more : Totals} → i < length ws →
+    WordTotals σ (take i ws) here → NodeTotals σ (get_or ws i 0) more → WordTotals σ (take (i + 1) ws) (added here more)
+totals-next {σ} {i} ws h T M =
+    let next : (kind : ℕ) → word_sum σ kind (take (i + 1) ws) ≡ word_sum σ kind (take i ws) + node_sum σ kind (get_or ws i 0)
+    = λ kind. rw (take_more ws i 0 h) (nodes-append (at_variable σ kind) (at_symbol σ kind) (take i ws) (get_or ws i 0)) in
+    record {
+      weight = omega (arith, T.weight, M.weight, next 0);
+      low = omega (arith, T.low, M.low, next 1);
+      high = omega (arith, T.high, M.high, next 2);
+    }
+
+module _ {σ : Signature} {word n : ℕ} {here more : Totals} (b : SumsWithin n here) (M : NodeTotals σ word more) where
+  pub within-more : SumsWithin (n + 1) (added here more)
+  within-more = record {
+    weight = omega (arith, b.weight, M.small.weight);
+    low = omega (arith, b.low, M.small.low);
+    high = omega (arith, b.high, M.small.high);
+  }
+
+  pub can_add : n ≤ 127 → CanAdd here more
+  can_add h = record {
+    weight = omega (arith, b.weight, M.small.weight);
+    low = omega (arith, b.low, M.small.low);
+    high = omega (arith, b.high, M.small.high);
+  }
+
+module _ {σ : Signature} {adds : List Totals} {ws : List ℕ} (N : NodeSums σ adds) (p : IsTerm σ ws) where
   pub term-nodes : (k : ℕ) → k < length ws → get_or ws k 0 < 272
   term-nodes k h = node-range σ ws (term-complete σ N.few p) k h N.few
-
-  pub totals-more : (i : ℕ) → 0 < i → i ≤ length ws → {here more : Totals} → WordTotals σ (drop i ws) here →
-      Added adds (get_or ws (i - 1) 0) here more → WordTotals σ (drop (i - 1) ws) more
-  totals-more i l h {here} t a =
-      let w = get_or ws (i - 1) 0 in
-      let small = term-nodes (i - 1) (omega arith) in
-      let z : 3 * w + 0 ≡ 3 * w = omega arith in
-      let e = rw z at (N.sum 0 w (omega arith) small) in
-      record {
-        weight = a.weight ∙ sum_more σ 0 ws i here.weight _ l h t.weight e;
-        low = a.low ∙ sum_more σ 1 ws i here.low _ l h t.low (N.sum 1 w (omega arith) small);
-        high = a.high ∙ sum_more σ 2 ws i here.high _ l h t.high (N.sum 2 w (omega arith) small);
-      }
 
   whole : (kind : ℕ) → word_sum σ kind ws ≡ term_sum σ kind (term_of σ ws)
   whole kind = term-sum σ N.few p (at_variable σ kind) (at_symbol σ kind)
@@ -70,3 +89,14 @@ module _ {σ : Signature} {adds ws : List ℕ} (N : NodeSums σ adds) (p : IsTer
         counted = record { low = t.low ∙ whole 1; high = t.high ∙ whole 2; short = omega (arith, p.short) };
         small = omega (arith, b.weight, p.short);
       }
+
+-- ---- the first variable that occurs oftener
+
+pub number-some : (o : Option ℕ) → IfSome o (λ x. x < variable_count) → is_some o ≡ true →
+    oftener_number o < variable_count
+number-some (Some x) h e = h
+number-some None h e = absurd (false≢true e)
+
+pub number-none : (o : Option ℕ) → is_some o ≡ false → variable_count ≤ oftener_number o
+number-none (Some x) e = absurd (false≢true (sym e))
+number-none None e = omega arith

@@ -1,8 +1,9 @@
 -- Sums over words that are measures of terms, and what each node word adds to them.
-use Rattle.std.specs.Prelude.{List, [], ◌∷◌, cond, ◌≡◌, ℕ, suc, zero, ◌+◌, ◌-◌, ◌*◌, ◌%◌, ◌≤◌, ◌<◌, ltb, length, get_or, set}
+use Rattle.std.specs.Prelude.{List, [], ◌∷◌, cond, ◌≡◌, ℕ, suc, zero, ◌+◌, ◌-◌, ◌*◌, ◌≤◌, ◌<◌, ltb, length, get_or}
 use Rattle.terms.specs.Signature.{Signature, symbol_of, Ones}
 use Rattle.terms.specs.Term.{Term, measure, plain}
 use Rattle.terms.specs.Words.{first_variable}
+use Rattle.weights.specs.declared.totals.Totals.{Totals}
 use Rattle.weights.specs.Digits.{digit}
 
 -- The sum over the words of v at the variables and w at the symbols.
@@ -14,19 +15,23 @@ module _ (v w : ℕ → ℕ) where
   nodes [] = 0
   nodes (u ∷ us) = node u + nodes us
 
--- How many numbers are stored for the node words, three for each.
-abbrev pub node_sums_length : ℕ
-node_sums_length = 816
+-- How many node words there are.
+abbrev pub node_words : ℕ
+node_words = 272
 
--- Three numbers stored for an index.
-abbrev pub triple : List ℕ → ℕ → ℕ → ℕ → ℕ → List ℕ
-triple cells n a b c = set (set (set cells (3 * n) a) (3 * n + 1) b) (3 * n + 2) c
+-- The sums over no words.
+abbrev pub none : Totals
+none = record { weight = 0; low = 0; high = 0 }
 
--- What is stored for the node words, three numbers for each, is small: a weight is below 65,536, a place value at most
--- 256 to the power of 7.
-pub record SmallSums (adds : List ℕ) : Type 0 where
-  pub weight : (word : ℕ) → word < 272 → get_or adds (3 * word) 0 < 65536
-  pub place : (j : ℕ) → j < node_sums_length → get_or adds j 0 ≤ 72057594037927936
+-- What is stored for an index.
+abbrev pub stored_for : List Totals → ℕ → Totals
+stored_for sums k = get_or sums k none
+
+-- The sums of n nodes: a weight is below 65,536, a place value at most 256 to the power of 7.
+pub record SumsWithin (n : ℕ) (r : Totals) : Type 0 where
+  pub weight : r.weight ≤ 65536 * n
+  pub low : r.low ≤ 72057594037927936 * n
+  pub high : r.high ≤ 72057594037927936 * n
 
 module _ (σ : Signature) where
   -- What is summed up: weights, the occurrences of the variables 0 to 7, those of the variables 8 to 15.
@@ -48,25 +53,26 @@ module _ (σ : Signature) where
   abbrev pub term_sum : ℕ → Term → ℕ
   term_sum kind = measure plain (at_variable kind) (at_symbol kind)
 
+  -- What a word adds to the sums.
+  pub record NodeTotals (word : ℕ) (r : Totals) : Type 0 where
+    pub weight : r.weight ≡ node_sum 0 word
+    pub low : r.low ≡ node_sum 1 word
+    pub high : r.high ≡ node_sum 2 word
+    pub light : r.weight < 65536
+    pub small : SumsWithin 1 r
+
   -- What is stored for the node words is what each adds to the sums, where every coefficient is 1.
-  pub record NodeSums (adds : List ℕ) : Type 0 where
+  pub record NodeSums (adds : List Totals) : Type 0 where
     pub few : length σ.symbols ≤ first_variable
     pub ones : Ones σ
-    pub sum : (kind word : ℕ) → kind < 3 → word < 272 → get_or adds (3 * word + kind) 0 ≡ node_sum kind word
-    pub small : SmallSums adds
+    pub sum : (word : ℕ) → word < node_words → NodeTotals word (stored_for adds word)
 
-  -- Stored so far: the weights of the symbols below n; what the variables with words below n add; all else as it was.
-  abbrev pub Weighed : ℕ → List ℕ → List ℕ → Type 0
-  Weighed n before after =
-      ((f : ℕ) → f < n → get_or after (3 * f) 0 ≡ (symbol_of σ f).weight)
-      × ((f : ℕ) → f < n → get_or after (3 * f) 0 < 65536)
-      × ((j : ℕ) → (j % 3 ≡ 0 → ⊥) → get_or after j 0 ≡ get_or before j 0)
-      × ((j : ℕ) → 3 * n ≤ j → get_or after j 0 ≡ get_or before j 0)
+  -- Stored so far: what the symbols below n add; what the variables with words below n add; all else as it was.
+  pub record Weighed (n : ℕ) (before after : List Totals) : Type 0 where
+    pub stored : (f : ℕ) → f < n → NodeTotals f (stored_for after f)
+    pub others : (j : ℕ) → n ≤ j → stored_for after j ≡ stored_for before j
 
-  abbrev pub Occurring : ℕ → List ℕ → List ℕ → Type 0
-  Occurring n before after =
-      ((kind word : ℕ) → kind < 3 → 256 ≤ word → word < n → get_or after (3 * word + kind) 0 ≡ node_sum kind word)
-      × ((word : ℕ) → 256 ≤ word → word < n → get_or after (3 * word) 0 < 65536)
-      × ((j : ℕ) → j < 3 * n → 768 ≤ j → get_or after j 0 ≤ 72057594037927936)
-      × ((j : ℕ) → j < 768 → get_or after j 0 ≡ get_or before j 0)
-      × ((j : ℕ) → 3 * n ≤ j → get_or after j 0 ≡ get_or before j 0)
+  pub record Occurring (n : ℕ) (before after : List Totals) : Type 0 where
+    pub stored : (word : ℕ) → 256 ≤ word → word < n → NodeTotals word (stored_for after word)
+    pub others : (j : ℕ) → j < 256 → stored_for after j ≡ stored_for before j
+    pub past : (j : ℕ) → n ≤ j → stored_for after j ≡ stored_for before j

@@ -1,17 +1,29 @@
 -- The sums over a whole term, in three numbers.
-use Rattle.std.specs.Prelude.{List, ◌≡◌, ℕ, ◌+◌, ◌*◌, ◌≤◌, get_or}
+use Rattle.std.specs.Prelude.{List, ◌≡◌, ℕ, ◌+◌, ◌-◌, ◌^◌, ◌≤◌, ◌<◌, Option, Some, None}
 use Rattle.terms.specs.Signature.{Signature}
-use Rattle.terms.specs.Term.{Term, size, weight}
+use Rattle.terms.specs.Term.{Term, size, weight, variable_count}
 use Rattle.terms.specs.Words.{term_of}
 use Rattle.weights.specs.declared.totals.Totals.{Totals}
 use Rattle.weights.specs.Digits.{digits_of}
 use Rattle.weights.specs.Nodes.{word_sum}
 
--- The sums of n nodes: a weight is below 65,536, a place value at most 256 to the power of 7.
-pub record SumsWithin (n : ℕ) (r : Totals) : Type 0 where
-  pub weight : r.weight ≤ 65536 * n
-  pub low : r.low ≤ 72057594037927936 * n
-  pub high : r.high ≤ 72057594037927936 * n
+-- The sums of both.
+abbrev pub added : Totals → Totals → Totals
+added a b = record { weight = a.weight + b.weight; low = a.low + b.low; high = a.high + b.high }
+
+pub record CanAdd (a b : Totals) : Type 0 where
+  pub weight : a.weight + b.weight < 2 ^ 64
+  pub low : a.low + b.low < 2 ^ 64
+  pub high : a.high + b.high < 2 ^ 64
+
+-- What is left of a less b.
+abbrev pub taken : Totals → Totals → Totals
+taken a b = record { weight = a.weight - b.weight; low = a.low - b.low; high = a.high - b.high }
+
+pub record CanTake (a b : Totals) : Type 0 where
+  pub weight : b.weight ≤ a.weight
+  pub low : b.low ≤ a.low
+  pub high : b.high ≤ a.high
 
 -- The occurrences of the variables of a term of at most 128 nodes.
 pub record Counted (t : Term) (r : Totals) : Type 0 where
@@ -23,11 +35,10 @@ pub record Counted (t : Term) (r : Totals) : Type 0 where
 abbrev pub Counts : Totals → Type 0
 Counts r = (t : Term) × Counted t r
 
--- The sums with what is stored for one more word.
-pub record Added (adds : List ℕ) (word : ℕ) (after r : Totals) : Type 0 where
-  pub weight : r.weight ≡ after.weight + get_or adds (3 * word) 0
-  pub low : r.low ≡ after.low + get_or adds (3 * word + 1) 0
-  pub high : r.high ≡ after.high + get_or adds (3 * word + 2) 0
+-- 02's number of the variable that was found: 16 if none was.
+abbrev pub oftener_number : Option ℕ → ℕ
+oftener_number (Some x) = x
+oftener_number None = variable_count
 
 module _ (σ : Signature) where
   -- The sums over words.

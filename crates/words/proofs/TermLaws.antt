@@ -7,9 +7,10 @@
 --     terms-end                               the words read are no more than the nodes allowed
 --     forest-front                            the nodes read are words in a row
 --     front-fault, front-whole, front_read, front-longer   the term at the front
+use Rattle.std.specs.Prelude.{Ok, Err}
 use mathlib.Core.List.{List, ◌∷◌}
-use mathlib.Core.Path.{◌≡◌, refl, sym, ap, ◌∙◌}
-use mathlib.Core.Bool.{Bool, true, false, cond, ◌||◌}
+use mathlib.Core.Path.{◌≡◌, refl, sym, ap}
+use mathlib.Core.Bool.{cond, ◌||◌}
 use Prim.Native.Nat.{ℕ, suc, zero, min, ◌+◌, ◌-◌, ◌≤◌, ◌<◌}
 use native.Mathlib.Numerals.{add-one}
 use native.Mathlib.Omega.{arith}
@@ -21,7 +22,7 @@ use Rattle.multisets.proofs.Relations.{by_test, by_order}
 use Rattle.terms.specs.Signature.{Signature, symbol_of}
 use Rattle.terms.specs.Words.{first_variable}
 use Rattle.terms.specs.FirstUse.{unused_after, unused_after_all}
-use Rattle.format.specs.Errors.{field_missing, no_such_symbol, too_many_nodes, word_too_wide, words_left_over, variable_out_of_turn}
+use Rattle.format.specs.Errors.{number_of, field_missing, no_such_symbol, too_many_nodes, word_too_wide, words_left_over, variable_out_of_turn}
 use Rattle.format.specs.Layout.{max_nodes}
 use Rattle.format.specs.Reading.{Reading, Node, word_source, word_below}
 use Rattle.format.specs.Reading.Reading.{got, fault}
@@ -33,11 +34,13 @@ use Rattle.format.specs.Files.{read_first_term, read_term}
 use Rattle.format.proofs.ForestLaws.{before, nothing-owed, none_allowed, node-fault, out-of-turn}
 use Rattle.format.proofs.SideLaws.{forest-short}
 use Rattle.symbols.specs.Arities.{Arities}
-use Rattle.answers.specs.declared.Answer.{Answer}
-use Rattle.answers.specs.declared.Answer.TheVariants.{Got, Fault}
+use Rattle.format.specs.declared.ErrorCode.{ErrorCode}
+use Rattle.format.specs.declared.ErrorCode.TheVariants.{TooManyNodes, FieldMissing, WordTooWide, NoSuchSymbol, VariableOutOfTurn}
 use Rattle.answers.specs.Answer.{answered, end_of}
 use Rattle.answers.proofs.CellLaws.{node-read, node-unknown}
-use Rattle.words.specs.Terms.{node_error, reader_of}
+use Rattle.words.specs.declared.Extent.{Extent}
+use Rattle.words.specs.declared.Extent.TheVariants as extent
+use Rattle.words.specs.Terms.{node_check, reader_of}
 
 -- ---- reading terms node by node
 
@@ -62,7 +65,7 @@ pub none_left : (at limit : ℕ) → at ≡ limit → limit - at ≡ 0
 none_left at limit e = omega arith
 
 -- The answer to reading from words: the lowest unused variable after them, and the end.
-abbrev read : List ℕ → Signature → ℕ → ℕ → ℕ → ℕ → Answer
+abbrev read : List ℕ → Signature → ℕ → ℕ → ℕ → ℕ → Reading ℕ
 read words σ unused a n at = answered (unused_after_all unused) (forest_reader (word_source words) unused σ a n at)
 
 answered-before : (unused w : ℕ) (r : Reading (List ℕ)) →
@@ -71,20 +74,20 @@ answered-before unused w (got ws at) = refl
 answered-before unused w (fault code offset) = refl
 
 module _ (words : List ℕ) (unused : ℕ) (σ : Signature) where
-  pub terms-none : (a n at v : ℕ) → n ≡ 0 → v ≡ unused → Got v at ≡ read words σ unused a n at
+  pub terms-none : (a n at v : ℕ) → n ≡ 0 → v ≡ unused → got v at ≡ read words σ unused a n at
   terms-none a n at v e u = rw (e, u, nothing-owed (word_source words) unused σ a at)
 
-  pub terms-refused : (a n at : ℕ) → a ≡ 0 → 0 < n → Fault at too_many_nodes ≡ read words σ unused a n at
+  pub terms-refused : (a n at : ℕ) → a ≡ 0 → 0 < n → fault too_many_nodes at ≡ read words σ unused a n at
   terms-refused a n at e h = rw (e, none_allowed (word_source words) unused σ n at h)
 
   module _ (a n at : ℕ) (ha : 0 < a) (hn : 0 < n) where
-    pub terms-missing : length words ≤ at → Fault at field_missing ≡ read words σ unused a n at
+    pub terms-missing : length words ≤ at → fault field_missing at ≡ read words σ unused a n at
     unfolding word_below
     terms-missing h =
         rw (node-fault (word_source words) unused σ a n at ha hn field_missing at (rw (le-ltb at (length words) h)))
 
     module _ (i : at < length words) where
-      pub terms-wide : 272 ≤ get_or words at 0 → Fault at word_too_wide ≡ read words σ unused a n at
+      pub terms-wide : 272 ≤ get_or words at 0 → fault word_too_wide at ≡ read words σ unused a n at
       unfolding word_below
       terms-wide h =
           rw (node-fault (word_source words) unused σ a n at ha hn word_too_wide at
@@ -98,12 +101,12 @@ module _ (words : List ℕ) (unused : ℕ) (σ : Signature) where
         unfolding word_below
         node-here = rw (lt-ltb at (length words) i, lt-ltb (get_or words at 0) 272 small)
 
-        pub terms-unknown : get_or cells (get_or words at 0) 0 ≡ 0 → Fault at no_such_symbol ≡ read words σ unused a n at
+        pub terms-unknown : get_or cells (get_or words at 0) 0 ≡ 0 → fault no_such_symbol at ≡ read words σ unused a n at
         terms-unknown none =
             rw (node-unknown (word_source words) unused σ cells table a n at ha hn here (at + 1) node-here small none)
 
         pub terms-out : first_variable + unused < get_or words at 0 →
-            Fault at variable_out_of_turn ≡ read words σ unused a n at
+            fault variable_out_of_turn at ≡ read words σ unused a n at
         terms-out h = rw (out-of-turn (word_source words) unused σ a n at ha hn here (at + 1) node-here h)
 
         pub terms-node : 0 < get_or cells (get_or words at 0) 0 → get_or words at 0 ≤ first_variable + unused →
@@ -121,22 +124,28 @@ module _ (words : List ℕ) (unused : ℕ) (σ : Signature) where
         abbrev w : ℕ
         w = get_or words at 0
 
-        pub node-faulty : (code : ℕ) → code ≡ node_error cells lowest w → (code ≡ 0 → ⊥) →
-            Fault at code ≡ read words σ unused a n at
-        node-faulty code c h =
+        pub node-faulty : (code : ErrorCode) → node_check cells lowest w ≡ Err code →
+            fault (number_of code) at ≡ read words σ unused a n at
+        node-faulty code c =
             by_order w 272
             (λ small. by_test (eqb (get_or cells w 0) 0)
-            (λ z. rw (c, lt-leb 272 w small, z) (terms-unknown small cells table (eqb-true (get_or cells w 0) 0 z)))
+            (λ z. let e : Err NoSuchSymbol ≡ Err code = rw (lt-leb 272 w small, z) at c in
+            let f : NoSuchSymbol ≡ code = cc in
+            rw (← f) (terms-unknown small cells table (eqb-true (get_or cells w 0) 0 z)))
             λ z. by_order lowest w
-            (λ out. rw (c, lt-leb 272 w small, z, lt-ltb lowest w out) (terms-out small cells table (omega arith)))
-            λ turn. absurd (h (c ∙ rw (lt-leb 272 w small, z, le-ltb lowest w turn))))
-            λ wide. rw (c, le-leb 272 w wide) (terms-wide wide)
+            (λ out. let e : Err VariableOutOfTurn ≡ Err code = rw (lt-leb 272 w small, z, lt-ltb lowest w out) at c in
+            let f : VariableOutOfTurn ≡ code = cc in
+            rw (← f) (terms-out small cells table (omega arith)))
+            λ turn. let e : Ok tt ≡ Err code = rw (lt-leb 272 w small, z, le-ltb lowest w turn) at c in absurd (cc))
+            λ wide. let e : Err WordTooWide ≡ Err code = rw (le-leb 272 w wide) at c in
+            let f : WordTooWide ≡ code = cc in
+            rw (← f) (terms-wide wide)
 
 -- Reading that stops before a node.
 pub terms-ended : (words : List ℕ) (unused : ℕ) (σ : Signature) (limit n at stop : ℕ) → stop ≡ min limit
     (length words) →
-    stop ≤ at → at ≤ limit → 0 < n → (code : ℕ) → code ≡ cond (eqb at limit) too_many_nodes field_missing →
-    Fault at code ≡ read words σ unused (limit - at) n at
+    stop ≤ at → at ≤ limit → 0 < n → (code : ErrorCode) → code ≡ cond (eqb at limit) TooManyNodes FieldMissing →
+    fault (number_of code) at ≡ read words σ unused (limit - at) n at
 terms-ended words unused σ limit n at stop e h l hn code c =
     by_test (eqb at limit)
     (λ z. rw (c, z) (terms-refused words unused σ (limit - at) n at
@@ -145,17 +154,17 @@ terms-ended words unused σ limit n at stop e h l hn code c =
     rw (c, z) (terms-missing words unused σ (limit - at) n at some hn ends)
 
 -- A node word without an error.
-pub node-good : (cells : List ℕ) (lowest w : ℕ) → node_error cells lowest w ≡ 0 →
+pub node-good : (cells : List ℕ) (lowest w : ℕ) → node_check cells lowest w ≡ Ok tt →
     (w < 272) × (0 < get_or cells w 0) × (w ≤ lowest)
 node-good cells lowest w e =
     by_order w 272
     (λ small. by_test (eqb (get_or cells w 0) 0)
-    (λ z. let d : 9 ≡ 0 = rw (lt-leb 272 w small, z) at e in absurd (omega arith))
+    (λ z. let d : Err NoSuchSymbol ≡ Ok tt = rw (lt-leb 272 w small, z) at e in absurd (cc))
     λ z. let some = eqb-false (get_or cells w 0) 0 z in
     by_order lowest w
-    (λ out. let d : 18 ≡ 0 = rw (lt-leb 272 w small, z, lt-ltb lowest w out) at e in absurd (omega arith))
+    (λ out. let d : Err VariableOutOfTurn ≡ Ok tt = rw (lt-leb 272 w small, z, lt-ltb lowest w out) at e in absurd (cc))
     λ turn. (small, omega (arith, some), turn))
-    λ wide. let d : 14 ≡ 0 = rw (le-leb 272 w wide) at e in absurd (omega arith)
+    λ wide. let d : Err WordTooWide ≡ Ok tt = rw (le-leb 272 w wide) at e in absurd (cc)
 
 -- ---- the nodes are words in a row
 
@@ -198,12 +207,12 @@ module _ (words : List ℕ) (σ : Signature) where
       λ b. rw (i, b) tt)
       λ i. rw i tt
 
-  pub terms-end : (unused a n at value end : ℕ) → read words σ unused a n at ≡ Got value end → end ≤ at + a
+  pub terms-end : (unused a n at value end : ℕ) → read words σ unused a n at ≡ got value end → end ≤ at + a
   terms-end unused a n at value end =
       go (forest_reader (word_source words) unused σ a n at) refl (forest-front unused a n at)
     where
       go : (r : Reading (List ℕ)) → forest_reader (word_source words) unused σ a n at ≡ r → Front words at r →
-          answered (unused_after_all unused) r ≡ Got value end → end ≤ at + a
+          answered (unused_after_all unused) r ≡ got value end → end ≤ at + a
       go (got xs next) e (f, g, l) p =
           let q : next ≡ end = cc in
           rw (← q) (omega (arith, forest-short (word_source words) unused σ a n at xs next e))
@@ -214,40 +223,40 @@ module _ (words : List ℕ) (σ : Signature) where
   abbrev first : Reading (List ℕ)
   first = side_reader (word_source words) max_nodes all_used σ 0
 
-  abbrev answer : Reading (List ℕ) → Answer
+  abbrev answer : Reading (List ℕ) → Reading ℕ
   answer = answered (unused_after_all all_used)
 
   -- No term is too heavy under a signature without coefficients.
   pub front-light : Unscaled σ → answer first ≡ answer (nodes_reader (word_source words) max_nodes all_used σ 0)
   front-light plain = ap answer (unscaled-side σ plain (word_source words) max_nodes all_used 0 (omega arith))
 
-  pub front-fault : (whole : Bool) (code offset : ℕ) → answer first ≡ Fault offset code →
-      Fault offset code ≡ end_of (reader_of whole σ words)
+  pub front-fault : (x : Extent) (code offset : ℕ) → answer first ≡ fault code offset →
+      fault code offset ≡ end_of (reader_of x σ words)
   unfolding read_first_term read_term
-  front-fault whole code offset p = go whole first refl p
+  front-fault x code offset p = go x first refl p
     where
-      go : (whole : Bool) (r : Reading (List ℕ)) → first ≡ r → answer r ≡ Fault offset code →
-          Fault offset code ≡ end_of (reader_of whole σ words)
-      go whole (got xs next) e p = let z : ◌≡◌ {A = ℕ} 0 1 = cc in absurd (omega arith)
-      go true (fault k o) e p = rw e (sym p)
-      go false (fault k o) e p = rw e (sym p)
+      go : (x : Extent) (r : Reading (List ℕ)) → first ≡ r → answer r ≡ fault code offset →
+          fault code offset ≡ end_of (reader_of x σ words)
+      go x (got xs next) e p = let z : ◌≡◌ {A = ℕ} 0 1 = cc in absurd (omega arith)
+      go extent.Whole (fault k o) e p = rw e (sym p)
+      go extent.Front (fault k o) e p = rw e (sym p)
 
-  module _ (value end : ℕ) (p : answer first ≡ Got value end) where
+  module _ (value end : ℕ) (p : answer first ≡ got value end) where
     first_ends : (xs : List ℕ) × (first ≡ got xs end)
     first_ends = go first p
       where
-        go : (r : Reading (List ℕ)) → answer r ≡ Got value end → (xs : List ℕ) × (r ≡ got xs end)
+        go : (r : Reading (List ℕ)) → answer r ≡ got value end → (xs : List ℕ) × (r ≡ got xs end)
         go (got xs next) p = (xs, cc)
         go (fault code offset) p = let z : ◌≡◌ {A = ℕ} 0 1 = cc in absurd (omega arith)
 
-    pub front_read : Got 0 end ≡ end_of (read_first_term σ words)
+    pub front_read : got 0 end ≡ end_of (read_first_term σ words)
     unfolding read_first_term
     front_read = let (xs, f) = first_ends in rw f
 
-    pub front-whole : end ≡ length words → Got 0 end ≡ end_of (read_term σ words)
+    pub front-whole : end ≡ length words → got 0 end ≡ end_of (read_term σ words)
     unfolding read_term
     front-whole e = let (xs, f) = first_ends in rw (f, eq-eqb end (length words) e)
 
-    pub front-longer : ¬ (end ≡ length words) → Fault end words_left_over ≡ end_of (read_term σ words)
+    pub front-longer : ¬ (end ≡ length words) → fault words_left_over end ≡ end_of (read_term σ words)
     unfolding read_term
     front-longer e = let (xs, f) = first_ends in rw (f, ne_eqb end (length words) e)

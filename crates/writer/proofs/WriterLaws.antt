@@ -1,20 +1,20 @@
 -- Laws of the bit writer.
 --     shl-add-lt, shl-add-mod        a number shifted left, with a field behind it
 --     writes-none, writes-push       nothing is written at first; a field
---     first_more, shift-more         the first of eight bytes, one by one
+--     bytes-eight                    the bytes of a number
 --     writes-first                   whole bytes are stored
 --     writes_end                     all is stored, with zeros
+use Rattle.multisets.proofs.ListLaws.{put_part}
 use mathlib.Core.List.{List, [], ◌∷◌, ◌++◌}
 use mathlib.Core.Path.{◌≡◌, refl, sym, ap, ◌∙◌}
 use Prim.Native.Nat.{ℕ, suc, zero, ◌+◌, ◌-◌, ◌*◌, ◌/◌, ◌%◌, ◌^◌, ◌≤◌, ◌<◌}
-use native.Mathlib.Nat.{add-zero, zero-add, zero-div, mul_assoc, mod-lt, mod-mod, mod-eq_of_lt}
-use native.Mathlib.Numerals.{add-one}
+use native.Mathlib.Nat.{add-zero, zero-add, zero-div, mod-lt, mod-eq_of_lt}
 use native.Mathlib.Omega.{arith}
 use lib.ListN.{length, get_or, set, take, length-set, length-append, get_or-append}
-use lib.Seq.{sets, length-take-le, take-suc, get_or-take, get_or-append-add, get_or-set_same, get_or-set_other, ext_get_or}
+use Rattle.std.specs.Int.{w64, to_be_bytes}
+use lib.Seq.{sets, length-take-le, get_or-take, get_or-append-add, get_or-set_same, get_or-set_other, ext_get_or}
 use lib.Pow.{high, low, field, mod-pow-add, mod-mod-pow, pow_pos, pow-add}
 use lib.Arith.{digits_lt}
-use Rattle.multisets.proofs.ListLaws.{sets-append}
 use Rattle.multisets.proofs.Relations.{by_order}
 use Rattle.format.specs.Reading.{spelt}
 use Rattle.format.specs.Packing.{bits_of, bytes_of}
@@ -74,40 +74,12 @@ eight-by-index n (suc (suc (suc (suc (suc (suc zero)))))) h = refl
 eight-by-index n (suc (suc (suc (suc (suc (suc (suc zero))))))) h = refl
 eight-by-index n (suc (suc (suc (suc (suc (suc (suc (suc j)))))))) h = absurd (omega arith)
 
--- The first byte of a number shifted left by k bytes.
-byte-shifted : (v k : ℕ) → k < 8 → byte_before 56 (v * 2 ^ (8 * k) % 2 ^ 64) ≡ byte_before (56 - 8 * k) v
-byte-shifted v k h =
-    let s = 8 * k in
-    let r = 56 - s in
-    let e : 8 + r + s ≡ 64 = omega arith in
-    let f : 56 ≡ s + r = omega arith in
-    ap (λ (n : ℕ). byte_before n (v * 2 ^ s % 2 ^ 64)) f ∙ ap (λ (n : ℕ). n % 256) (shl-field v 8 r s 64 e)
-    ∙ mod-mod (v / 2 ^ r) 256
+-- The bytes of a number of 64 bits, as the library has them.
+pub bytes-eight : (n : ℕ) → to_be_bytes w64 n ≡ eight_bytes n
+bytes-eight n = let e : n / 1 ≡ n = omega arith in rw e
 
--- One byte more of the first ones.
-pub first_more : (bytes : List ℕ) (i v k : ℕ) → k < 8 →
-    set (sets bytes i (take k (eight_bytes v))) (i + k) (byte_before 56 (v * 2 ^ (8 * k) % 2 ^ 64))
-    ≡ sets bytes i (take (k + 1) (eight_bytes v))
-first_more bytes i v k h =
-    let all = eight_bytes v in
-    let long : length (take k all) ≡ k = length-take-le k all (omega arith) in
-    sym (ap (sets bytes i) (ap (λ (n : ℕ). take n all) (add-one k) ∙ take-suc all k 0 h)
-    ∙ sets-append bytes i (take k all) (get_or all k 0 ∷ [])
-    ∙ rw (long, eight-by-index v k h, byte-shifted v k h))
-
--- A shift by one byte more.
-pub shift-more : (v k : ℕ) → k < 8 → v * 2 ^ (8 * k) % 2 ^ 64 * 2 ^ 8 % 2 ^ 64 ≡ v * 2 ^ (8 * (k + 1)) % 2 ^ 64
-shift-more v k h =
-    let s = 8 * k in
-    let r = 56 - s in
-    let x = v % 2 ^ (8 + r) in
-    let e : 8 + r + s ≡ 64 = omega arith in
-    let f : r + (s + 8) ≡ 64 = omega arith in
-    let g : 8 * (k + 1) ≡ s + 8 = omega arith in
-    ap (λ (n : ℕ). n * 2 ^ 8 % 2 ^ 64) (shl-mod v (8 + r) s 64 e)
-    ∙ ap (λ (n : ℕ). n % 2 ^ 64) (mul_assoc x (2 ^ s) (2 ^ 8) ∙ ap (λ (n : ℕ). x * n) (sym (pow-add 2 s 8)))
-    ∙ shl-mod x r (s + 8) 64 f ∙ ap (λ (n : ℕ). n * 2 ^ (s + 8)) (mod-mod-pow v 8 r)
-    ∙ sym (shl-mod v r (s + 8) 64 f) ∙ ap (λ (n : ℕ). v * 2 ^ n % 2 ^ 64) (sym g)
+-- What the functions that store bytes cite.
+pub ruleset byte_laws = (bytes-eight, put_part)
 
 -- ---- bits, and bytes of them
 

@@ -7,7 +7,8 @@ ghost use Rattle.format.specs.Packing.{bits_of, bytes_of};
 ghost use Rattle.writer.specs.Writer.{Writes, byte_before, eight_bytes};
 
 // The bytes stored so far, and the bits after them: the last ones of a number, and how many. What stands before them in
-// the number is of no account, so that nothing need be taken off when they are stored.
+// the number is of no account, so that nothing need be taken off when they are stored. That at most 64 bits wait is no
+// ghost field, since one clause alone asks it.
 #[derive(Clone, Copy)]
 pub struct BitWriter {
     pub stored: usize,
@@ -23,42 +24,22 @@ pub fn last_bits(value: u16, width: usize) -> u16
     (value as u64 % (1u64 << width)) as u16
 }
 
-// The eight bits of a value before its last k.
-fn byte_before(k: usize, value: u64) -> u8
-    requires { k < 64 }
-    ensures { result ≡ byte_before k value }
-{
-    ((value >> k) % 256) as u8
-}
-
 // Sets the eight bytes from byte i on, the most significant first.
+#[tactic(auto, using(crate::proofs::WriterLaws::byte_laws))]
 fn put_eight(bytes: &mut [u8], i: usize, value: u64)
     requires { i + 8 ≤ length bytes.old }
     ensures { bytes.new ≡ sets bytes.old i (eight_bytes value) }
 {
-    bytes[i] = byte_before(56, value);
-    bytes[i + 1] = byte_before(48, value);
-    bytes[i + 2] = byte_before(40, value);
-    bytes[i + 3] = byte_before(32, value);
-    bytes[i + 4] = byte_before(24, value);
-    bytes[i + 5] = byte_before(16, value);
-    bytes[i + 6] = byte_before(8, value);
-    bytes[i + 7] = byte_before(0, value);
+    bytes[i..i + 8].copy_from_slice(&value.to_be_bytes());
 }
 
-// Sets as many bytes from byte i on, the first ones of those eight. The value is shifted from byte to byte, since the
-// compiler makes long code of a loop whose bytes do not hang on each other.
+// Sets as many bytes from byte i on, the first ones of those eight.
+#[tactic(auto, using(crate::proofs::WriterLaws::byte_laws))]
 fn put_first(bytes: &mut [u8], i: usize, value: u64, n: usize)
     requires { (n ≤ 8) × (i + n ≤ length bytes.old) }
     ensures { bytes.new ≡ sets bytes.old i (take n (eight_bytes value)) }
 {
-    let mut rest = value;
-    let mut k = 0;
-    while k < n {
-        bytes[i + k] = byte_before(56, rest);
-        rest = rest << 8;
-        k += 1;
-    }
+    bytes[i..i + n].copy_from_slice(&value.to_be_bytes()[..n]);
 }
 
 impl BitWriter {

@@ -1,21 +1,18 @@
 -- What crosses is what the page gives back, whose numbers are small.
-use mathlib.Core.Path.{ap, ◌∙◌}
+use mathlib.Core.Path.{sym}
 use native.Mathlib.Omega.{arith}
-use lib.Seq.{sets}
-use Rattle.operations.specs.Boundary.{code_of, values_of, number_values}
 use Rattle.ackbo.proofs.BoundLaws.{paged-small}
 use Rattle.ackbo.proofs.ackbo_page.Goals as goal
 
-pub put_number-requires : goal.put_number-requires
-put_number-requires c =
+pub put-requires : goal.put-requires
+put-requires c =
     rw c.page.ensures.result_value (paged-small c.args.book.now c.args.page.now (omega
     (arith, c.well_formed.1.0.1)))
 
 pub returns : goal.returns
 returns c =
-    let code = c.put_number.ensures.value in
-    let values = c.put_number.ensures.reply_after in record {
-      value = code ∙ ap code_of c.page.ensures.result_value;
-      reply_after = values ∙ ap (λ r. sets c.args.reply.now 0 (values_of number_values r)) c.page.ensures.result_value;
+    rw (sym c.page.ensures.result_value) (record {
+      value = c.put.ensures.value;
+      reply_after = c.put.ensures.reply_after;
       page_after = c.page.ensures.page_after;
-    }
+    })

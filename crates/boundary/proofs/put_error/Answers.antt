@@ -1,16 +1,12 @@
--- The error's numbers are not negative, so they are themselves as signed ones.
+-- The input and the offset are not negative as signed numbers.
 use native.Mathlib.Omega.{arith}
 use mir.Syntax.{w64}
-use mathlib.Core.Path.{◌∙◌}
-use mir.ValLaws.{to_z-of_z, to_z_pos}
+use mir.ValLaws.{to_z_pos}
+use Rattle.boundary.proofs.ReplyLaws.{whole}
 use Rattle.boundary.proofs.put_error.Goals as goal
 
-pub returns : goal.returns
-returns c =
-    let offset = c.signed in
-    let input = to_z_pos w64 c.args.input
-    (omega (arith, c.ranges.input)) in record {
-      value = c.put_reply.ensures.value;
-      reply_after = c.put_reply.ensures.reply_after ∙
-          rw (to_z-of_z w64 offset.result (record { sfits = offset.type_inv }), offset.ensures, input);
-    }
+pub returns-clause-reply_after : goal.returns-clause-reply_after
+returns-clause-reply_after c =
+    let input = to_z_pos w64 c.args.input (omega arith) in
+    let offset = to_z_pos w64 c.args.offset (omega arith) in
+    rw (input, offset) (whole c.args.reply.now _ c.told-reply (omega arith))

@@ -1,10 +1,12 @@
 -- What relates the terms that all the words make up is what comparing replies.
+use Rattle.std.proofs.lemmas.Result.{err_from_is_err_and}
 use Rattle.comparing.proofs.CompareLaws.{inputs-refused, inputs-compared}
-use borrow.Author.Rules.{rules}
 use Rattle.comparing.proofs.compare.Goals as goal
 
-pub returns-in-Refused : goal.returns-in-Refused
-returns-in-Refused c = search (rules, inputs-refused)
+pub returns-in_err-relate : goal.returns-in_err-relate
+returns-in_err-relate c =
+    let error = err_from_is_err_and c.from_residual.result c.from_residual.ensures.1 in
+    rw (error.1, error.2) (inputs-refused _ _ _ _ c.relate.ensures _ c.in_err-relate.was)
 
-pub returns-in-Read : goal.returns-in-Read
-returns-in-Read c = search (rules, inputs-compared)
+pub returns : goal.returns
+returns c = inputs-compared _ _ _ _ c.relate.ensures _ c.in_ok-relate.was

@@ -6,14 +6,13 @@ use Rattle.convert.proofs.main.Goals as goal
 
 pub slice_bounds-converted-end : goal.slice_bounds-converted-end
 slice_bounds-converted-end c =
-    let fits = converted-reply _ _ _ (sym c.in-Accepted.ensures.result_value) in
+    let fits = converted-reply _ _ _ (sym c.in-Ok.ensures.result_value) in
     omega (arith, c.convert.auto.out)
 
 pub slice_bounds-write_all-end : goal.slice_bounds-write_all-end
 slice_bounds-write_all-end c =
-    let fits = converted-reply _ _ _ (sym c.in-Accepted.ensures.result_value) in
+    let fits = converted-reply _ _ _ (sym c.in-Ok.ensures.result_value) in
     sym (length-take-le _ _ (omega (arith, c.convert.auto.out)))
 
 pub put_refusal-end-requires : goal.put_refusal-end-requires
-put_refusal-end-requires c =
-    (omega (arith, c.long.ensures.1), refused-small _ _ _ c.in-Refused.ensures.result_value)
+put_refusal-end-requires c = (omega arith, refused-small _ _ _ c.in-Err.ensures.result_value)

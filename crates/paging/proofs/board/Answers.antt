@@ -9,15 +9,15 @@ use Rattle.paging.proofs.board.Goals as goal
 pub put_refusal-requires : goal.put_refusal-requires
 put_refusal-requires c =
     let a = c.args in
-    let e₁ = rw c.in-Refused.is at c.page.ensures.result_value in
+    let e₁ = rw c.in-Err.is at c.page.ensures.result_value in
     let e₂ = c.page.ensures.page_after in
     let (f, same) = board-refusal a.book.now a.out.now (omega arith) _ _ e₁ e₂ in
-    (omega (arith, c.long.ensures.1), fault-small a.book.now form_number _ _ f)
+    (omega arith, fault-small a.book.now form_number _ _ f)
 
-pub returns-in-Accepted : goal.returns-in-Accepted
-returns-in-Accepted c =
+pub returns-in-Ok : goal.returns-in-Ok
+returns-in-Ok c =
     let a = c.args in
-    let e₁ = rw c.in-Accepted.is at c.page.ensures.result_value in
+    let e₁ = rw c.in-Ok.is at c.page.ensures.result_value in
     let e₂ = c.page.ensures.page_after in
     let both =
     board-page a.book.now a.out.now (omega arith) _ _ e₁ e₂
@@ -26,14 +26,15 @@ returns-in-Accepted c =
       out_after = both.1;
     }
 
-pub returns-in-Refused : goal.returns-in-Refused
-returns-in-Refused c =
+pub returns-in-Err : goal.returns-in-Err
+returns-in-Err c =
     let a = c.args in
-    let e₁ = rw c.in-Refused.is at c.page.ensures.result_value in
+    let e₁ = rw c.in-Err.is at c.page.ensures.result_value in
     let e₂ = c.page.ensures.page_after in
+    let code = c.from.ensures ∙ c.number.ensures in
     let (f, same) = board-refusal a.book.now a.out.now (omega arith) _ _ e₁ e₂ in
     let (r, out) = refusal-text a.book.now a.out.now (omega arith) _ _ _ _ _ f same
-    (c.put_refusal.ensures.value ∙ rw c.long.ensures.0) (c.put_refusal.ensures.out_after ∙ rw c.long.ensures.0) in
+    (rw code at c.put_refusal.ensures.value) (rw code at c.put_refusal.ensures.out_after) in
     record {
       value = (r, omega (arith, c.put_refusal.ensures.upper_bound));
       out_after = out;

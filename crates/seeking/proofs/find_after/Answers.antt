@@ -9,7 +9,7 @@ use Rattle.seeking.proofs.find_after.Goals as goal
 pub returns-then-count-marked : goal.returns-then-count-marked
 returns-then-count-marked c form taken =
     let a = c.args in
-    standing-few a.book.now form taken (signature_of a.table.now) a.count a.first.at a.marked
+    standing-few a.book.bytes.now form taken (signature_of a.table.now) a.count a.first.at a.marked
     c.if-count-marked.true
 
 pub returns-in_default : goal.returns-in_default
@@ -18,25 +18,20 @@ returns-in_default c form taken =
     let σ = signature_of a.table.now in
     let unread = rw c.in_default.is at (c.skip_rules.ensures.rules_skipped σ c.arities-arities.ensures
     c.requires.table.unscaled) in
-    standing-unread a.book.now form taken σ a.count a.first.at a.marked _ _
+    standing-unread a.book.bytes.now form taken σ a.count a.first.at a.marked _ _
     (unread a.count (omega (arith, c.if-count-marked.false)))
-
-pub skip_rules-requires-2 : goal.skip_rules-requires-2
-skip_rules-requires-2 c =
-    let within = rw c.in-Got.is at c.skip_rules.ensures.within in
-    (c.requires.book_len_bound.0, within.1)
 
 pub returns-in_default-skip_rules : goal.returns-in_default-skip_rules
 returns-in_default-skip_rules c form taken =
     let a = c.args in
     let σ = signature_of a.table.now in
     let few = c.if-count-marked.false in
-    let marked = rw c.in-Got.is at (c.skip_rules.ensures.rules_skipped σ c.arities-arities.ensures
+    let marked = rw c.in-Ok.is at (c.skip_rules.ensures.rules_skipped σ c.arities-arities.ensures
     c.requires.table.unscaled) in
     let (done, so) = marked a.count (omega (arith, few)) in
     let unread = rw c.in_default-skip_rules.is at (c.skip_rules-2.ensures.rules_skipped σ c.arities-arities.ensures
     c.requires.table.unscaled) in
-    standing-cut a.book.now form taken σ a.count a.first.at a.marked (omega (arith, few)) done _ so _ _
+    standing-cut a.book.bytes.now form taken σ a.count a.first.at a.marked (omega (arith, few)) done _ so _ _
     (unread (a.count - a.marked) (omega arith))
 
 pub returns-then-marked-count : goal.returns-then-marked-count
@@ -44,40 +39,40 @@ returns-then-marked-count c form taken =
     let a = c.args in
     let σ = signature_of a.table.now in
     let few = c.if-count-marked.false in
-    let marked = rw c.in-Got.is at (c.skip_rules.ensures.rules_skipped σ c.arities-arities.ensures
+    let marked = rw c.in-Ok.is at (c.skip_rules.ensures.rules_skipped σ c.arities-arities.ensures
     c.requires.table.unscaled) in
-    let within = rw c.in-Got.is at c.skip_rules.ensures.within in
+    let within = rw c.in-Ok.is at c.skip_rules.ensures.within in
     let (done, so) = marked a.count (omega (arith, few)) in
-    let others = rw c.in-Got-skip_rules.is at (c.skip_rules-2.ensures.rules_skipped σ c.arities-arities.ensures
+    let others = rw c.in-Ok-skip_rules.is at (c.skip_rules-2.ensures.rules_skipped σ c.arities-arities.ensures
     c.requires.table.unscaled) in
     let (rest, last) = others (a.count - a.marked) (omega arith) in
-    standing-left a.book.now form taken σ a.count a.first.at a.marked (omega (arith, few)) done _ so rest
-    _ last (sym c.is_padding.ensures ∙ c.if-is_padding.true) within.1 c.if-marked-count.true
-
-pub returns-then-is_padding : goal.returns-then-is_padding
-returns-then-is_padding c form taken =
-    let a = c.args in
-    let σ = signature_of a.table.now in
-    let few = c.if-count-marked.false in
-    let marked = rw c.in-Got.is at (c.skip_rules.ensures.rules_skipped σ c.arities-arities.ensures
-    c.requires.table.unscaled) in
-    let (done, so) = marked a.count (omega (arith, few)) in
-    let others = rw c.in-Got-skip_rules.is at (c.skip_rules-2.ensures.rules_skipped σ c.arities-arities.ensures
-    c.requires.table.unscaled) in
-    let (rest, last) = others (a.count - a.marked) (omega arith) in
-    standing-done a.book.now form taken σ a.count a.first.at a.marked (omega (arith, few)) done _ so rest
-    _ last (sym c.is_padding.ensures ∙ c.if-is_padding.true) c.if-marked-count.false
+    standing-left a.book.bytes.now form taken σ a.count a.first.at a.marked (omega (arith, few)) done _ so rest
+    _ last (sym c.is_padding.ensures ∙ c.if-not-is_padding.false) within c.if-marked-count.true
 
 pub returns : goal.returns
 returns c form taken =
     let a = c.args in
     let σ = signature_of a.table.now in
     let few = c.if-count-marked.false in
-    let marked = rw c.in-Got.is at (c.skip_rules.ensures.rules_skipped σ c.arities-arities.ensures
+    let marked = rw c.in-Ok.is at (c.skip_rules.ensures.rules_skipped σ c.arities-arities.ensures
     c.requires.table.unscaled) in
     let (done, so) = marked a.count (omega (arith, few)) in
-    let others = rw c.in-Got-skip_rules.is at (c.skip_rules-2.ensures.rules_skipped σ c.arities-arities.ensures
+    let others = rw c.in-Ok-skip_rules.is at (c.skip_rules-2.ensures.rules_skipped σ c.arities-arities.ensures
     c.requires.table.unscaled) in
     let (rest, last) = others (a.count - a.marked) (omega arith) in
-    standing-unended a.book.now form taken σ a.count a.first.at a.marked (omega (arith, few)) done _ so
-    rest _ last (sym c.is_padding.ensures ∙ c.if-is_padding.false)
+    standing-done a.book.bytes.now form taken σ a.count a.first.at a.marked (omega (arith, few)) done _ so rest
+    _ last (sym c.is_padding.ensures ∙ c.if-not-is_padding.false) c.if-marked-count.false
+
+pub returns-then-not-is_padding : goal.returns-then-not-is_padding
+returns-then-not-is_padding c form taken =
+    let a = c.args in
+    let σ = signature_of a.table.now in
+    let few = c.if-count-marked.false in
+    let marked = rw c.in-Ok.is at (c.skip_rules.ensures.rules_skipped σ c.arities-arities.ensures
+    c.requires.table.unscaled) in
+    let (done, so) = marked a.count (omega (arith, few)) in
+    let others = rw c.in-Ok-skip_rules.is at (c.skip_rules-2.ensures.rules_skipped σ c.arities-arities.ensures
+    c.requires.table.unscaled) in
+    let (rest, last) = others (a.count - a.marked) (omega arith) in
+    standing-unended a.book.bytes.now form taken σ a.count a.first.at a.marked (omega (arith, few)) done _ so
+    rest _ last (sym c.is_padding.ensures ∙ c.if-not-is_padding.true)

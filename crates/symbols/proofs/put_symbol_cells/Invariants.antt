@@ -1,14 +1,7 @@
 -- The loop keeps: the cells of the symbols before `f` are stored, and the others are as they were.
-use mathlib.Core.Path.{◌≡◌}
-use Prim.Native.Nat.{◌-◌, ◌≤◌}
-use lib.ListN.{length}
 use Rattle.symbols.specs.Table.{signature_of}
 use Rattle.symbols.specs.Arities.{Between}
 use Rattle.symbols.proofs.put_symbol_cells.Given as goal
 
 abbrev pub invariant-loop-f : goal.invariant-loop-f
-invariant-loop-f l =
-    (l.f ≤ l.count) × (length l.cells ≡ 272) × Between (signature_of l.table) 0 l.f l.initial.cells l.cells
-
-abbrev pub decreases-loop-f : goal.decreases-loop-f
-decreases-loop-f l = l.count - l.f
+invariant-loop-f l = Between (signature_of l.table) 0 l.f l.initial.cells l.cells

@@ -63,7 +63,7 @@ const UNBOUND: [(&[Edit], &str); 5] = [
         &[(PICKING, "pub fn greater_side", "#[unsafe(no_mangle)]\npub fn zero() -> u8 {\n    0\n}\n\n~")],
         "exported elsewhere",
     ),
-    (&[(PICKING, "-> PickReply\n", "~    requires { 1 ≡ 2 }\n")], "greater_side asks something of its callers"),
+    (&[(PICKING, "-> Result<GreaterSide, Error>\n", "~    requires { 1 ≡ 2 }\n")], "greater_side asks something of its callers"),
     (&[(TURN, "(result ≡ code_of (turned ", "(0 ≡ code_of (turned ")], "ackbo_turn does not say what its result is"),
     (&[(TURN, "× (jobs.new ≡", "× (jobs.old ≡")], "ackbo_turn does not say what jobs is afterwards"),
 ];

@@ -1,46 +1,38 @@
 -- The loop keeps: nine bits for each node so far, less four for each variable.
 use native.Mathlib.Omega.{arith}
-use Prim.Native.Nat.{ℕ, ◌+◌}
-use mathlib.Core.Path.{◌≡◌, refl, ap}
-use lib.ListN.{length}
+use native.Mathlib.Nat.{add-zero}
+use Prim.Native.Nat.{ℕ, ◌+◌, ◌-◌, ◌<◌}
+use mathlib.Core.Path.{◌≡◌, ap, ◌∙◌}
+use lib.ListN.{length, get_or, take, drop, length-drop}
+use lib.Seq.{get_or-take, length-take-le}
+use Rattle.std.proofs.Common.{get_or-drop}
 use Rattle.encoder.specs.Items.{bits_to}
 use Rattle.encoder.proofs.ItemBits.{node-bits, length_more, fields-length}
 use Rattle.encoder.proofs.items.packed_bits.Goals as goal
 
-pub loop-i-init : goal.loop-i-init
-loop-i-init c = let a = c.args in
-    let n = a.nodes in
-    let all = ap (λ (k : ℕ). length (bits_to a.words.now n k)) c.requires.0 in (
-      omega arith,
-      omega arith,
-      omega arith,
-      omega (
-        arith,
-        all,
-        fields-length a.words.now n a.symbols (omega
-            arith),
-      ),
-    )
-
-pub loop-i-preserved : goal.loop-i-preserved
-loop-i-preserved c =
+pub loop-word-init : goal.loop-word-init
+loop-word-init c =
     let a = c.args in
-    let n = a.nodes in
-    let i = c.loop-i.i in (
-      omega arith,
-      omega arith,
-      omega (arith, c.tag-variables.ensures.1),
-      omega (
-        arith,
-        length_more a.words.now n i (i + 1) refl,
-        ap length (node-bits a.words.now n i c.loop-i.invariant.0),
-        c.tag-variables.ensures.0,
-        c.loop-i.invariant.3,
-      ),
-    )
+    let all = ap (λ (k : ℕ). length (bits_to a.words.now a.nodes k)) (add-zero a.nodes ∙ c.requires.0) in record {
+      few = omega arith;
+      bits = omega (arith, all, fields-length a.words.now a.nodes a.symbols (omega arith));
+    }
 
-pub returns : goal.returns
-returns c =
-    let a = c.args in
-    let e : c.loop-i.i ≡ length a.words.now = omega arith in
-    omega (arith, ap (λ (k : ℕ). length (bits_to a.words.now a.nodes k)) e, c.loop-i.invariant.3)
+pub loop-word-preserved : goal.loop-word-preserved
+loop-word-preserved c =
+    let ws = c.args.words.now in
+    let n = c.args.nodes in
+    let k = c.loop-word.word-index in
+    let part = take (length ws - n) (drop n ws) in
+    let h : k < length ws - n =
+    omega (arith, length-take-le (length ws - n) (drop n ws) (omega (arith, length-drop n ws))) in
+    let word : get_or part k 0 ≡ get_or ws (n + k) 0 = rw (get_or-take, get_or-drop) in
+    record {
+      few = omega (arith, c.tag-variables.ensures.1);
+      bits = omega (
+        arith,
+        length_more ws n (n + k) (n + (k + 1)) (omega arith),
+        ap length (node-bits ws n (n + k) (omega arith)),
+        rw word at c.tag-variables.ensures.0,
+      );
+    }

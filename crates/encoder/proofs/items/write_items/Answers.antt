@@ -1,75 +1,79 @@
--- The loop keeps: the bits of the items before word `i` are written; what waits is stored at the end.
+-- The loop keeps: some bits are written, and with those of the rest they are all; what waits is stored at the end.
+use mathlib.Core.List.{◌++◌}
+use mathlib.Core.Path.{ap, ◌∙◌}
+use Prim.Native.Nat.{◌-◌}
 use native.Mathlib.Omega.{arith}
-use Prim.Native.Nat.{◌+◌}
-use mathlib.Core.Path.{◌≡◌, refl, ◌∙◌}
-use lib.ListN.{length}
-use Rattle.encoder.proofs.ItemBits.{bits_mono}
+use lib.ListN.{length, length-append, length-drop, drop}
+use lib.Seq.{take_all, length-take-le}
+use Rattle.encoder.specs.Items.{bits_to, node_bits}
+use Rattle.encoder.proofs.ItemBits.{bits_mono, nodes-over, nodes-from}
 use Rattle.encoder.proofs.items.write_items.Goals as goal
 
-pub write_fields-writer-requires : goal.write_fields-writer-requires
-write_fields-writer-requires c =
+pub write_fields-writer-requires-clause-nodes_len_bound : goal.write_fields-writer-requires-clause-nodes_len_bound
+write_fields-writer-requires-clause-nodes_len_bound c =
     let l = c.args.words.now in
     let n = c.args.nodes in
-    record {
-      by_index = c.requires.by_index;
-      nodes_len_bound = omega (arith, c.requires.bytes_len, bits_mono l n n (length l) c.requires.by_index.1);
-    }
+    omega (arith, c.requires.bytes_len, bits_mono l n n (length l) c.requires.by_index.1)
 
-pub loop-i-init : goal.loop-i-init
-loop-i-init c =
-    let few = c.write_fields-writer.ensures.count_bound in
-    let written = c.write_fields-writer.ensures.writes in
-    (omega arith, c.requires.by_index.1, refl, few, written)
-
-pub push_three-half-requires : goal.push_three-half-requires
-push_three-half-requires c = (omega arith, omega (arith, c.loop-i.invariant.3))
-
-pub push_three-requires : goal.push_three-requires
-push_three-requires c = (omega arith, omega (arith, c.loop-i.invariant.3, c.push_three-half.ensures.count_bound))
+pub loop-six-init : goal.loop-six-init
+loop-six-init c =
+    let l = c.args.words.now in
+    let n = c.args.nodes in
+    let all = take_all (length l - n) (drop n l) (omega (arith, length-drop n l)) in (
+      c.write_fields-writer.ensures.count_bound,
+      bits_to l n n,
+      rw all (nodes-from l n (length l - n) n (omega arith) (omega arith)),
+      c.write_fields-writer.ensures.writes,
+    )
 
 pub flush-writer-requires : goal.flush-writer-requires
 flush-writer-requires c =
-    let v = c.loop-i.invariant in
-    let i = c.loop-i.i in
-    let l = c.args.words.now in
-    let n = c.args.nodes in
-    let h = c.push_three.ensures.by_index n (omega (arith, v.0)) _
-    (c.push_three-half.ensures.by_index n v.0 _ v.4) in
-    let room = bits_mono l n (i + 3 + 3) (length l) (omega (arith, c.loop-i-test.true)) in (
-      omega (arith, v.3, c.push_three-half.ensures.count_bound, c.push_three.ensures.count_bound),
-      omega (arith, h.total, room, c.requires.bytes_len, v.2, c.write_fields-writer.auto.bytes),
+    let (few, bits, all, written) = c.loop-six.invariant in
+    let rest = c.loop-six.rest.now in
+    let (six, after, left) = c.in-Some.ensures.cases in
+    let long = length-take-le 6 rest (omega (arith, left)) in
+    let h = c.push_nodes.ensures.by_index bits _ written in
+    let whole = nodes-over bits rest _ c.in-Some.six.now c.in-Some.after.now 6 six after all in (
+      omega (arith, few, c.push_nodes.ensures.count_bound, ap length six, long),
+      omega (
+        arith,
+        h.total,
+        ap length whole,
+        length-append (bits ++ node_bits c.in-Some.six.now) (node_bits c.in-Some.after.now),
+        c.requires.bytes_len,
+        c.loop-six.auto.bytes,
+        c.write_fields-writer.auto.bytes,
+      ),
     )
 
-pub loop-i-preserved : goal.loop-i-preserved
-loop-i-preserved c =
-    let v = c.loop-i.invariant in
-    let n = c.args.nodes in
-    let e : c.loop-i.i + 6 ≡ c.loop-i.i + 3 + 3 = omega arith in (
-      omega (arith, v.0),
-      omega (arith, c.loop-i-test.true),
-      c.flush-writer.auto.bytes ∙ v.2,
+pub loop-six-preserved : goal.loop-six-preserved
+loop-six-preserved c =
+    let (few, bits, all, written) = c.loop-six.invariant in
+    let (six, after, left) = c.in-Some.ensures.cases in (
       c.flush-writer.ensures.count_bound.0,
-      rw e (c.flush-writer.ensures.by_index _ (c.push_three.ensures.by_index n (omega (arith, v.0)) _
-          (c.push_three-half.ensures.by_index n v.0 _ v.4))),
+      bits ++ node_bits c.in-Some.six.now,
+      nodes-over bits c.loop-six.rest.now _ c.in-Some.six.now c.in-Some.after.now 6 six after all,
+      c.flush-writer.ensures.by_index _ (c.push_nodes.ensures.by_index bits _ written),
     )
-
-pub push_rest-requires : goal.push_rest-requires
-push_rest-requires c = (c.loop-i.invariant.1, omega arith, c.loop-i.invariant.3)
 
 pub finish-requires : goal.finish-requires
 finish-requires c =
-    let v = c.loop-i.invariant in
-    let few = c.push_rest.ensures.count_bound in
-    let written = c.push_rest.ensures.by_index in
-    let h = written c.args.nodes v.0 _ v.4 in
-    (omega (arith, few), omega (arith, h.total, c.requires.bytes_len, v.2, c.write_fields-writer.auto.bytes))
-
-pub shape_of-bytes : goal.shape_of-bytes
-shape_of-bytes c =
-    c.finish.auto.bytes ∙ c.loop-i.invariant.2 ∙ c.write_fields-writer.auto.bytes
+    let (few, bits, all, written) = c.loop-six.invariant in
+    let h = c.push_nodes-2.ensures.by_index bits _ written in
+    let left = c.in_default.ensures.cases in (
+      omega (arith, few, c.push_nodes-2.ensures.count_bound, left),
+      omega (
+        arith,
+        h.total,
+        ap length all,
+        c.requires.bytes_len,
+        c.loop-six.auto.bytes,
+        c.write_fields-writer.auto.bytes,
+      ),
+    )
 
 pub returns : goal.returns
 returns c =
-    let v = c.loop-i.invariant in
-    c.finish.ensures _ (c.push_rest.ensures.by_index c.args.nodes v.0 _ v.4)
-    (v.2 ∙ c.write_fields-writer.auto.bytes ∙ c.requires.bytes_len)
+    let (few, bits, all, written) = c.loop-six.invariant in
+    c.finish.ensures _ (rw all at (c.push_nodes-2.ensures.by_index bits _ written))
+    (c.loop-six.auto.bytes ∙ c.write_fields-writer.auto.bytes ∙ c.requires.bytes_len)

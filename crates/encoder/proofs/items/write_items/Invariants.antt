@@ -1,15 +1,16 @@
--- The loop keeps: the bits of the items before word `i` are written; what waits is stored at the end.
-use Prim.Native.Nat.{◌-◌, ◌≤◌, ◌<◌}
+-- The loop keeps: some bits are written, and with those of the rest they are all; what waits is stored at the end.
+use mathlib.Core.List.{List, ◌++◌}
 use mathlib.Core.Path.{◌≡◌}
+use Prim.Native.Nat.{ℕ, ◌<◌}
 use lib.ListN.{length}
 use Rattle.writer.specs.Writer.{Writes}
-use Rattle.encoder.specs.Items.{bits_to}
+use Rattle.encoder.specs.Items.{bits_to, node_bits}
 use Rattle.encoder.proofs.items.write_items.Given as goal
 
-abbrev pub invariant-loop-i : goal.invariant-loop-i
-invariant-loop-i l =
-    (l.nodes ≤ l.i) × (l.i ≤ length l.words) × (length l.bytes ≡ length l.initial.bytes) × (l.writer.count < 8) ×
-    Writes (bits_to l.words l.nodes l.i) l.writer l.bytes
+abbrev pub invariant-loop-six : goal.invariant-loop-six
+invariant-loop-six l =
+    (l.writer.count < 8) × (bits : List ℕ) × (bits ++ node_bits l.rest ≡ bits_to l.words l.nodes (length l.words)) ×
+    Writes bits l.writer l.bytes
 
-abbrev pub decreases-loop-i : goal.decreases-loop-i
-decreases-loop-i l = length l.words - l.i
+abbrev pub decreases-loop-six : goal.decreases-loop-six
+decreases-loop-six l = length l.rest

@@ -1,5 +1,4 @@
 -- The loop keeps: each count, with the symbols from `f` on, is that of all symbols.
-use Prim.Native.Nat.{◌-◌, ◌≤◌}
 use mathlib.Core.Path.{◌≡◌}
 use lib.ListN.{length}
 use Rattle.symbols.specs.Table.{signature_of}
@@ -8,7 +7,4 @@ use Rattle.enumerating.proofs.counts.arity_counts.Given as goal
 
 abbrev pub invariant-loop-f : goal.invariant-loop-f
 invariant-loop-f l =
-    (l.f ≤ l.count) × (length l.counts ≡ 8) × CountedTo (signature_of l.table) l.f l.counts
-
-abbrev pub decreases-loop-f : goal.decreases-loop-f
-decreases-loop-f l = l.count - l.f
+    (length l.counts ≡ 8) × CountedTo (signature_of l.table) l.f l.counts

@@ -9,9 +9,6 @@ use Rattle.enumerating.proofs.counts.row_count.Given as goal
 
 abbrev pub invariant-loop-a : goal.invariant-loop-a
 invariant-loop-a l =
-    (l.a ≤ 8) × (l.total ≤ 65536)
+    (l.total ≤ 65536)
     × ((σ : Signature) → ArityCounts σ l.counts → CellsTo σ (8 * l.nodes + 8) l.cells →
     capped (l.total + sum_over (summand σ l.nodes l.others) l.a (8 - l.a)) ≡ row_count σ (suc l.nodes) (suc l.others))
-
-abbrev pub decreases-loop-a : goal.decreases-loop-a
-decreases-loop-a l = 8 - l.a

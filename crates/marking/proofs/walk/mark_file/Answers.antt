@@ -1,41 +1,21 @@
 -- What is read of the file is what is read after its head.
-use mathlib.Core.Path.{sym, ◌∙◌}
-use mathlib.Core.List.{[]}
-use native.Mathlib.Omega.{arith}
-use lib.Seq.{length-take-le}
-use Rattle.format.specs.Layout.{form_number}
+use Rattle.std.proofs.lemmas.Result.{err_from_is_err_and}
 use Rattle.reader.specs.Source.{Reached}
-use Rattle.reader.proofs.SourceLaws.{read-packed}
 use Rattle.marking.proofs.walk.mark_file.Goals as goal
 
-pub front-front-requires : goal.front-front-requires
-unfolding Reached
-front-front-requires c =
-    (rw c.in-Got.is at c.read_head.ensures).few_symbols
+pub returns-in_err-head : goal.returns-in_err-head
+returns-in_err-head c =
+    let error = err_from_is_err_and c.from_residual.result c.from_residual.ensures.1 in
+    rw (error.1, error.2)
+    (rw c.in_err-head.was at c.read_head.ensures)
 
-pub slice_bounds-mark_under-end : goal.slice_bounds-mark_under-end
+pub mark_under-requires-clause-cursor_bound : goal.mark_under-requires-clause-cursor_bound
 unfolding Reached
-slice_bounds-mark_under-end c =
-    sym (length-take-le _ c.read_head.new.table
-    (omega (arith, c.front-front.ensures.1, c.read_head.auto.table)))
+mark_under-requires-clause-cursor_bound c =
+    let head = rw c.in_ok-head.was at c.read_head.ensures in head.within
 
-pub mark_under-requires : goal.mark_under-requires
-unfolding Reached
-mark_under-requires c =
-    let head = rw c.in-Got.is at c.read_head.ensures in record {
-      book_len_bound = (head.short, head.within);
-      table = (rw c.front-front.ensures.0 head.decoded, head.few_rules, c.requires);
-    }
-
-pub returns-in-Fault : goal.returns-in-Fault
-unfolding Reached
-returns-in-Fault c =
-    sym (read-packed form_number c.args.book.now [])
-    ∙ rw c.in-Fault.is at c.read_head.ensures
-
-pub returns-in-Got : goal.returns-in-Got
-unfolding Reached
-returns-in-Got c =
-    let head = rw c.in-Got.is at c.read_head.ensures in
-    rw (sym (read-packed form_number c.args.book.now []) ∙ head.whole)
+pub returns : goal.returns
+returns c =
+    let head = rw c.in_ok-head.was at c.read_head.ensures in
+    rw head.whole
     (rw c.front-front.ensures.0 at (c.mark_under.ensures head.form head.taken))

@@ -2,15 +2,8 @@
 use mathlib.Core.Path.{refl, sym, ◌∙◌}
 use Rattle.order.proofs.EquivalentLaws.{mark-of-equivalent}
 use Rattle.order.proofs.MarkLaws.{relation-equivalent, level-greater, level-less, level-unrelated}
-use Rattle.order.proofs.WholeLaws.{level-turned, scales-turned, whole-scale}
+use Rattle.order.proofs.WholeLaws.{level-turned}
 use Rattle.order.proofs.relation.relation_level.Goals as goal
-
-pub prepare_both-requires : goal.prepare_both-requires
-prepare_both-requires c =
-    record {
-      decoded = c.requires.level.decoded;
-      skeys_len = (refl, refl);
-    }
 
 pub returns-then-prepare_both : goal.returns-then-prepare_both
 returns-then-prepare_both c =
@@ -21,33 +14,32 @@ returns-then-prepare_both c =
 
 pub greater_level-requires : goal.greater_level-requires
 greater_level-requires c =
-    let L = c.requires.level in
-    let (x, y) = c.requires.summed_up in
-    record {
-      level = L;
-      scale = whole-scale L.decoded c.prepare_both.ensures.both_prepared x y;
-    }
+    let P = c.paired-pair.ensures in rw (P.table, P.left, P.right) c.requires.level
 
 pub returns-then-greater_level : goal.returns-then-greater_level
 returns-then-greater_level c =
-    level-greater _ _ _ (sym c.if-greater_level.true ∙ c.greater_level.ensures)
+    let P = c.paired-pair.ensures in
+    level-greater _ _ _ (rw (P.table, P.left, P.right) at (sym c.if-greater_level.true ∙ c.greater_level.ensures))
 
 pub greater_level-requires-2 : goal.greater_level-requires-2
 greater_level-requires-2 c =
-    let L = c.requires.level in
-    let (x, y) = c.requires.summed_up in
-    record {
-      level = level-turned L;
-      scale = scales-turned (whole-scale L.decoded c.prepare_both.ensures.both_prepared x y);
-    }
+    let P = c.paired-pair.ensures in
+    let Q = c.turned.ensures in
+    rw (Q.table, Q.left, Q.right, P.table, P.left, P.right) (level-turned c.requires.level)
 
 pub returns-then-greater_level-2 : goal.returns-then-greater_level-2
 returns-then-greater_level-2 c =
-    level-less _ _ _ (sym c.if-greater_level.false ∙ c.greater_level.ensures)
-    (sym c.if-greater_level-2.true ∙ c.greater_level-2.ensures)
+    let P = c.paired-pair.ensures in
+    let Q = c.turned.ensures in
+    level-less _ _ _ (rw (P.table, P.left, P.right) at (sym c.if-greater_level.false ∙ c.greater_level.ensures))
+    (rw (Q.table, Q.left, Q.right, P.table, P.left, P.right) at
+    (sym c.if-greater_level-2.true ∙ c.greater_level-2.ensures))
 
 pub returns : goal.returns
 returns c =
-    level-unrelated _ _ _ (sym c.if-greater_level.false ∙ c.greater_level.ensures)
-    (sym c.if-greater_level-2.false ∙ c.greater_level-2.ensures)
+    let P = c.paired-pair.ensures in
+    let Q = c.turned.ensures in
+    level-unrelated _ _ _ (rw (P.table, P.left, P.right) at (sym c.if-greater_level.false ∙ c.greater_level.ensures))
+    (rw (Q.table, Q.left, Q.right, P.table, P.left, P.right) at
+    (sym c.if-greater_level-2.false ∙ c.greater_level-2.ensures))
     (sym c.if-prepare_both.false ∙ c.prepare_both.ensures.value)

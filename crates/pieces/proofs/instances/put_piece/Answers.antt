@@ -1,46 +1,40 @@
 -- A whole part is copied as it stands; a sum is put element by element.
 use native.Mathlib.Omega.{arith}
-use Rattle.pieces.proofs.PutLaws.{put_same}
+use mathlib.Core.Path.{◌≡◌}
+use Prim.Native.Nat.{◌+◌, ◌<◌}
+use Rattle.equivalence.specs.Keys.{size_in}
+use Rattle.equivalence.proofs.PreparedLaws.{prepared-kept}
 use Rattle.pieces.proofs.PieceLaws.{whole-fits, whole_room, put_whole, sum-masked, sum-words}
 use Rattle.pieces.proofs.instances.put_piece.Goals as goal
 
-pub copy-requires : goal.copy-requires
-copy-requires c =
-    let P = c.requires.prepared in
-    let I = c.requires.piece in record {
-      count_in_bounds = (whole-fits P I c.if-mask-eq0.true c.size_at-count.ensures.0, P.short);
-      count_bound = (
-        whole_room P I c.if-mask-eq0.true c.size_at-count.ensures.0 _
-            c.requires.mask_bound,
-        c.requires.out_len,
-      );
-    }
+pub slice_bounds-extend-end : goal.slice_bounds-extend-end
+slice_bounds-extend-end c =
+    let P = prepared-kept c.args.term.now.prepared in
+    let i = c.args.piece.offset in
+    let d : i + c.size_at.result ≡ i + size_in c.args.term.now.keys.now i = omega (arith, c.size_at.ensures.0) in
+    omega (arith, whole-fits P c.requires.piece c.if-piece-eq0.true d)
 
-pub overflow_add-result : goal.overflow_add-result
-overflow_add-result c =
-    omega (
-      arith,
-      whole_room c.requires.prepared
-          c.requires.piece c.if-mask-eq0.true
-          c.size_at-count.ensures.0 _ c.requires.mask_bound,
-    )
-
-pub returns-then-mask-eq0 : goal.returns-then-mask-eq0
-returns-then-mask-eq0 c =
-    put_whole c.requires.prepared c.requires.piece
-    c.if-mask-eq0.true c.size_at-count.ensures.0 _ _ _ c.copy.ensures
+pub extend-requires : goal.extend-requires
+extend-requires c =
+    let P = prepared-kept c.args.term.now.prepared in
+    let i = c.args.piece.offset in
+    let d : i + c.size_at.result ≡ i + size_in c.args.term.now.keys.now i = omega (arith, c.size_at.ensures.0) in
+    whole_room P c.requires.piece c.if-piece-eq0.true d _ c.requires.room
 
 pub put_sum-requires : goal.put_sum-requires
 put_sum-requires c =
-    let P = c.requires.prepared in
-    let I = c.requires.piece in record {
-      masked = sum-masked P I c.if-mask-eq0.false;
-      mask_bound = rw (sum-words P I c.if-mask-eq0.false) at
-          c.requires.mask_bound;
-      out_len = c.requires.out_len;
-    }
+    let P = prepared-kept c.args.term.now.prepared in
+    let h : 0 < c.args.piece.mask = omega (arith, c.if-piece-eq0.false) in
+    (sum-masked P c.requires.piece h, rw (sum-words P c.requires.piece h) at c.requires.room)
 
-pub returns : goal.returns
-returns c =
-    put_same _ _ _ _ _ _ (sum-words c.requires.prepared
-    c.requires.piece c.if-mask-eq0.false) c.put_sum.ensures
+pub returns-then-piece-eq0 : goal.returns-then-piece-eq0
+returns-then-piece-eq0 c =
+    let P = prepared-kept c.args.term.now.prepared in
+    let i = c.args.piece.offset in
+    let d : i + c.size_at.result ≡ i + size_in c.args.term.now.keys.now i = omega (arith, c.size_at.ensures.0) in
+    put_whole P c.requires.piece c.if-piece-eq0.true d c.extend.ensures
+
+pub returns-else-piece-eq0 : goal.returns-else-piece-eq0
+returns-else-piece-eq0 c =
+    let P = prepared-kept c.args.term.now.prepared in
+    rw (sum-words P c.requires.piece (omega (arith, c.if-piece-eq0.false))) c.put_sum.ensures

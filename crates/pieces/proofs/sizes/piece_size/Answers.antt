@@ -1,23 +1,20 @@
 -- The size of a whole part is kept by its key; a sum's is counted.
 use native.Mathlib.Omega.{arith}
-use mathlib.Core.Path.{sym, ap, ◌∙◌}
+use mathlib.Core.Path.{◌≡◌, sym, ap, ◌∙◌}
 use lib.ListN.{length}
-use Rattle.pieces.proofs.PieceLaws.{whole_length, sum-masked, sum-words}
+use Prim.Native.Nat.{◌+◌}
+use Rattle.equivalence.specs.Keys.{size_in}
+use Rattle.equivalence.proofs.PreparedLaws.{prepared-kept}
+use Rattle.pieces.proofs.PieceLaws.{whole_length, sum-words}
 use Rattle.pieces.proofs.sizes.piece_size.Goals as goal
 
-pub returns-then-mask-eq0 : goal.returns-then-mask-eq0
-returns-then-mask-eq0 c = record {
-  value = sym (whole_length c.requires.prepared c.requires.piece c.if-mask-eq0.true
-      c.size_at.ensures.0);
-  upper_bound = omega (arith, c.size_at.ensures.1);
-}
+pub returns-then-piece-eq0-clause-value : goal.returns-then-piece-eq0-clause-value
+returns-then-piece-eq0-clause-value c =
+    let i = c.args.piece.offset in
+    let d : i + c.size_at.result ≡ i + size_in c.args.term.now.keys.now i = omega (arith, c.size_at.ensures.0) in
+    omega (arith, whole_length (prepared-kept c.args.term.now.prepared) c.requires c.if-piece-eq0.true d)
 
-pub sum_size-requires : goal.sum_size-requires
-sum_size-requires c = sum-masked c.requires.prepared c.requires.piece c.if-mask-eq0.false
-
-pub returns : goal.returns
-returns c = record {
-  value = c.sum_size.ensures.value ∙ ap length (sym (sum-words c.requires.prepared
-      c.requires.piece c.if-mask-eq0.false));
-  upper_bound = omega (arith, c.sum_size.ensures.upper_bound, c.requires.prepared.short);
-}
+pub returns-clause-value : goal.returns-clause-value
+returns-clause-value c =
+    c.sum_size.ensures.value
+    ∙ ap length (sym (sum-words (prepared-kept c.args.term.now.prepared) c.requires (omega (arith, c.if-piece-eq0.false))))

@@ -4,18 +4,12 @@ use Rattle.reader.specs.Source.{source_of}
 use Rattle.format.proofs.PackingLaws.{one_shl}
 use Rattle.reader.proofs.field.field.Goals as goal
 
-pub returns-then-packed : goal.returns-then-packed
+pub returns-in-Book-clause-result_value : goal.returns-in-Book-clause-result_value
 unfolding source_of
-returns-then-packed c = rw c.if-packed.true (record {
-  result_value = c.field.ensures.result_value;
-  below = c.field.ensures.below;
-})
+returns-in-Book-clause-result_value c = rw c.in-Book.is c.field.ensures.result_value
 
-pub returns : goal.returns
+pub returns-in-Sheet-clause-result_value : goal.returns-in-Sheet-clause-result_value
 unfolding source_of
-returns c =
-    let e = one_shl 64 c.args.width (omega (arith, c.requires.1)) in
-    rw (c.if-packed.false, c.moved.ensures) (record {
-      result_value = rw e at c.word_below.ensures.result_value;
-      below = rw e at c.word_below.ensures.below;
-    })
+returns-in-Sheet-clause-result_value c =
+    rw (c.in-Sheet.is, c.moved.ensures)
+    (rw (one_shl 64 c.args.width (omega (arith, c.requires))) at c.word_below.ensures.result_value)

@@ -1,35 +1,30 @@
 -- The field is read, and the test is the definition's.
+use Rattle.std.proofs.lemmas.Result.{err_from_is_err_and}
 use mathlib.Core.Path.{sym}
 use borrow.Author.Tests.{lt-leb, le-leb}
 use lib.Dec.{leb}
-use Rattle.reader.specs.Source.{source_of}
+use Rattle.format.specs.Errors.{number_of}
+use Rattle.reader.specs.Source.{input_of, source_of}
 use Rattle.reader.proofs.SourceLaws.{tested-fault, tested-less, tested-got}
 use Rattle.reader.proofs.field.field_at_least.Goals as goal
 
-pub returns-in_default : goal.returns-in_default
-returns-in_default c =
+pub returns-in_err-value-clause-result_value : goal.returns-in_err-value-clause-result_value
+returns-in_err-value-clause-result_value c =
     let a = c.args in
-    let read = sym (rw c.in_default.is at c.field-read.ensures.result_value) in
-    rw c.in_default.is (record {
-      result_value = sym (tested-fault (source_of a.packed a.book.now a.sheet.now) a.width (leb a.least) a.code
-          a.cursor.at _ _ read);
-      below = rw c.in_default.is at c.field-read.ensures.below;
-    })
+    let error = err_from_is_err_and c.from_residual.result c.from_residual.ensures.1 in
+    rw (error.1, error.2) (sym (tested-fault (source_of (input_of a.source)) a.width (leb a.least)
+    (number_of a.code) a.cursor.at _ _ (sym (rw c.in_err-value.was at c.field.ensures.result_value))))
 
-pub returns-then-value-least : goal.returns-then-value-least
-returns-then-value-least c =
+pub returns-then-value-least-clause-result_value : goal.returns-then-value-least-clause-result_value
+returns-then-value-least-clause-result_value c =
     let a = c.args in
-    let read = sym (rw c.in-Got.is at c.field-read.ensures.result_value) in record {
-      result_value = sym (tested-less (source_of a.packed a.book.now a.sheet.now) a.width (leb a.least) a.code
-          a.cursor.at _ _ read (lt-leb _ _ c.if-value-least.true));
-      below = (c.requires.2, c.requires.3);
-    }
+    sym (tested-less (source_of (input_of a.source)) a.width (leb a.least) (number_of a.code)
+    a.cursor.at _ _ (sym (rw c.in_ok-value.was at c.field.ensures.result_value))
+    (lt-leb _ _ c.if-value-least.true))
 
-pub returns : goal.returns
-returns c =
+pub returns-clause-result_value : goal.returns-clause-result_value
+returns-clause-result_value c =
     let a = c.args in
-    let read = sym (rw c.in-Got.is at c.field-read.ensures.result_value) in record {
-      result_value = sym (tested-got (source_of a.packed a.book.now a.sheet.now) a.width (leb a.least) a.code
-          a.cursor.at _ _ read (le-leb _ _ c.if-value-least.false));
-      below = rw c.in-Got.is at c.field-read.ensures.below;
-    }
+    sym (tested-got (source_of (input_of a.source)) a.width (leb a.least) (number_of a.code)
+    a.cursor.at _ _ (sym (rw c.in_ok-value.was at c.field.ensures.result_value))
+    (le-leb _ _ c.if-value-least.false))

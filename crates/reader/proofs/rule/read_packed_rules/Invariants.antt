@@ -1,6 +1,6 @@
 -- The loop keeps: the rules so far are read, and their words stored.
 use mathlib.Core.Path.{◌≡◌}
-use Prim.Native.Nat.{◌-◌, ◌*◌, ◌≤◌}
+use Prim.Native.Nat.{◌*◌, ◌≤◌}
 use lib.ListN.{length}
 use Rattle.terms.specs.Signature.{Signature}
 use Rattle.format.specs.Statements.{Unscaled}
@@ -11,12 +11,6 @@ use Rattle.reader.proofs.rule.read_packed_rules.Given as goal
 
 abbrev pub invariant-loop-number : goal.invariant-loop-number
 invariant-loop-number l =
-    (l.number ≤ l.count) × (length l.words ≡ length l.initial.words) × (l.end ≤ 256 * l.number) ×
-    (l.here.at ≤ 8 * length l.book)
+    (length l.words ≡ length l.initial.words) × (l.end ≤ 256 * l._number) × (l.here.at ≤ 8 * length l.book.bytes.now)
     × ((σ : Signature) → Arities σ l.arities → Unscaled σ → SoFar l.form
-    (bit_source l.book) σ l.count l.number l.initial.here.at
-    l.here.at
-    0 l.end l.initial.words l.words)
-
-abbrev pub decreases-loop-number : goal.decreases-loop-number
-decreases-loop-number l = l.count - l.number
+    (bit_source l.book.bytes.now) σ l.count l._number l.initial.here.at l.here.at 0 l.end l.initial.words l.words)

@@ -1,6 +1,6 @@
 -- The loop keeps: the rules so far are read, and the others are read from here on.
 use mathlib.Core.List.{List}
-use Prim.Native.Nat.{◌≤◌, ◌-◌, ◌+◌, ◌*◌}
+use Prim.Native.Nat.{◌≤◌, ◌+◌, ◌*◌}
 use Rattle.terms.specs.Signature.{Signature}
 use Rattle.format.specs.Reading.{word_source}
 use Rattle.format.specs.Statements.{Unscaled}
@@ -11,8 +11,5 @@ use Rattle.reader.proofs.rule.read_word_rules.Given as goal
 
 abbrev pub invariant-loop-number : goal.invariant-loop-number
 invariant-loop-number l =
-    (l.number ≤ l.count) × (l.here ≤ l.at + 256 * l.number) × ((σ : Signature) → Arities σ l.arities → Unscaled σ →
-    (done : List Sides) × Done (word_source l.sheet) l.unused σ l.count l.at l.number l.here done)
-
-abbrev pub decreases-loop-number : goal.decreases-loop-number
-decreases-loop-number l = l.count - l.number
+    (l.here ≤ l.at + 256 * l._number) × ((σ : Signature) → Arities σ l.arities → Unscaled σ →
+    (done : List Sides) × Done (word_source l.sheet) l.unused σ l.count l.at l._number l.here done)

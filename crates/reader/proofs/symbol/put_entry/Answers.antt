@@ -1,28 +1,15 @@
 -- A packed entry is stored after the earlier ones; among words it stands after them.
-use mathlib.Core.Path.{refl}
 use mathlib.Core.Bool.{false}
 use Rattle.symbols.proofs.EntryLaws.{symbols-stand, symbols-put}
 use Rattle.reader.proofs.symbol.put_entry.Goals as goal
 
-pub put_symbol-requires : goal.put_symbol-requires
-put_symbol-requires c =
-    (c.requires.0, rw c.if-packed.true at c.requires.1)
-
-pub returns-then-packed : goal.returns-then-packed
-returns-then-packed c =
+pub returns-in-Book-clause-by_index : goal.returns-in-Book-clause-by_index
+returns-in-Book-clause-by_index c s e h =
     let a = c.args in
-    let put = c.put_symbol.ensures in
-    let room = rw c.if-packed.true at c.requires.1 in
-    rw c.if-packed.true (record {
-      by_index = λ words s e h. rw (e, put)
-          (symbols-put a.table.now a.number room a.arity a.ac a.weight a.rank c.requires.2
-          c.requires.3);
-      stored = put;
-    })
+    rw (c.in-Book.is, e, c.put_symbol.ensures)
+    (symbols-put a.table.now a.number (rw c.in-Book.is at c.requires.1) a.entry.arity a.entry.ac a.entry.weight a.entry.rank
+    c.requires.2 c.requires.3)
 
-pub returns-else-packed : goal.returns-else-packed
-returns-else-packed c =
-    rw c.if-packed.false (record {
-      by_index = λ words s e h. symbols-stand false words c.args.number s (h refl);
-      stored = tt;
-    })
+pub returns-in-Sheet-clause-by_index : goal.returns-in-Sheet-clause-by_index
+returns-in-Sheet-clause-by_index c s e h =
+    rw c.in-Sheet.is (symbols-stand false c.in-Sheet.field-0.now c.args.number s (rw c.in-Sheet.is at h))

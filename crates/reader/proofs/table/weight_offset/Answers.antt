@@ -5,20 +5,14 @@ use Rattle.format.proofs.RankLaws.{weight-plain}
 use Rattle.reader.specs.Source.{source_of}
 use Rattle.reader.proofs.table.weight_offset.Goals as goal
 
-pub returns-then-packed : goal.returns-then-packed
+pub returns-in-Book : goal.returns-in-Book
 unfolding source_of
-returns-then-packed c bytes words form ss none h =
-    rw c.if-packed.true (omega (
-      arith,
-      weight-plain (bit_source bytes) form none c.args.at ss
-          c.args.f h,
-    ))
+returns-in-Book c form ss none h =
+    rw c.in-Book.is
+    (omega (arith, weight-plain (bit_source c.in-Book.field-0.bytes.now) form none c.args.at ss c.args.f h))
 
-pub returns : goal.returns
+pub returns-in-Sheet : goal.returns-in-Sheet
 unfolding source_of
-returns c bytes words form ss none h =
-    rw c.if-packed.false (omega (
-      arith,
-      weight-plain (word_source words) form none c.args.at ss
-          c.args.f h,
-    ))
+returns-in-Sheet c form ss none h =
+    rw c.in-Sheet.is
+    (omega (arith, weight-plain (word_source c.in-Sheet.field-0.now) form none c.args.at ss c.args.f h))

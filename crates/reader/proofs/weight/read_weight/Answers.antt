@@ -1,72 +1,56 @@
 -- A weight of at least what is kept passes; a smaller one passes if it is 0 of arity 1 in a later form.
+use Rattle.std.proofs.lemmas.Result.{err_from_is_err_and}
 use mathlib.Core.Path.{sym, ◌∙◌}
 use lib.Dec.{leb}
 use Rattle.format.specs.Errors.{weight_inadmissible}
 use Rattle.format.specs.Layout.{weight_width}
 use Rattle.format.specs.Forms.{least_weight_in}
-use Rattle.reader.specs.Source.{source_of}
+use Rattle.reader.specs.Source.{input_of, source_of}
 use Rattle.reader.proofs.SourceLaws.{tested-fault, tested-less, tested-got}
 use Rattle.reader.proofs.WeightLaws.{weighs-enough, weighs-less, weighs-too-little}
-use borrow.Author.Rules.{rules}
 use Rattle.reader.proofs.weight.read_weight.Goals as goal
 
-pub returns-in_default : goal.returns-in_default
-returns-in_default c =
+pub returns-in_err-weight-clause-by_index : goal.returns-in_err-weight-clause-by_index
+returns-in_err-weight-clause-by_index c w0 weightless kept =
     let a = c.args in
-    let told = c.in_default.is in
-    rw told (record {
-      by_index = (λ w0 weightless kept. (
-        sym (tested-fault (source_of a.packed a.book.now a.sheet.now) weight_width
-            (leb (least_weight_in a.form w0 a.arity)) weight_inadmissible a.cursor.at _ _
-            (sym (rw told at c.field-read.ensures.result_value))),
-        tt,
-      ));
-      below = rw told at c.field-read.ensures.below;
-    })
+    let error = err_from_is_err_and c.from_residual.result c.from_residual.ensures.1 in
+    rw (error.1, error.2) (
+      sym (tested-fault (source_of (input_of a.source)) weight_width
+          (leb (least_weight_in a.form w0 a.arity)) weight_inadmissible a.cursor.at _ _
+          (sym (rw c.in_err-weight.was at c.field.ensures.result_value))),
+      tt,
+    )
 
-pub returns-then-wide-value : goal.returns-then-wide-value
-returns-then-wide-value c =
+pub returns-then-not-may_weigh_less-clause-by_index : goal.returns-then-not-may_weigh_less-clause-by_index
+returns-then-not-may_weigh_less-clause-by_index c w0 weightless kept =
     let a = c.args in
-    let told = c.in-Got.is in record {
-      by_index = (λ w0 weightless kept.
-          let enough = rw (c.wide-2.ensures.0, c.wide.ensures.0, kept.0) at c.if-wide-value.true in
-          let (passes, same) = weighs-enough a.form w0 weightless a.arity _ kept.1 enough in (
-            sym (tested-got (source_of a.packed a.book.now a.sheet.now) weight_width
-                (leb (least_weight_in a.form w0 a.arity)) weight_inadmissible a.cursor.at _ _
-                (sym (rw told at c.field-read.ensures.result_value)) passes),
-            rw same kept,
-          ));
-      below = rw told at c.field-read.ensures.below;
-    }
+    let refused = sym c.may_weigh_less.ensures ∙ c.if-not-may_weigh_less.true in (
+      sym (tested-less (source_of (input_of a.source)) weight_width
+          (leb (least_weight_in a.form w0 a.arity)) weight_inadmissible a.cursor.at _ _
+          (sym (rw c.in_ok-weight.was at c.field.ensures.result_value))
+          (weighs-too-little a.form w0 weightless a.arity _ (rw kept.0 at c.if-weight-least.true) refused)),
+      tt,
+    )
 
-pub returns-then-not-may_weigh_less : goal.returns-then-not-may_weigh_less
-returns-then-not-may_weigh_less c =
+pub returns-else-not-may_weigh_less-clause-by_index : goal.returns-else-not-may_weigh_less-clause-by_index
+returns-else-not-may_weigh_less-clause-by_index c w0 weightless kept =
     let a = c.args in
-    let told = c.in-Got.is in
-    let refused = sym c.may_weigh_less.ensures ∙ c.if-not-may_weigh_less.true in record {
-      by_index = (λ w0 weightless kept.
-          let less = rw (c.wide-2.ensures.0, c.wide.ensures.0, kept.0) at c.if-wide-value.false in (
-            sym (tested-less (source_of a.packed a.book.now a.sheet.now) weight_width
-                (leb (least_weight_in a.form w0 a.arity)) weight_inadmissible a.cursor.at _ _
-                (sym (rw told at c.field-read.ensures.result_value))
-                (weighs-too-little a.form w0 weightless a.arity _ less refused)),
-            tt,
-          ));
-      below = search rules;
-    }
+    let admitted = sym c.may_weigh_less.ensures ∙ c.if-not-may_weigh_less.false in
+    let (passes, after) =
+    weighs-less a.form w0 weightless a.arity _ (rw kept.0 at c.if-weight-least.true) admitted in (
+      sym (tested-got (source_of (input_of a.source)) weight_width
+          (leb (least_weight_in a.form w0 a.arity)) weight_inadmissible a.cursor.at _ _
+          (sym (rw c.in_ok-weight.was at c.field.ensures.result_value)) passes),
+      rw kept.0 after,
+    )
 
-pub returns : goal.returns
-returns c =
+pub returns-else-weight-least-clause-by_index : goal.returns-else-weight-least-clause-by_index
+returns-else-weight-least-clause-by_index c w0 weightless kept =
     let a = c.args in
-    let told = c.in-Got.is in
-    let admitted = sym c.may_weigh_less.ensures ∙ c.if-not-may_weigh_less.false in record {
-      by_index = (λ w0 weightless kept.
-          let less = rw (c.wide-2.ensures.0, c.wide.ensures.0, kept.0) at c.if-wide-value.false in
-          let (passes, after) = weighs-less a.form w0 weightless a.arity _ less admitted in (
-            sym (tested-got (source_of a.packed a.book.now a.sheet.now) weight_width
-                (leb (least_weight_in a.form w0 a.arity)) weight_inadmissible a.cursor.at _ _
-                (sym (rw told at c.field-read.ensures.result_value)) passes),
-            rw (c.wide-3.ensures.0, kept.0) after,
-          ));
-      below = rw told at c.field-read.ensures.below;
-    }
+    let (passes, same) =
+    weighs-enough a.form w0 weightless a.arity _ kept.1 (rw kept.0 at c.if-weight-least.false) in (
+      sym (tested-got (source_of (input_of a.source)) weight_width
+          (leb (least_weight_in a.form w0 a.arity)) weight_inadmissible a.cursor.at _ _
+          (sym (rw c.in_ok-weight.was at c.field.ensures.result_value)) passes),
+      rw same kept,
+    )

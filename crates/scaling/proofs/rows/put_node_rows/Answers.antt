@@ -17,5 +17,5 @@ returns c =
     let (_, z, A) = c.requires in
     node-rows (signature_of t)
     (record { few = small; full = full_at t; positive = A.coefficients_positive })
-    c.put_range.new.adds c.put_range-2.new.adds
+    c.put_range.new.rows c.put_range-2.new.rows
     (rw (few, z) at c.put_range.ensures.0) c.put_range-2.ensures.0

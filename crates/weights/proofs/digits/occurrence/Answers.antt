@@ -1,7 +1,7 @@
 -- A shift by 8 times a place is the place value, 256 to the power of the place.
 use native.Mathlib.Omega.{arith}
 use Prim.Native.Nat.{◌/◌, ◌%◌}
-use borrow.Author.Tests.{eq-eqb, ne_eqb}
+use borrow.Author.Tests.{eq-eqb}
 use Rattle.weights.proofs.SumLaws.{power-shift}
 use Rattle.weights.proofs.digits.occurrence.Goals as goal
 
@@ -11,6 +11,3 @@ returns-then-word-eight c =
     let e = c.args.eight in
     let h = power-shift (w % 8) (omega arith) in
     (rw (eq-eqb (w / 8) e c.if-word-eight.true) h.0, rw h.0 h.1)
-
-pub returns-else-word-eight : goal.returns-else-word-eight
-returns-else-word-eight c = (rw (ne_eqb (c.args.word / 8) c.args.eight c.if-word-eight.false), omega arith)

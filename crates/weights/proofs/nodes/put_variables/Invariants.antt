@@ -1,6 +1,5 @@
 -- The loop keeps: what the variables below the word at hand add is stored, and nothing else has changed.
 use mathlib.Core.Path.{◌≡◌}
-use Prim.Native.Nat.{◌-◌, ◌≤◌}
 use lib.ListN.{length}
 use Rattle.symbols.specs.Table.{signature_of}
 use Rattle.weights.specs.Nodes.{Occurring}
@@ -8,8 +7,4 @@ use Rattle.weights.proofs.nodes.put_variables.Given as goal
 
 abbrev pub invariant-loop-word : goal.invariant-loop-word
 invariant-loop-word l =
-    (256 ≤ l.word) × (l.word ≤ 272) × (length l.adds ≡ 816) × Occurring
-    (signature_of l.table) l.word l.initial.adds l.adds
-
-abbrev pub decreases-loop-word : goal.decreases-loop-word
-decreases-loop-word l = 272 - l.word
+    (length l.adds ≡ 272) × Occurring (signature_of l.table) l.word l.initial.adds l.adds

@@ -2,12 +2,8 @@
 use mathlib.Core.Path.{◌∙◌}
 use Prim.Native.Nat.{◌-◌, ◌%◌}
 use native.Mathlib.Omega.{arith}
-use lib.Pow.{pow_pos}
 use Rattle.writer.proofs.WriterLaws.{writes_end}
 use Rattle.writer.proofs.BitWriter.finish.Goals as goal
-
-pub push-requires : goal.push-requires
-push-requires c = (omega arith, pow_pos _, omega arith)
 
 pub returns : goal.returns
 returns c =

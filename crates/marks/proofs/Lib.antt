@@ -1,2 +1,0 @@
--- What the count of a mark's proof cites.
-mod CountLaws

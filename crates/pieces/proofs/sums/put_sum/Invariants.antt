@@ -1,0 +1,14 @@
+-- The loop keeps: the words put, with those of the elements that are left, are those of the sum.
+use Prim.Native.Nat.{◌-◌}
+use lib.ListN.{length}
+use Rattle.symbols.specs.Table.{signature_of}
+use Rattle.pieces.proofs.PutLaws.{Summing}
+use Rattle.pieces.proofs.sums.put_sum.Given as goal
+
+abbrev pub invariant-loop-left : goal.invariant-loop-left
+invariant-loop-left g l =
+    Summing (signature_of l.term.table.now) l.f l.term.words.now l.i g.n l.mask
+    l.initial.out.words l.initial.out.count l.out.words l.out.count l.at l.left
+
+abbrev pub decreases-loop-left : goal.decreases-loop-left
+decreases-loop-left g l = length l.term.words.now - l.at

@@ -1,5 +1,0 @@
--- A number below 10 is one digit; of another the digits before the last are put first.
-use Rattle.text.proofs.+put_decimal.Given as goal
-
-abbrev pub decreases-put_decimal : goal.decreases-put_decimal
-decreases-put_decimal l = l.n

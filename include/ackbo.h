@@ -33,7 +33,7 @@
 
    Stack, in KB of 1,000 bytes, at most, as tests/stack measures it: ackbo_decode 110, ackbo_encode 2, ackbo_convert
    217, ackbo_compare 57, ackbo_pick 57, ackbo_fingerprint 8, ackbo_oftener 13, ackbo_count 6, ackbo_list 7, ackbo_mark
-   61, ackbo_page 69, ackbo_turn 60; that of ackbo_decode and ackbo_convert for every book, that of comparing where AC
+   61, ackbo_page 70, ackbo_turn 60; that of ackbo_decode and ackbo_convert for every book, that of comparing where AC
    symbols nest 63 deep, the deepest that 128 nodes allow. */
 #ifndef ACKBO_H
 #define ACKBO_H

@@ -9,7 +9,7 @@ use Rattle.format.specs.Errors.{number_of}
 use Rattle.operations.specs.declared.Error as code
 use Rattle.operations.specs.Enums.{error_of}
 use Rattle.operations.specs.Replies.{Error}
-use Rattle.answers.specs.declared.Fault.{Fault}
+use Rattle.answers.specs.Answer.{Fault}
 
 abbrev pub error_in : ℕ → Fault → Error
 error_in input f = record { code = number_of f.code; input = input; offset = f.offset }

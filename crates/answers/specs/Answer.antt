@@ -4,7 +4,11 @@ use Rattle.format.specs.Errors.{number_of}
 use Rattle.format.specs.Reading.{Reading}
 use Rattle.format.specs.Reading.Reading.{got, fault}
 use Rattle.format.specs.declared.ErrorCode.{ErrorCode}
-use Rattle.answers.specs.declared.Fault.{Fault}
+use Rattle.answers.specs.declared.Fault as code
+
+-- The fault that reading tells, by the code of an error.
+abbrev pub Fault : Type 0
+Fault = code.Fault ErrorCode
 
 -- A value with the offset past what was read, or the fault.
 abbrev pub Answer : Type 0
@@ -43,6 +47,6 @@ Within most last (Ok (value, next)) = (value ≤ most) × (next ≤ last)
 Within most last (Err f) = Unit {0}
 
 -- The answer that an error, if there is one, with a value and an offset beside it stands for.
-abbrev pub answer_of : Option ErrorCode → ℕ → ℕ → Answer
+abbrev pub answer_of : {C : Type 0} → Option C → ℕ → ℕ → Result (ℕ × ℕ) (code.Fault C)
 answer_of None value offset = Ok (value, offset)
 answer_of (Some code) value offset = Err (record { code = code; offset = offset })

@@ -16,10 +16,10 @@ pub fn number(code: ErrorCode) -> u8
     code as u8
 }
 
-// An error's code, and the offset of what is at fault.
+// An error's code, and the offset of what is at fault. A code is an `ErrorCode` where nothing else is said.
 #[derive(Clone, Copy, PartialEq, Eq)]
-pub struct Fault {
-    pub code: ErrorCode,
+pub struct Fault<C = ErrorCode> {
+    pub code: C,
     pub offset: usize,
 }
 
@@ -37,11 +37,11 @@ impl Fault {
 }
 
 // The answer of code that told an error, if there was one, with a value and an offset beside it.
-pub fn answer_of(
-    error: Option<ErrorCode>,
+pub fn answer_of<C>(
+    error: Option<C>,
     value: usize,
     offset: usize,
-) -> Result<(usize, usize), Fault>
+) -> Result<(usize, usize), Fault<C>>
     ensures { result ≡ answer_of error value offset }
 {
     match error {

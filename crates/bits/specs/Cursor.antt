@@ -6,14 +6,13 @@ use Rattle.format.specs.Layout.{tag_width}
 use Rattle.format.specs.Reading.{Reading, Node, spelt, bit_at}
 use Rattle.format.specs.Reading.Reading.{got, fault}
 use Rattle.format.specs.Errors.{number_of}
-use Rattle.answers.specs.declared.Fault.{Fault}
-use Rattle.answers.specs.Answer.{Answer}
+use Rattle.answers.specs.Answer.{Fault}
 use Rattle.bits.specs.declared.BitCursor.{BitCursor}
 use Rattle.bits.specs.declared.Node as bits
 use Rattle.bits.specs.declared.window.Window.{Window}
 
 -- The answer that tells the offset of the moved cursor.
-abbrev pub told : Result (ℕ × BitCursor) Fault → Answer
+abbrev pub told : {F : Type 0} → Result (ℕ × BitCursor) F → Result (ℕ × ℕ) F
 told (Ok (value, cursor)) = Ok (value, cursor.at)
 told (Err f) = Err f
 

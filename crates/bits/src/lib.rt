@@ -32,11 +32,13 @@ pub struct Node {
 }
 
 // What was read where an answer tells an offset: the cursor stands there.
-pub fn moved(answer: Result<(usize, usize), Fault>) -> Result<(usize, BitCursor), Fault>
+pub fn moved<F>(answer: Result<(usize, usize), F>) -> Result<(usize, BitCursor), F>
     ensures { told result ≡ answer }
 {
-    let (value, next) = answer?;
-    Ok((value, BitCursor { at: next }))
+    match answer {
+        Ok((value, next)) => Ok((value, BitCursor { at: next })),
+        Err(fault) => Err(fault),
+    }
 }
 
 impl BitCursor {

@@ -2,6 +2,7 @@
 ghost use Rattle.std.specs.Prelude.{◌≡◌};
 ghost use Rattle.operations.specs.Enums.{reply_of};
 ghost use Rattle.operations.specs.Turns.{turned};
+ghost use Rattle.boundary.specs.Numbers.{Small, number_of, terms_of};
 
 use operations::{Error, Job};
 use scheduling::Search;
@@ -16,6 +17,7 @@ pub fn take_turn(
     ensures result_value { reply_of result ≡ (turned jobs.old buffer.now marks.old last).reply }
     ensures jobs_after { jobs.new ≡ (turned jobs.old buffer.now marks.old last).jobs }
     ensures marks_after { marks.new ≡ (turned jobs.old buffer.now marks.old last).marks }
+    ensures small { Small (number_of terms_of (reply_of result)) }
 {
     let mut search = Search::begin(jobs.len(), last);
     for (index, job) in jobs.iter().enumerate() {

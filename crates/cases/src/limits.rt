@@ -30,7 +30,9 @@ fn put_rules(sheet: &mut [u16], rules: usize, height: usize) -> usize
     at
 }
 
-// Closes the sheet of that many rules f(..f(c)) -> c, each with that many f; w0 and the weights of f and c are 1.
+// Closes the sheet of that many rules f(..f(c)) -> c, each with that many f; w0 and the weights of f and c are 1. It is
+// never inlined: its sheet would stay on the stack while the book is marked.
+#[inline(never)]
 fn close_towers(rt: &impl Print, rules: u16, height: usize, book: &mut [u8]) -> io::Result<usize>
     requires { 12 + rules * (height + 2) ≤ 29128 }
     ensures { IfOk result (λ n. n ≤ length book.new) }

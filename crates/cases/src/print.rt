@@ -90,7 +90,8 @@ pub fn print_page(rt: &impl Print, book: &[u8]) -> io::Result<()> {
     rt.write_all(&page[..end])
 }
 
-// Prints what `marker` prints for the book of a sheet.
+// Prints what `marker` prints for the book of a sheet. It is never inlined: one book at a time is on the stack.
+#[inline(never)]
 pub fn show_sheet(rt: &impl Print, sheet: &[u16]) -> io::Result<()> {
     let mut book = [0u8; 32768];
     let count = close(rt, sheet, &mut book)?;

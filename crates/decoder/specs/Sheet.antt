@@ -8,7 +8,7 @@ use Rattle.format.specs.Reading.Reading.{got, fault}
 use Rattle.format.specs.Format.{RuleFile}
 use Rattle.format.specs.Packing.{unpacked}
 use Rattle.symbols.specs.Table.{table_words, max_table_words}
-use Rattle.answers.specs.declared.Fault.{Fault}
+use Rattle.answers.specs.Answer.{Fault}
 use Rattle.reader.specs.declared.file.Unpacked.{Unpacked}
 use Rattle.reader.specs.File.{stored_file}
 

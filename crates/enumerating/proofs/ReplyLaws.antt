@@ -1,13 +1,13 @@
 -- The ends of counting and listing, by what their inputs are.
 --     size-range                                          the sizes that are not refused
 --     count-refused, count-done                           counting under a signature
---     list-outside, list-more, list-short, list-ready, list_done     listing under a signature
+--     list-outside, list-more, list-short, list-none, list-ready, list_done     listing under a signature
 --     book-refused, book-counted, book-unlisted, book-listed         the file, and then either
 use mathlib.Core.List.{List, [], ◌∷◌, ◌++◌, flatten}
 use mathlib.Core.Path.{◌≡◌, refl, sym, ap, ◌∙◌}
 use mathlib.Core.Bool.{true, false, and-eq-true_iff as both}
 use Prim.Native.Nat.{ℕ, ◌+◌, ◌-◌, ◌*◌, ◌≤◌, ◌<◌}
-use native.Mathlib.Nat.{mul-le-mul}
+use native.Mathlib.Nat.{mul-zero, mul-le-mul}
 use native.Mathlib.Omega.{arith}
 use lib.Dec.{leb}
 use lib.ListN.{length, take, drop, replicate}
@@ -95,6 +95,12 @@ module _ (σ : Signature) (n : ℕ) where
               le-leb (length (ground_terms σ n)) 65535 (omega (arith, number)),
               lt-leb (n * length (ground_terms σ n)) (length words) (rw number at s),
             ))
+
+        pub list-none : cell ≡ 0 → Gives (accepted 0) words
+        unfolding listed_terms flatten
+        list-none z =
+            let e : ground_terms σ n ≡ [] = empty (ground_terms σ n) (omega (arith, number)) in
+            rw (h, e, mul-zero n, le-leb 0 (length words) (omega arith)) (refl, refl)
 
         module _ (s : n * cell ≤ length words) (row : List ℕ) (long : length row ≡ n) where
           front : prefixed (take (n - n) row) (ground_terms σ n) ≡ flatten (ground_terms σ n)

@@ -95,6 +95,10 @@ fn list_under(table: &[u16], words: &mut [u16], n: usize) -> Result<usize, Error
             offset: 0,
         });
     }
+    // Nothing is looked for where no term is.
+    if number == 0 {
+        return Ok(0);
+    }
     let mut blocks = [None; counts::CELLS];
     let mut row = [0u16; MAX_SIZE];
     Ok(counts.walk(&mut blocks, n, 1, &mut row[..n], words, 0))

@@ -23,8 +23,7 @@ use Rattle.operations.specs.Replies.{Reply, from_input}
 use Rattle.operations.specs.Replies.Reply.{refused}
 use Rattle.operations.specs.Inputs.{Inputs, read_terms, read_inputs}
 use Rattle.symbols.specs.Table.{signature_of}
-use Rattle.answers.specs.declared.Fault.{Fault}
-use Rattle.answers.specs.Answer.{end_of, ended}
+use Rattle.answers.specs.Answer.{end_of, ended, Fault}
 use Rattle.words.specs.declared.Extent.{Extent}
 use Rattle.words.specs.declared.Extent.TheVariants as extent
 use Rattle.words.specs.Terms.{reader_of}

@@ -17,7 +17,7 @@ use Rattle.multisets.proofs.ListLaws.{front}
 use Rattle.format.specs.Reading.{Reading}
 use Rattle.format.specs.Format.{RuleFile, system_of}
 use Rattle.operations.specs.Marking.{marks_of, margins_of}
-use Rattle.answers.specs.declared.Fault.{Fault}
+use Rattle.answers.specs.Answer.{Fault}
 use Rattle.marking.specs.declared.walk.Marked.{Marked}
 use Rattle.marking.specs.Rule.{MarkedAs, WholeMarked}
 use Rattle.marking.proofs.WalkLaws.{stored-front}

@@ -15,7 +15,7 @@ use Rattle.operations.specs.Replies.{Error}
 use Rattle.operations.specs.Replies.Reply.{accepted, refused}
 use Rattle.operations.specs.Score.{score_of}
 use Rattle.operations.specs.Marking.{marks_of, marked}
-use Rattle.answers.specs.declared.Fault.{Fault}
+use Rattle.answers.specs.Answer.{Fault}
 use Rattle.marking.specs.declared.walk.Marked.{Marked}
 use Rattle.marking.specs.Rule.{WholeMarked}
 use Rattle.marking.proofs.WalkLaws.{stored-front}

@@ -15,7 +15,7 @@ use Rattle.operations.specs.Marking.{marks_of, margins_of}
 use Rattle.operations.specs.Report.{rule_lines, summary_lines, report}
 use Rattle.text.specs.Put.{Put}
 use Rattle.text.proofs.TextLaws.{put-append, put_first}
-use Rattle.answers.specs.declared.Fault.{Fault}
+use Rattle.answers.specs.Answer.{Fault}
 use Rattle.marking.specs.declared.walk.Marked.{Marked}
 use Rattle.marking.specs.Rule.{WholeMarked}
 use Rattle.marking.proofs.FoundLaws.{length-kept, stored-fronts}

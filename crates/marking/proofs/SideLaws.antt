@@ -20,7 +20,7 @@ use Rattle.format.proofs.CodingLaws.{spells-fit}
 use Rattle.format.proofs.SideLaws.{side-formed, forest-le}
 use Rattle.bits.specs.declared.BitCursor.{BitCursor}
 use Rattle.marking.specs.declared.rule.MarkedRule.{MarkedRule}
-use Rattle.answers.specs.declared.Fault.{Fault}
+use Rattle.answers.specs.Answer.{Fault}
 use Rattle.marking.specs.Rule.{Marks, MarksRead}
 use Rattle.marking.proofs.WalkLaws.{sides_themselves}
 

@@ -23,7 +23,7 @@ use Rattle.terms.specs.Marks.{is_decreasing}
 use Rattle.operations.specs.Marking.{marks_of, margins_of, decreasing_count}
 use Rattle.marking.specs.declared.rule.MarkedRule.{MarkedRule}
 use Rattle.operations.specs.Enums.{mark_number}
-use Rattle.answers.specs.declared.Fault.{Fault}
+use Rattle.answers.specs.Answer.{Fault}
 use Rattle.marking.specs.Rule.{sides_mark, sides_margin, MarksRead, Listed, AllMarked, MarkedAs}
 
 abbrev pub sides_themselves : Sides → Sides

@@ -10,8 +10,7 @@ use Rattle.format.specs.Format.{Sides, RuleFile, system_of}
 use Rattle.operations.specs.Marking.{marks_of, margins_of, decreasing_count}
 use Rattle.format.specs.Errors.{number_of}
 use Rattle.operations.specs.Enums.{mark_number}
-use Rattle.answers.specs.declared.Fault.{Fault}
-use Rattle.answers.specs.Answer.{Answer}
+use Rattle.answers.specs.Answer.{Answer, Fault}
 use Rattle.marking.specs.declared.rule.MarkedRule.{MarkedRule}
 use Rattle.marking.specs.declared.walk.Marked.{Marked}
 

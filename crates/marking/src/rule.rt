@@ -26,7 +26,6 @@ pub struct MarkedRule {
 }
 
 // Marks a rule with these sides.
-#[inline(always)]
 fn mark_sides(weighing: &Weighing, left: &[u16], right: &[u16], cursor: BitCursor) -> MarkedRule
     requires { Decoded weighing.now.table.now left.now right.now }
     ensures marks { Marks (signature_of weighing.now.table.now)
@@ -50,7 +49,6 @@ fn mark_sides(weighing: &Weighing, left: &[u16], right: &[u16], cursor: BitCurso
 
 // Reads the right side of a rule with this left side, after which the variables from a number on are unused, and marks
 // the rule.
-#[inline(always)]
 fn mark_right(
     book: Book,
     under: &Under,
@@ -73,8 +71,7 @@ fn mark_right(
     Ok(mark_sides(&under.weighing, left, &right[..count], end))
 }
 
-// Reads a rule and marks it. It is made part of each caller, since that is faster in the loop over rules.
-#[inline(always)]
+// Reads a rule and marks it.
 pub fn mark_rule(book: Book, under: &Under, cursor: BitCursor) -> Result<MarkedRule, Fault>
     requires { cursor.at ≤ 8 * length book.bytes.now }
     ensures marks_read { MarksRead (signature_of under.now.weighing.table.now) (λ (sides : Sides). sides)

@@ -30,7 +30,7 @@ use Rattle.operations.specs.Page.{AllFit, page}
 use Rattle.operations.specs.Paging.{entry_of, entries_of, line_bytes, paged, board}
 use Rattle.operations.proofs.EntryLaws.{book-fits}
 use Rattle.operations.proofs.PageLaws.{length-page}
-use Rattle.answers.specs.declared.Fault.{Fault}
+use Rattle.answers.specs.Answer.{Fault}
 use Rattle.marking.specs.declared.walk.Marked.{Marked}
 use Rattle.marking.specs.Rule.{MarkedAs, WholeMarked}
 use Rattle.marking.proofs.FoundLaws.{stored-fronts}

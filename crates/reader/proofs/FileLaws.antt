@@ -33,7 +33,7 @@ use Rattle.reader.specs.Source.{Input, source_of, bytes_of, Reached, InBook, InS
 use Rattle.reader.specs.Source.Input.{from_bytes, from_words}
 use Rattle.reader.specs.File.{rest_reader, table_reader, counts_reader, stored_form, HeadParts, HeadRead}
 use Rattle.reader.specs.declared.file.Head.{Head}
-use Rattle.answers.specs.declared.Fault.{Fault}
+use Rattle.answers.specs.Answer.{Fault}
 use Rattle.std.specs.Prelude.{Result, Ok, Err}
 use Rattle.reader.proofs.SourceLaws.{tested-then, field_fits, reached-symbols, room-table, room-same}
 

@@ -32,8 +32,7 @@ use Rattle.format.proofs.ConversionLaws.{converted-words}
 use Rattle.variables.specs.Renumbering.{RuleRenumbered}
 use Rattle.variables.proofs.NodeLaws.{nodes-of-rule}
 use Rattle.format.specs.Errors.{number_of}
-use Rattle.answers.specs.declared.Fault.{Fault}
-use Rattle.answers.specs.Answer.{answered}
+use Rattle.answers.specs.Answer.{answered, Fault}
 use Rattle.words.proofs.TermLaws.{terms-end}
 use Rattle.sides.specs.Side.{WordsRead, side_words, rules_words}
 use Rattle.reader.specs.File.{sides_in, rules_in}

@@ -34,8 +34,7 @@ use Rattle.reader.specs.Source.{Input, Stored, tested}
 use Rattle.reader.specs.Source.Input.{from_bytes, from_words}
 use Rattle.symbols.specs.Table.{table_words, symbols_words}
 use Rattle.symbols.proofs.EntryLaws.{entries-more}
-use Rattle.answers.specs.Answer.{reading}
-use Rattle.answers.specs.declared.Fault.{Fault}
+use Rattle.answers.specs.Answer.{reading, Fault}
 use Rattle.bits.specs.declared.BitCursor.{BitCursor}
 use Rattle.reader.specs.Symbol.{TakenBy, SymbolsRead}
 use Rattle.reader.proofs.SourceLaws.{tested-then}

@@ -24,10 +24,9 @@ use Rattle.format.proofs.FormatLaws.{rules-length}
 use Rattle.format.proofs.FileLaws.{words-unpacked}
 use Rattle.symbols.specs.Table.{signature_of, table_words, max_table_words, front_words}
 use Rattle.symbols.specs.Arities.{Arities}
-use Rattle.answers.specs.Answer.{Answer, end_of}
+use Rattle.answers.specs.Answer.{Answer, end_of, Fault}
 use Rattle.sides.specs.Side.{WordsRead, rules_words}
 use Rattle.sides.proofs.UnpackedLaws.{unpacked-length}
-use Rattle.answers.specs.declared.Fault.{Fault}
 use Rattle.reader.specs.declared.file.Head.{Head}
 use Rattle.reader.specs.Source.{source_of, Reached, read_source}
 use Rattle.reader.specs.Source.Input.{from_bytes, from_words}

@@ -12,7 +12,7 @@ use Rattle.format.specs.Symbols.{symbol_table_reader}
 use Rattle.format.specs.Format.{Sides, RuleFile, rules_reader}
 use Rattle.format.specs.Conversion.{converted_sides}
 use Rattle.symbols.specs.Table.{signature_of, table_words, max_table_words, front_words}
-use Rattle.answers.specs.declared.Fault.{Fault}
+use Rattle.answers.specs.Answer.{Fault}
 use Rattle.sides.specs.Side.{rules_words}
 use Rattle.reader.specs.Promise.{IsTable}
 use Rattle.reader.specs.declared.file.Head.{Head}

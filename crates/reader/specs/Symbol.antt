@@ -7,8 +7,7 @@ use Rattle.format.specs.Reading.{Reading}
 use Rattle.format.specs.Reading.Reading.{got, fault}
 use Rattle.format.specs.Symbols.{held_by}
 use Rattle.format.specs.Errors.{number_of}
-use Rattle.answers.specs.declared.Fault.{Fault}
-use Rattle.answers.specs.Answer.{Answer}
+use Rattle.answers.specs.Answer.{Answer, Fault}
 use Rattle.bits.specs.declared.BitCursor.{BitCursor}
 
 -- The ranks that are marked are those of the symbols.

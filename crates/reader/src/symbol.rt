@@ -78,6 +78,7 @@ fn put_entry(source: Source, table: &mut [u16], number: usize, entry: Entry)
 
 // Reads the symbol of that number, of a packed file into the table, after those before it, and keeps of it
 // what is asked of those after it.
+#[inline(always)]
 fn read_symbol(
     source: Source,
     table: &mut [u16],
@@ -127,7 +128,9 @@ fn read_symbol(
     Ok(cursor)
 }
 
-// Reads the symbols, those of a packed file into the table, and tells whether one has arity 1 and weighs 0.
+// Reads the symbols, those of a packed file into the table, and tells whether one has arity 1 and weighs 0. It is made
+// part of both branches of its caller, so that no field tests the source.
+#[inline(always)]
 fn read_symbols_from(
     source: Source,
     table: &mut [u16],

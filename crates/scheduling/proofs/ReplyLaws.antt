@@ -22,7 +22,7 @@ use Rattle.operations.proofs.RoundLaws.{onward, onward-lt, distance, distance-lt
 use Rattle.operations.proofs.RoundLaws.{first_some, first-none}
 use Rattle.scheduling.specs.declared.Found.{Found}
 use Rattle.scheduling.specs.declared.Search.{Search}
-use Rattle.scheduling.specs.Search.{is_allowed, begun}
+use Rattle.scheduling.specs.Search.{is_allowed, begun, bad_index}
 use Rattle.scheduling.specs.Run.{sound_reply, served, index_reply, reply_of, marks_by, marks_after, recounted, jobs_by}
 use Rattle.scheduling.proofs.StandingLaws.{allowed-numbers}
 use Rattle.scheduling.proofs.SearchLaws.{by_option, Searched, scanned-found, scanned-idle, end}
@@ -60,7 +60,7 @@ pub served-next : (s : Search) (room : ℕ) (x : Option Found) → served s room
 unfolding served
 served-next s room x e =
     let (may, a) = demand-then (is_allowed s.jobs s.last) no_such_job 0 _ x e in
-    let b = reply-then (sound_reply s.bad) _ x a in
+    let b = reply-then (sound_reply (bad_index s)) _ x a in
     let (long, q) = demand-then (leb (job_marks * s.jobs) room) marks_too_short 2 _ x b in (may, cc)
 
 module _ (jobs : List Job) (buffer : List ℕ) (last : ℕ) where
@@ -80,12 +80,12 @@ module _ (jobs : List Job) (buffer : List ℕ) (last : ℕ) where
     abbrev F : Searched jobs buffer last listed number found
     F = scanned-found jobs buffer last listed ok number (omega arith)
 
-    sound-same : sound_from buffer 0 jobs ≡ sound_reply found.bad
+    sound-same : sound_from buffer 0 jobs ≡ sound_reply (bad_index found)
     sound-same =
-        by_option found.bad (λ none. rw none (sound-all buffer 0 jobs (F.none_bad none)))
+        by_option (bad_index found) (λ none. rw none (sound-all buffer 0 jobs (F.none_bad none)))
         λ b e. let (h, y, before) = F.first_bad b e in rw e (sound-until buffer 0 jobs b h y before ∙ rw zero-add)
 
-    next-same : found.bad ≡ None → index_reply (accepted found.next) ≡ accepted (next_turn jobs buffer last)
+    next-same : bad_index found ≡ None → index_reply (accepted found.next) ≡ accepted (next_turn jobs buffer last)
     next-same sound =
         by_option found.next
         (λ none. rw none (ap accepted
@@ -115,7 +115,7 @@ module _ (jobs : List Job) (buffer : List ℕ) (last : ℕ) where
       by_test (is_allowed number last)
       (λ ok. let all = (F ok).all in
       let may : is_allowed found.jobs found.last ≡ true = rw (all, (F ok).from) ok in
-      by_option found.bad
+      by_option (bad_index found)
       (λ none. rw (may, ok, sound-same ok, none, all)
       (by_test (leb (job_marks * number) room) (λ long. rw long (next-same ok none)) λ short. rw short refl))
       λ b e. rw (may, ok, sound-same ok, e) refl)

@@ -22,7 +22,7 @@ use Rattle.seeking.specs.declared.Standing.{Standing}
 use Rattle.seeking.specs.declared.Standing.TheVariants.{Bad, Done, Left}
 use Rattle.seeking.specs.One.{file_standing}
 use Rattle.scheduling.specs.Search.{standing_of, is_allowed, comes_first, begun, found_bad, found_next, found_at}
-use Rattle.scheduling.specs.Search.{looked}
+use Rattle.scheduling.specs.Search.{bad_index, looked}
 use Rattle.scheduling.specs.Search.{scanned, Ready}
 use Rattle.scheduling.proofs.StandingLaws.{Known, known, allowed-numbers}
 
@@ -63,12 +63,12 @@ module _ (jobs : List Job) (buffer : List ℕ) (last : ℕ) where
       pub all : s.jobs ≡ n
       pub from : s.last ≡ last
       pub own : (f : Found) → s.next ≡ Some f → Own i f
-      pub first_bad : (b : ℕ) → s.bad ≡ Some b → FirstBad i b
-      pub none_bad : s.bad ≡ None → (j : ℕ) → j < i → sound j ≡ true
+      pub first_bad : (b : ℕ) → bad_index s ≡ Some b → FirstBad i b
+      pub none_bad : bad_index s ≡ None → (j : ℕ) → j < i → sound j ≡ true
       -- where all are sound, it is the first with rules left
-      pub nearest : s.bad ≡ None → (f : Found) → s.next ≡ Some f → (j : ℕ) → j < i → left j ≡ true →
+      pub nearest : bad_index s ≡ None → (f : Found) → s.next ≡ Some f → (j : ℕ) → j < i → left j ≡ true →
           far f.index ≤ far j
-      pub none_left : s.bad ≡ None → s.next ≡ None → (j : ℕ) → j < i → left j ≡ false
+      pub none_left : bad_index s ≡ None → s.next ≡ None → (j : ℕ) → j < i → left j ≡ false
 
     found_none : Searched 0 (begun n last)
     unfolding begun
@@ -96,7 +96,7 @@ module _ (jobs : List Job) (buffer : List ℕ) (last : ℕ) where
     far-round : (i j : ℕ) → j < n → last < j → i ≤ last → far j < far i
     far-round i j h k l = rw (lt-ltb last j k, le-ltb last i l) (omega arith)
 
-    module _ (i : ℕ) (s : Search) (h : i < n) (F : Searched i s) (ok : s.bad ≡ None) where
+    module _ (i : ℕ) (s : Search) (h : i < n) (F : Searched i s) (ok : bad_index s ≡ None) where
       inside : ltb i s.jobs ≡ true
       inside = lt-ltb i s.jobs (omega (arith, F.all, h))
 
@@ -137,10 +137,10 @@ module _ (jobs : List Job) (buffer : List ℕ) (last : ℕ) where
         all = F.all;
         from = F.from;
         own = λ f e. let (a, b, c, d, g) = F.own f e in (omega arith, b, c, d, g);
-        first_bad = λ b e. let q : i ≡ b = cc in rw (← q) (omega arith, y, F.none_bad ok);
-        none_bad = λ g. absurd (cc);
-        nearest = λ g. absurd (cc);
-        none_left = λ g. absurd (cc);
+        first_bad = λ b e. let q : i ≡ b = cc inside in rw (← q) (omega arith, y, F.none_bad ok);
+        none_bad = λ g. absurd (cc inside);
+        nearest = λ g. absurd (cc inside);
+        none_left = λ g. absurd (cc inside);
       })
 
       test-after : last < i → ltb s.last i ≡ true
@@ -171,7 +171,7 @@ module _ (jobs : List Job) (buffer : List ℕ) (last : ℕ) where
       found-at (Left at) k = found_left at k.0 k.1 k.2
 
     -- After a fault nothing is looked at.
-    found-stuck : (i : ℕ) (s : Search) (b : ℕ) → Searched i s → s.bad ≡ Some b → Searched (suc i) s
+    found-stuck : (i : ℕ) (s : Search) (b : ℕ) → Searched i s → bad_index s ≡ Some b → Searched (suc i) s
     found-stuck i s b F h = record {
       all = F.all;
       from = F.from;
@@ -187,10 +187,10 @@ module _ (jobs : List Job) (buffer : List ℕ) (last : ℕ) where
       unfolding looked
       found-more i s h F =
           let may : is_allowed s.jobs s.last ≡ true = rw (F.all, F.from) ok in
-          by_option s.bad
-          (λ none. let sound : is_some s.bad ≡ false = rw none in
+          by_option (bad_index s)
+          (λ none. let sound : is_some (bad_index s) ≡ false = rw none in
           rw (may, sound) (found-at i s h F none (standing_of (job_at jobs i) buffer) (known buffer (job_at jobs i))))
-          λ b e. let stuck : is_some s.bad ≡ true = rw e in rw (may, stuck) (found-stuck i s b F e)
+          λ b e. let stuck : is_some (bad_index s) ≡ true = rw e in rw (may, stuck) (found-stuck i s b F e)
 
       pub scanned-found : (i : ℕ) → i ≤ n → Searched i (scanned jobs buffer last i)
       scanned-found zero h = found_none

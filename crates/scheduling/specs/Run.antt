@@ -8,7 +8,7 @@ use Rattle.operations.specs.Replies.Reply.{accepted, refused}
 use Rattle.operations.specs.Jobs.{job_marks, job_at, book_of, book_marks}
 use Rattle.scheduling.specs.declared.Found.{Found}
 use Rattle.scheduling.specs.declared.Search.{Search}
-use Rattle.scheduling.specs.Search.{is_allowed}
+use Rattle.scheduling.specs.Search.{is_allowed, bad_index}
 
 -- The error of the first job that is not sound.
 abbrev pub sound_reply : Option ℕ → Reply (Unit {0})
@@ -19,7 +19,7 @@ sound_reply None = accepted tt
 unfoldable pub served : Search → ℕ → Reply (Option Found)
 served s room = do
   demand (is_allowed s.jobs s.last) no_such_job 0
-  sound_reply s.bad
+  sound_reply (bad_index s)
   demand (leb (job_marks * s.jobs) room) marks_too_short 2
   accepted s.next
 

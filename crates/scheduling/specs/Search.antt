@@ -1,5 +1,6 @@
 -- A search over jobs, job by job, for the next that has rules left.
-use Rattle.std.specs.Prelude.{List, ◌≡◌, Bool, true, cond, ◌&&◌, ℕ, suc, zero, ◌+◌, ◌≤◌, ◌<◌, leb, ltb, Option, Some, None, is_some}
+use Rattle.std.specs.Prelude.{List, ◌≡◌, Bool, true, cond, ◌&&◌, ℕ, suc, zero, ◌+◌, ◌≤◌, ◌<◌, leb, ltb}
+use Rattle.std.specs.Prelude.{Option, Some, None, is_some, option_and_then}
 use Rattle.std.proofs.Math.ListN
 use Rattle.operations.specs.declared.Job.{Job}
 use Rattle.operations.specs.Jobs.{max_jobs, job_at, book_of, has_left}
@@ -32,6 +33,10 @@ begun jobs last = record { jobs = jobs; last = last; bad = None; next = None }
 abbrev pub at_index : {A : Type 0} → Search → ℕ → A → Option A
 at_index s i a = cond (ltb i s.jobs) (Some a) None
 
+-- The index of the job that is not sound: none where it is no job's.
+abbrev pub bad_index : Search → Option ℕ
+bad_index s = option_and_then (λ i. at_index s i i) s.bad
+
 -- The search with a job that is not sound, and with one that comes first.
 abbrev pub found_bad : Search → ℕ → Search
 found_bad s i = record { jobs = s.jobs; last = s.last; bad = at_index s i i; next = s.next }
@@ -51,7 +56,7 @@ found_at (Left at) s i job = cond (comes_first s i) (found_next s i job at) s
 
 unfoldable pub looked : Search → ℕ → Job → List ℕ → Search
 looked s i job buffer =
-    cond (is_allowed s.jobs s.last) (cond (is_some s.bad) s (found_at (standing_of job buffer) s i job)) s
+    cond (is_allowed s.jobs s.last) (cond (is_some (bad_index s)) s (found_at (standing_of job buffer) s i job)) s
 
 -- The search once the first i jobs have been looked at.
 abbrev pub scanned : List Job → List ℕ → ℕ → ℕ → Search

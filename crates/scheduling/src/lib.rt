@@ -1,8 +1,9 @@
 // Jobs in turn, one rule at a time: a search over them, job by job, for the next that has rules left, and its turn.
 #![tactic(auto)]
 
-ghost use Rattle.std.specs.Prelude.{◌≡◌, length};
+ghost use Rattle.std.specs.Prelude.{◌≡◌, ◌<◌, length, MatchResult, IfSome};
 ghost use Rattle.operations.specs.Enums.{reply_of};
+ghost use Rattle.operations.specs.Jobs.{max_jobs};
 ghost use Rattle.scheduling.specs.Search.{standing_of, is_allowed, comes_first, begun, looked, Ready};
 ghost use Rattle.scheduling.specs.Run.{served, marks_after};
 
@@ -21,7 +22,7 @@ pub struct Found {
 }
 
 // What a search over jobs has found so far: the first that is not sound, and, of those with rules left, the one that
-// comes first after the last served, going round.
+// comes first after the last served, going round. A `bad` that is no job's index counts as none.
 #[derive(Clone, Copy)]
 pub struct Search {
     pub jobs: usize,
@@ -80,7 +81,7 @@ impl Search {
     pub fn look(self, index: usize, job: Job, buffer: &[u8]) -> Search
         ensures { result ≡ looked self index job buffer.now }
     {
-        if !is_allowed(self.jobs, self.last) || self.bad.is_some() {
+        if !is_allowed(self.jobs, self.last) || self.bad.is_some_and(|bad| bad < self.jobs) {
             return self;
         }
         match inspect(job, buffer) {
@@ -103,6 +104,8 @@ impl Search {
         requires { Ready self buffer.now }
         ensures result_value { reply_of result ≡ served self (length marks.old) }
         ensures marks_after { marks.new ≡ marks_after self buffer.now marks.old }
+        ensures small { MatchResult result (λ next. IfSome next (λ found. found.index < max_jobs))
+            (λ error. error.offset < max_jobs) }
     {
         if !is_allowed(self.jobs, self.last) {
             let code = ErrorCode::NoSuchJob;
@@ -112,7 +115,9 @@ impl Search {
                 offset: 0,
             });
         }
-        if let Some(offset) = self.bad {
+        if let Some(offset) = self.bad
+            && offset < self.jobs
+        {
             let code = ErrorCode::BadJob;
             return Err(Error {
                 code,

@@ -12,7 +12,7 @@ use Rattle.format.specs.Reading.Reading.{got, fault}
 use Rattle.format.specs.Format.{nodes_reader, rule_reader}
 use Rattle.format.specs.Statements.{Unscaled}
 use Rattle.format.specs.Errors.{number_of}
-use Rattle.answers.specs.declared.Fault.{Fault}
+use Rattle.answers.specs.Answer.{Fault}
 use Rattle.bits.specs.declared.BitCursor.{BitCursor}
 use Rattle.bits.specs.Cursor.{told}
 use Rattle.sides.specs.Side.{SideRead}

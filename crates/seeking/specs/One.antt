@@ -8,7 +8,7 @@ use Rattle.format.specs.Format.{Sides, RuleFile, rules_reader}
 use Rattle.format.specs.Packing.{rule_items, item_bits}
 use Rattle.format.specs.Files.{read_bytes}
 use Rattle.format.specs.Errors.{number_of}
-use Rattle.answers.specs.declared.Fault.{Fault}
+use Rattle.answers.specs.Answer.{Fault}
 use Rattle.bits.specs.declared.BitCursor.{BitCursor}
 use Rattle.seeking.specs.declared.Standing.{Standing}
 use Rattle.seeking.specs.declared.Standing.TheVariants.{Bad, Done, Left}

@@ -5,6 +5,7 @@ ghost use Rattle.std.specs.Prelude.{◌≡◌, [], true, ℕ, ◌*◌, ◌≤◌
 ghost use Rattle.terms.specs.Signature.{Signature};
 ghost use Rattle.format.specs.Layout.{form_number};
 ghost use Rattle.format.specs.Reading.{bit_source};
+ghost use Rattle.format.specs.Reading.Reading.{got};
 ghost use Rattle.format.specs.Forms.{is_taken, unused_of};
 ghost use Rattle.format.specs.Format.{Sides, rule_reader};
 ghost use Rattle.operations.specs.Jobs.{book_marks};
@@ -14,7 +15,7 @@ ghost use Rattle.symbols.specs.Arities.{Arities};
 ghost use Rattle.reader.specs.Source.Input.{from_bytes};
 ghost use Rattle.reader.specs.File.{rest_reader};
 ghost use Rattle.reader.specs.Promise.{IsTable};
-ghost use Rattle.marking.specs.Rule.{MarksRead};
+ghost use Rattle.marking.specs.Rule.{sides_mark};
 ghost use Rattle.seeking.specs.declared.Standing.TheVariants.{Left};
 ghost use Rattle.seeking.specs.One.{standing_in, file_standing, RuleSkipped, RulesSkipped, SkippedWithin};
 
@@ -22,7 +23,6 @@ use answers::Fault;
 use bits::{BitCursor, Book};
 use format::{MAX_NODES, NODE_WORDS};
 use marking::Under;
-use marking::rule::{MarkedRule, mark_rule};
 use reader::Form;
 use weights::{Totals, Weighing};
 
@@ -119,13 +119,14 @@ pub fn find_next(book: &[u8], marked: usize) -> Standing
     }
 }
 
-// Marks the rule that begins at a bit, under a symbol table.
-fn mark_there(book: Book, table: &[u16], cursor: BitCursor) -> Result<MarkedRule, Fault>
+// The mark of the rule that begins at a bit, under a symbol table, 0 where none is read. `mark_rule` is left to one
+// caller, of whose loop it is then made part.
+fn mark_there(book: Book, table: &[u16], cursor: BitCursor) -> u8
     requires cursor_bound { cursor.at ≤ 8 * length book.bytes.now }
     requires table { IsTable table.now }
-    ensures { MarksRead (signature_of table.now) (λ (sides : Sides). sides)
-        (rule_reader (bit_source book.entry.bytes.now) (unused_of form_number) (signature_of table.now)
-        cursor.at) result }
+    ensures { (sides : Sides) (next : ℕ) →
+        rule_reader (bit_source book.entry.bytes.now) (unused_of form_number) (signature_of table.now)
+        cursor.at ≡ got sides next → result ≡ sides_mark (signature_of table.now) sides }
 {
     let arities = symbols::arities(table);
     let mut adds = [Totals::NONE; NODE_WORDS];
@@ -135,7 +136,10 @@ fn mark_there(book: Book, table: &[u16], cursor: BitCursor) -> Result<MarkedRule
         arities: &arities,
         weighing,
     };
-    mark_rule(book, &under, cursor)
+    let mut marks = [0u8; 1];
+    let mut none = [0i64; 0];
+    let _ = marking::walk::mark_rules(book, &under, &mut marks, &mut none, 1, cursor);
+    marks[0]
 }
 
 // The mark of the rule that begins at a bit of a packed file, 0 where none does.
@@ -152,10 +156,7 @@ pub fn mark_at(book: &[u8], at: usize) -> u8
         Err(_) => 0,
         Ok(head) => {
             let front = symbols::front(head.symbols);
-            match mark_there(Book { bytes: book }, &table[..front], BitCursor { at }) {
-                Err(_) => 0,
-                Ok(rule) => marks::number(rule.mark),
-            }
+            mark_there(Book { bytes: book }, &table[..front], BitCursor { at })
         }
     }
 }

@@ -28,8 +28,7 @@ use Rattle.format.specs.Statements.{Unscaled}
 use Rattle.format.proofs.LightLaws.{unscaled-side}
 use Rattle.format.proofs.ForestLaws.{before, nothing-owed, none_allowed}
 use Rattle.format.specs.Errors.{number_of}
-use Rattle.answers.specs.declared.Fault.{Fault}
-use Rattle.answers.specs.Answer.{Answer, Within, reading}
+use Rattle.answers.specs.Answer.{Answer, Within, reading, Fault}
 use Rattle.bits.specs.declared.BitCursor.{BitCursor}
 use Rattle.bits.specs.Cursor.{told}
 use Rattle.sides.specs.Side.{ForestRead, SideRead, SideStored, WordsRead, side_words}

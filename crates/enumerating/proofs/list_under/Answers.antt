@@ -5,7 +5,7 @@ use lib.ListN.{replicate}
 use lib.Seq.{length-take-le}
 use Rattle.symbols.specs.Table.{signature_of}
 use Rattle.operations.specs.Replies.Reply.{refused}
-use Rattle.enumerating.proofs.ReplyLaws.{Gives, size-range, list-outside, list-more, list-short, list-ready, list_done}
+use Rattle.enumerating.proofs.ReplyLaws.{Gives, size-range, list-outside, list-more, list-short, list-none, list-ready, list_done}
 use Rattle.enumerating.proofs.list_under.Goals as goal
 use Rattle.enumerating.proofs.list_under.Goals.{then-number-gt-MAX_TERMS-via-then-number-gt-MAX_TERMS as too_many, then-number-gt-MAX_TERMS-via-else-number-gt-MAX_TERMS+then-words-words_of as too_short}
 
@@ -41,6 +41,17 @@ returns-then-number-gt-MAX_TERMS c =
     record {
       result_value = both.0;
       words_after = both.1;
+    }
+
+pub returns-then-number-eq0 : goal.returns-then-number-eq0
+returns-then-number-eq0 c =
+    let σ = signature_of c.args.table.now in
+    let size = sym c.is_size.ensures ∙ c.if-not-is_size.false in
+    let cell = rw c.new-counts.ensures at c.at-number.ensures in
+    let none = list-none σ c.args.n c.args.words.now size c.at-number.result cell (omega arith) (omega arith) in
+    record {
+      result_value = none.0;
+      words_after = none.1;
     }
 
 pub walk-requires : goal.walk-requires

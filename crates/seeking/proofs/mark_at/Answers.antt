@@ -1,7 +1,6 @@
 -- The rule that was found there has that number in the file.
-use mathlib.Core.Path.{◌∙◌}
 use Rattle.reader.specs.Source.{Reached}
-use Rattle.seeking.proofs.OneLaws.{one-marked, one-unread, never-found, mark-found}
+use Rattle.seeking.proofs.OneLaws.{never-found, mark-found}
 use Rattle.seeking.proofs.mark_at.Goals as goal
 
 pub mark_there-requires-clause-cursor_bound : goal.mark_there-requires-clause-cursor_bound
@@ -13,22 +12,10 @@ returns-in-Err c marked h =
     never-found a.book.now marked a.at h _ _
     (rw c.in-Err.is at c.read_head.ensures)
 
-pub returns-in-Err-mark_there : goal.returns-in-Err-mark_there
+pub returns-in-Ok : goal.returns-in-Ok
 unfolding Reached
-returns-in-Err-mark_there c marked h =
+returns-in-Ok c marked h =
     let a = c.args in
     let head = rw c.in-Ok.is at c.read_head.ensures in
-    mark-found a.book.now marked a.at h head.form head.taken _ _ _ _
-    head.whole head.within
-    (λ sides next e. one-unread _ _ _ (rw c.front-front.ensures.0 at c.mark_there.ensures) sides next e _
-    c.in-Err-mark_there.is)
-
-pub returns-in-Ok-mark_there : goal.returns-in-Ok-mark_there
-unfolding Reached
-returns-in-Ok-mark_there c marked h =
-    let a = c.args in
-    let head = rw c.in-Ok.is at c.read_head.ensures in
-    mark-found a.book.now marked a.at h head.form head.taken _ _ _ _
-    head.whole head.within
-    (λ sides next e. c.number.ensures ∙ one-marked _ _ _ (rw c.front-front.ensures.0 at c.mark_there.ensures) sides next e
-    _ c.in-Ok-mark_there.is)
+    mark-found a.book.now marked a.at h head.form head.taken _ _ _ _ head.whole head.within
+    (rw c.front-front.ensures.0 at c.mark_there.ensures)

@@ -1,12 +1,6 @@
--- What crosses is what a turn replies, whose numbers are small.
+-- What crosses is what a turn replies.
 use mathlib.Core.Path.{sym}
-use Rattle.boundary.proofs.TurnLaws.{turned-small}
 use Rattle.ackbo.proofs.turn.ackbo_turn.Goals as goal
-
-pub put-requires : goal.put-requires
-put-requires c =
-    let a = c.args in
-    rw c.take_turn.ensures.result_value (turned-small a.jobs.now a.buffer.now a.marks.now a.last)
 
 pub returns : goal.returns
 returns c =

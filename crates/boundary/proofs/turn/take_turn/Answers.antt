@@ -20,7 +20,12 @@ returns-in_err-found c =
     let t = turned-by a.jobs.now a.buffer.now a.marks.now a.last _ _ _ s
     (rw c.in_err-found.was at c.run_next.ensures.result_value) c.run_next.ensures.marks_after in
     let error = err_from_is_err_and c.from_residual.result c.from_residual.ensures.1 in
-    rw (error.1, error.2) (record { result_value = t.reply; jobs_after = t.counted; marks_after = t.marked })
+    rw (error.1, error.2) (record {
+      result_value = t.reply;
+      jobs_after = t.counted;
+      marks_after = t.marked;
+      small = omega (arith, rw c.in_err-found.was at c.run_next.ensures.small);
+    })
 
 pub returns-in_default : goal.returns-in_default
 returns-in_default c =
@@ -28,7 +33,7 @@ returns-in_default c =
     let s = all-searched a.jobs.now a.buffer.now a.last _ _ (omega arith) (omega arith) c.loop-index.invariant in
     let t = turned-by a.jobs.now a.buffer.now a.marks.now a.last _ _ _ s
     (rw (c.in_ok-found.was, c.in_default.is) at c.run_next.ensures.result_value) c.run_next.ensures.marks_after in
-    record { result_value = t.reply; jobs_after = t.counted; marks_after = t.marked }
+    record { result_value = t.reply; jobs_after = t.counted; marks_after = t.marked; small = omega arith }
 
 pub overflow_add-jobs : goal.overflow_add-jobs
 overflow_add-jobs c =
@@ -60,4 +65,9 @@ returns c =
     let t = turned-by a.jobs.now a.buffer.now a.marks.now a.last _ _ _ s
     (rw (c.in_ok-found.was, c.in-Some.is) at c.run_next.ensures.result_value) c.run_next.ensures.marks_after in
     let one : c.in-Some.found.job.marked + 1 ≡ suc c.in-Some.found.job.marked = omega arith in
-    record { result_value = t.reply; jobs_after = rw one t.counted; marks_after = t.marked }
+    record {
+      result_value = t.reply;
+      jobs_after = rw one t.counted;
+      marks_after = t.marked;
+      small = omega (arith, rw (c.in_ok-found.was, c.in-Some.is) at c.run_next.ensures.small);
+    }

@@ -38,3 +38,12 @@ bounds-marks-found c =
     let ready = c.requires _ c.in-Some-next.is in
     let below = left-few c.args.buffer.now c.in-Some-next.found.job ready.unfinished in
     omega (arith, ready.listed, c.if-marks-self.false)
+
+pub returns-clause-small : goal.returns-clause-small
+returns-clause-small c =
+    let few = allowed-numbers _ _ (sym c.is_allowed.ensures ∙ c.if-not-is_allowed.false) in omega arith
+
+pub returns-2-clause-small : goal.returns-2-clause-small
+returns-2-clause-small c =
+    let few = allowed-numbers _ _ (sym c.is_allowed.ensures ∙ c.if-not-is_allowed.false) in
+    let ready = c.requires _ c.in-Some-next.is in omega (arith, ready.listed)

@@ -2,25 +2,28 @@
 --     all-searched          past the loop all jobs were looked at
 --     Turned, turned-by     the reply, the jobs and the marks are the definition's
 --     found-listed          the job that is served is one of the list, and its count grows
+--     turned-small          the numbers of its reply are below 2^63
 use mathlib.Core.List.{List}
 use mathlib.Core.Path.{◌≡◌, sym, ap, ◌∙◌}
-use Prim.Native.Nat.{ℕ, ◌≤◌, ◌<◌}
+use Prim.Native.Nat.{ℕ, ◌*◌, ◌≤◌, ◌<◌}
 use native.Mathlib.Omega.{arith}
 use lib.ListN
+use lib.Dec.{leb}
 use Rattle.multisets.proofs.Relations.{by_test}
 use Rattle.std.specs.Prelude.{Option, Some, None}
 use Rattle.operations.specs.declared.Job.{Job}
 use Rattle.operations.specs.Replies.{Reply}
 use Rattle.operations.specs.Replies.Reply.{accepted}
-use Rattle.operations.specs.Jobs.{max_jobs}
+use Rattle.operations.specs.Jobs.{max_jobs, job_marks}
 use Rattle.operations.specs.Turns.{turned}
 use Rattle.scheduling.specs.declared.Found.{Found}
 use Rattle.scheduling.specs.declared.Search.{Search}
-use Rattle.scheduling.specs.Search.{is_allowed, begun, scanned}
-use Rattle.scheduling.specs.Run.{served, index_reply, jobs_by, marks_after}
+use Rattle.scheduling.specs.Search.{is_allowed, begun, bad_index, scanned}
+use Rattle.scheduling.specs.Run.{taken, index_reply, jobs_by, marks_taken}
 use Rattle.scheduling.proofs.StandingLaws.{allowed-numbers, left-few}
-use Rattle.scheduling.proofs.SearchLaws.{end, scanned-ready, scanned-found, scanned-idle}
-use Rattle.scheduling.proofs.ReplyLaws.{served-next, scanned-replied, scanned-jobs, scanned-marks}
+use Rattle.scheduling.proofs.SearchLaws.{by_option, bad-listed, end, scanned-ready, scanned-found, scanned-idle}
+use Rattle.scheduling.proofs.ReplyLaws.{taken-next, scanned-replied, scanned-jobs, scanned-marks}
+use Rattle.boundary.specs.Numbers.{Small, number_of, terms_of}
 
 pub all-searched : (jobs : List Job) (buffer : List ℕ) (last i : ℕ) (s : Search) → ListN.length jobs ≤ i →
     i ≤ ListN.length jobs → s ≡ scanned jobs buffer last i → s ≡ end jobs buffer last
@@ -35,14 +38,14 @@ module _ (jobs : List Job) (buffer marks : List ℕ) (last : ℕ) where
     pub marked : after ≡ (turned jobs buffer marks last).marks
 
   pub turned-by : (s : Search) (r : Reply (Option Found)) (after : List ℕ) → s ≡ end jobs buffer last →
-      r ≡ served s (ListN.length marks) → after ≡ marks_after s buffer marks → Turned r after
+      r ≡ taken s (ListN.length marks) → after ≡ marks_taken s buffer marks → Turned r after
   turned-by s r after found e m =
-      let same : r ≡ served (end jobs buffer last) (ListN.length marks) =
-      e ∙ ap (λ (t : Search). served t (ListN.length marks)) found in
+      let same : r ≡ taken (end jobs buffer last) (ListN.length marks) =
+      e ∙ ap (λ (t : Search). taken t (ListN.length marks)) found in
       record {
         reply = ap index_reply same ∙ scanned-replied jobs buffer last marks;
         counted = ap (jobs_by jobs) same ∙ scanned-jobs jobs buffer last marks;
-        marked = m ∙ ap (λ (t : Search). marks_after t buffer marks) found ∙ scanned-marks jobs buffer last marks;
+        marked = m ∙ ap (λ (t : Search). marks_taken t buffer marks) found ∙ scanned-marks jobs buffer last marks;
       }
 
   abbrev n : ℕ
@@ -58,9 +61,34 @@ module _ (jobs : List Job) (buffer marks : List ℕ) (last : ℕ) where
       (omega (arith, F.all, r.listed), few, (left-few buffer f.job r.unfinished).1))
       λ bars. let idle : None ≡ Some f = rw (scanned-idle jobs buffer last bars n) at e in absurd (cc)
 
+  end-bad : (b : ℕ) → (end jobs buffer last).bad ≡ Some b → b < max_jobs
+  unfolding begun
+  end-bad b e =
+      by_test (is_allowed n last)
+      (λ ok. let (within, few) = allowed-numbers n last ok in
+      let F = scanned-found jobs buffer last within ok n (omega arith) in omega (arith, (F.first_bad b e).0))
+      λ bars. let idle : None ≡ Some b = rw (scanned-idle jobs buffer last bars n) at e in absurd (cc)
+
   pub found-listed : (s : Search) (f : Found) → s ≡ end jobs buffer last →
-      accepted (Some f) ≡ served s (ListN.length marks) → (f.index < n) × (n ≤ max_jobs) × (f.job.marked < 1023)
+      accepted (Some f) ≡ taken s (ListN.length marks) → (f.index < n) × (n ≤ max_jobs) × (f.job.marked < 1023)
   found-listed s f found e =
-      let same : served (end jobs buffer last) (ListN.length marks) ≡ accepted (Some f) =
-      ap (λ (t : Search). served t (ListN.length marks)) (sym found) ∙ sym e in
-      end-next f (served-next (end jobs buffer last) (ListN.length marks) (Some f) same).1
+      let same : taken (end jobs buffer last) (ListN.length marks) ≡ accepted (Some f) =
+      ap (λ (t : Search). taken t (ListN.length marks)) (sym found) ∙ sym e in
+      end-next f (taken-next (end jobs buffer last) (ListN.length marks) (Some f) same).1
+
+  taken-small : (s : Search) (room : ℕ) → ((b : ℕ) → s.bad ≡ Some b → b < max_jobs) →
+      ((f : Found) → s.next ≡ Some f → Small f.index) → Small (number_of terms_of (index_reply (taken s room)))
+  unfolding taken
+  taken-small s room bad next =
+      by_test (is_allowed s.jobs s.last)
+      (λ may. by_option (bad_index s)
+      (λ none. by_test (leb (job_marks * s.jobs) room)
+      (λ long. by_option s.next (λ e. rw (may, none, long, e) (omega arith)) λ f e. rw (may, none, long, e) (next f e))
+      λ short. rw (may, none, short) (omega arith))
+      λ b e. rw (may, e) (omega (arith, bad b (bad-listed s b e).0)))
+      λ bars. rw bars (omega arith)
+
+  pub turned-small : Small (number_of terms_of (turned jobs buffer marks last).reply)
+  turned-small =
+      rw (← scanned-replied jobs buffer last marks)
+      (taken-small (end jobs buffer last) (ListN.length marks) end-bad λ f e. let k = end-next f e in omega (arith, k))

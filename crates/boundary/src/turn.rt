@@ -21,9 +21,9 @@ pub fn take_turn(
 {
     let mut search = Search::begin(jobs.len(), last);
     for (index, job) in jobs.iter().enumerate() {
-        search = search.look(index, *job, buffer);
+        search = search.visit(index, *job, buffer);
     }
-    let Some(found) = search.run_next(buffer, marks)? else {
+    let Some(found) = search.take_next(buffer, marks)? else {
         return Ok(None);
     };
     jobs[found.index].marked = found.job.marked + 1;

@@ -1,5 +1,6 @@
 -- The turn after a search over all jobs is the definition's.
---     served-next                                      what a turn serves is what was found
+--     taken-next, served-next                          what a turn serves is what was found
+--     served-taken                                     the two definitions agree where a job is not sound, or none is
 --     scanned-replied, scanned-jobs, scanned-marks     the reply, the jobs and the marks
 use Rattle.std.specs.Prelude.{Option, Some, None}
 use mathlib.Core.List.{List, [], ◌∷◌}
@@ -23,9 +24,9 @@ use Rattle.operations.proofs.RoundLaws.{first_some, first-none}
 use Rattle.scheduling.specs.declared.Found.{Found}
 use Rattle.scheduling.specs.declared.Search.{Search}
 use Rattle.scheduling.specs.Search.{is_allowed, begun, bad_index}
-use Rattle.scheduling.specs.Run.{sound_reply, served, index_reply, reply_of, marks_by, marks_after, recounted, jobs_by}
+use Rattle.scheduling.specs.Run.{sound_reply, taken, served, index_reply, taken_reply, marks_by, marks_taken, recounted, jobs_by}
 use Rattle.scheduling.proofs.StandingLaws.{allowed-numbers}
-use Rattle.scheduling.proofs.SearchLaws.{by_option, Searched, scanned-found, scanned-idle, end}
+use Rattle.scheduling.proofs.SearchLaws.{by_option, bad-listed, Searched, scanned-found, scanned-idle, end}
 
 -- ---- the first of some jobs that is not sound, the first of them with that index
 sound-all : (buffer : List ℕ) (i : ℕ) (jobs : List Job) →
@@ -55,13 +56,28 @@ reply-then : {A B : Type 0} (x : Reply A) (r : Reply B) (t : B) → ◌>>◌ x r
 reply-then (accepted a) r t e = e
 reply-then (refused f) r t e = absurd (false≢true (cc))
 
+next-of : (s : Search) (room : ℕ) (bad : Option ℕ) (x : Option Found) →
+    ◌>>◌ (demand (is_allowed s.jobs s.last) no_such_job 0)
+    (◌>>◌ (sound_reply bad) (◌>>◌ (demand (leb (job_marks * s.jobs) room) marks_too_short 2) (accepted s.next)))
+    ≡ accepted x → (is_allowed s.jobs s.last ≡ true) × (s.next ≡ x)
+next-of s room bad x e =
+    let (may, a) = demand-then (is_allowed s.jobs s.last) no_such_job 0 _ x e in
+    let b = reply-then (sound_reply bad) _ x a in
+    let (long, q) = demand-then (leb (job_marks * s.jobs) room) marks_too_short 2 _ x b in (may, cc)
+
+pub taken-next : (s : Search) (room : ℕ) (x : Option Found) → taken s room ≡ accepted x →
+    (is_allowed s.jobs s.last ≡ true) × (s.next ≡ x)
+unfolding taken
+taken-next s room x e = next-of s room (bad_index s) x e
+
 pub served-next : (s : Search) (room : ℕ) (x : Option Found) → served s room ≡ accepted x →
     (is_allowed s.jobs s.last ≡ true) × (s.next ≡ x)
 unfolding served
-served-next s room x e =
-    let (may, a) = demand-then (is_allowed s.jobs s.last) no_such_job 0 _ x e in
-    let b = reply-then (sound_reply (bad_index s)) _ x a in
-    let (long, q) = demand-then (leb (job_marks * s.jobs) room) marks_too_short 2 _ x b in (may, cc)
+served-next s room x e = next-of s room s.bad x e
+
+pub served-taken : (s : Search) (room : ℕ) → bad_index s ≡ s.bad → served s room ≡ taken s room
+unfolding served taken
+served-taken s room h = rw h refl
 
 module _ (jobs : List Job) (buffer : List ℕ) (last : ℕ) where
   abbrev number : ℕ
@@ -83,7 +99,7 @@ module _ (jobs : List Job) (buffer : List ℕ) (last : ℕ) where
     sound-same : sound_from buffer 0 jobs ≡ sound_reply (bad_index found)
     sound-same =
         by_option (bad_index found) (λ none. rw none (sound-all buffer 0 jobs (F.none_bad none)))
-        λ b e. let (h, y, before) = F.first_bad b e in rw e (sound-until buffer 0 jobs b h y before ∙ rw zero-add)
+        λ b e. let (h, y, before) = F.first_bad b (bad-listed found b e).0 in rw e (sound-until buffer 0 jobs b h y before ∙ rw zero-add)
 
     next-same : bad_index found ≡ None → index_reply (accepted found.next) ≡ accepted (next_turn jobs buffer last)
     next-same sound =
@@ -109,8 +125,8 @@ module _ (jobs : List Job) (buffer : List ℕ) (last : ℕ) where
         rw e (ap accepted (sym (met.first ∙ ap (λ (i : ℕ). Some i) same)))
 
   -- The reply to the turn is the definition's.
-  pub scanned-reply : (room : ℕ) → reply_of found room ≡ turn_of jobs buffer room last
-  unfolding served turn_of is_allowed begun
+  pub scanned-reply : (room : ℕ) → taken_reply found room ≡ turn_of jobs buffer room last
+  unfolding taken turn_of is_allowed begun
   scanned-reply room =
       by_test (is_allowed number last)
       (λ ok. let all = (F ok).all in
@@ -127,40 +143,40 @@ module _ (jobs : List Job) (buffer : List ℕ) (last : ℕ) where
   after-reply marks (refused e) = refl
 
   pub scanned-replied : (marks : List ℕ) →
-      reply_of found (ListN.length marks) ≡ (turned jobs buffer marks last).reply
+      taken_reply found (ListN.length marks) ≡ (turned jobs buffer marks last).reply
   unfolding turned
   scanned-replied marks =
       scanned-reply (ListN.length marks) ∙ sym (after-reply marks (turn_of jobs buffer (ListN.length marks) last))
 
   -- The job that is served is the one with its index.
-  served-own : (room : ℕ) (f : Found) → served found room ≡ accepted (Some f) → f.job ≡ job_at jobs f.index
+  served-own : (room : ℕ) (f : Found) → taken found room ≡ accepted (Some f) → f.job ≡ job_at jobs f.index
   unfolding begun
   served-own room f e =
-      let (may, next) = served-next found room (Some f) e in
+      let (may, next) = taken-next found room (Some f) e in
       by_test (is_allowed number last) (λ ok. ((F ok).own f next).1)
       λ bars. let idle : None ≡ Some f = rw (scanned-idle jobs buffer last bars number) at next in absurd (cc)
 
   pub scanned-jobs : (marks : List ℕ) →
-      jobs_by jobs (served found (ListN.length marks)) ≡ (turned jobs buffer marks last).jobs
+      jobs_by jobs (taken found (ListN.length marks)) ≡ (turned jobs buffer marks last).jobs
   unfolding turned
   scanned-jobs marks =
-      go (served found (ListN.length marks)) refl
+      go (taken found (ListN.length marks)) refl
       ∙ ap (λ (r : Reply (Option ℕ)). (after_turn jobs buffer marks r).jobs) (scanned-reply (ListN.length marks))
     where
-      go : (r : Reply (Option Found)) → served found (ListN.length marks) ≡ r →
+      go : (r : Reply (Option Found)) → taken found (ListN.length marks) ≡ r →
           jobs_by jobs r ≡ (after_turn jobs buffer marks (index_reply r)).jobs
       go (accepted (Some f)) e =
           ap (λ (job : Job). recounted jobs f.index (suc job.marked)) (served-own (ListN.length marks) f e)
       go (accepted None) e = refl
       go (refused f) e = refl
 
-  pub scanned-marks : (marks : List ℕ) → marks_after found buffer marks ≡ (turned jobs buffer marks last).marks
-  unfolding turned marks_after
+  pub scanned-marks : (marks : List ℕ) → marks_taken found buffer marks ≡ (turned jobs buffer marks last).marks
+  unfolding turned marks_taken
   scanned-marks marks =
-      go (served found (ListN.length marks)) refl
+      go (taken found (ListN.length marks)) refl
       ∙ ap (λ (r : Reply (Option ℕ)). (after_turn jobs buffer marks r).marks) (scanned-reply (ListN.length marks))
     where
-      go : (r : Reply (Option Found)) → served found (ListN.length marks) ≡ r →
+      go : (r : Reply (Option Found)) → taken found (ListN.length marks) ≡ r →
           marks_by buffer marks r ≡ (after_turn jobs buffer marks (index_reply r)).marks
       go (accepted (Some f)) e =
           ap

@@ -2,6 +2,8 @@
 --     Searched, scanned-found  what is found once some jobs have been looked at
 --     scanned-idle             nothing is looked at where the numbers are not allowed
 --     by_option                an option by cases
+--     bad-listed, scanned-bad  the index of a job that is not sound
+--     looked-visited           the two definitions agree where it is one of the jobs, or none is
 --     end, scanned-ready       the search over all jobs, which is ready for the turn
 use Rattle.std.specs.Prelude.{Option, Some, None, is_some}
 use mathlib.Core.List.{List}
@@ -22,13 +24,26 @@ use Rattle.seeking.specs.declared.Standing.{Standing}
 use Rattle.seeking.specs.declared.Standing.TheVariants.{Bad, Done, Left}
 use Rattle.seeking.specs.One.{file_standing}
 use Rattle.scheduling.specs.Search.{standing_of, is_allowed, comes_first, begun, found_bad, found_next, found_at}
-use Rattle.scheduling.specs.Search.{bad_index, looked}
+use Rattle.scheduling.specs.Search.{bad_index, visited, looked}
 use Rattle.scheduling.specs.Search.{scanned, Ready}
 use Rattle.scheduling.proofs.StandingLaws.{Known, known, allowed-numbers}
 
 pub by_option : {A B : Type 0} (o : Option A) → (o ≡ None → B) → ((a : A) → o ≡ Some a → B) → B
 by_option None f g = f refl
 by_option (Some a) f g = g a refl
+
+-- An index that is one of the jobs'.
+pub bad-listed : (s : Search) (b : ℕ) → bad_index s ≡ Some b → (s.bad ≡ Some b) × (b < s.jobs)
+bad-listed s b e =
+    by_option s.bad (λ none. absurd (cc))
+    λ i is. by_order i s.jobs
+    (λ h. let q : i ≡ b = cc (rw (is, lt-ltb i s.jobs h) at e) in rw (← q) (is, h))
+    λ h. let z : None ≡ Some b = rw (is, le-ltb i s.jobs h) at e in absurd (cc)
+
+pub looked-visited : (s : Search) (i : ℕ) (job : Job) (buffer : List ℕ) → bad_index s ≡ s.bad →
+    looked s i job buffer ≡ visited s i job buffer
+unfolding looked visited
+looked-visited s i job buffer h = rw h refl
 
 -- ---- the search
 
@@ -63,7 +78,7 @@ module _ (jobs : List Job) (buffer : List ℕ) (last : ℕ) where
       pub all : s.jobs ≡ n
       pub from : s.last ≡ last
       pub own : (f : Found) → s.next ≡ Some f → Own i f
-      pub first_bad : (b : ℕ) → bad_index s ≡ Some b → FirstBad i b
+      pub first_bad : (b : ℕ) → s.bad ≡ Some b → FirstBad i b
       pub none_bad : bad_index s ≡ None → (j : ℕ) → j < i → sound j ≡ true
       -- where all are sound, it is the first with rules left
       pub nearest : bad_index s ≡ None → (f : Found) → s.next ≡ Some f → (j : ℕ) → j < i → left j ≡ true →
@@ -107,7 +122,7 @@ module _ (jobs : List Job) (buffer : List ℕ) (last : ℕ) where
         all = F.all;
         from = F.from;
         own = λ f e. let (a, b, c, d, g) = F.own f e in (omega arith, b, c, d, g);
-        first_bad = λ b e. absurd (cc);
+        first_bad = λ b e. let (a, y, before) = F.first_bad b e in (omega arith, y, before);
         none_bad = λ g. one_more (λ j. sound j ≡ true) i (F.none_bad g) y;
         nearest = λ g f e. one_more (λ j. left j ≡ true → far f.index ≤ far j) i (F.nearest g f e)
             (λ l. let (f', e', near) = later l in let q : f' ≡ f = cc in rw (← q) near);
@@ -122,7 +137,7 @@ module _ (jobs : List Job) (buffer : List ℕ) (last : ℕ) where
         from = F.from;
         own = λ f e. let q : record { index = i; job = job_at jobs i; at = at } ≡ f = cc in
             rw (← q) (omega arith, refl, y, l, there);
-        first_bad = λ b e. absurd (cc);
+        first_bad = λ b e. let (a, y, before) = F.first_bad b e in (omega arith, y, before);
         none_bad = λ g. one_more (λ j. sound j ≡ true) i (F.none_bad g) y;
         nearest = λ g f e. let q : record { index = i; job = job_at jobs i; at = at } ≡ f = cc in
             rw (← q) (one_more (λ j. left j ≡ true → far i ≤ far j) i
@@ -137,7 +152,7 @@ module _ (jobs : List Job) (buffer : List ℕ) (last : ℕ) where
         all = F.all;
         from = F.from;
         own = λ f e. let (a, b, c, d, g) = F.own f e in (omega arith, b, c, d, g);
-        first_bad = λ b e. let q : i ≡ b = cc inside in rw (← q) (omega arith, y, F.none_bad ok);
+        first_bad = λ b e. let q : i ≡ b = cc in rw (← q) (omega arith, y, F.none_bad ok);
         none_bad = λ g. absurd (cc inside);
         nearest = λ g. absurd (cc inside);
         none_left = λ g. absurd (cc inside);
@@ -183,8 +198,8 @@ module _ (jobs : List Job) (buffer : List ℕ) (last : ℕ) where
     }
 
     module _ (ok : is_allowed n last ≡ true) where
-      found-more : (i : ℕ) (s : Search) → i < n → Searched i s → Searched (suc i) (looked s i (job_at jobs i) buffer)
-      unfolding looked
+      found-more : (i : ℕ) (s : Search) → i < n → Searched i s → Searched (suc i) (visited s i (job_at jobs i) buffer)
+      unfolding visited
       found-more i s h F =
           let may : is_allowed s.jobs s.last ≡ true = rw (F.all, F.from) ok in
           by_option (bad_index s)
@@ -199,11 +214,21 @@ module _ (jobs : List Job) (buffer : List ℕ) (last : ℕ) where
 
   -- Where the numbers are not allowed nothing is looked at.
   pub scanned-idle : is_allowed n last ≡ false → (i : ℕ) → scanned jobs buffer last i ≡ begun n last
-  unfolding looked begun
+  unfolding visited begun
   scanned-idle bars zero = refl
   scanned-idle bars (suc i) =
       let e = scanned-idle bars i in
-      ap (λ (s : Search). looked s i (job_at jobs i) buffer) e ∙ rw bars
+      ap (λ (s : Search). visited s i (job_at jobs i) buffer) e ∙ rw bars
+
+  pub scanned-bad : (i : ℕ) → i ≤ n → bad_index (scanned jobs buffer last i) ≡ (scanned jobs buffer last i).bad
+  unfolding begun
+  scanned-bad i h =
+      let s = scanned jobs buffer last i in
+      by_test (is_allowed n last)
+      (λ ok. let F = scanned-found (allowed-numbers n last ok).0 ok i h in
+      by_option s.bad (λ none. rw none refl)
+      λ b e. rw (e, lt-ltb b s.jobs (omega (arith, F.all, (F.first_bad b e).0))) refl)
+      λ bars. rw (scanned-idle bars i) refl
 
   -- ---- the turn after the search
 

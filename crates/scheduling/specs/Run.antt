@@ -19,6 +19,14 @@ sound_reply None = accepted tt
 unfoldable pub served : Search → ℕ → Reply (Option Found)
 served s room = do
   demand (is_allowed s.jobs s.last) no_such_job 0
+  sound_reply s.bad
+  demand (leb (job_marks * s.jobs) room) marks_too_short 2
+  accepted s.next
+
+-- The same, where a `bad` that is no job's index counts as none.
+unfoldable pub taken : Search → ℕ → Reply (Option Found)
+taken s room = do
+  demand (is_allowed s.jobs s.last) no_such_job 0
   sound_reply (bad_index s)
   demand (leb (job_marks * s.jobs) room) marks_too_short 2
   accepted s.next
@@ -32,6 +40,9 @@ index_reply (refused e) = refused e
 abbrev pub reply_of : Search → ℕ → Reply (Option ℕ)
 reply_of s room = index_reply (served s room)
 
+abbrev pub taken_reply : Search → ℕ → Reply (Option ℕ)
+taken_reply s room = index_reply (taken s room)
+
 -- The marks after it.
 abbrev pub marks_by : List ℕ → List ℕ → Reply (Option Found) → List ℕ
 marks_by buffer marks (accepted (Some f)) =
@@ -41,6 +52,9 @@ marks_by buffer marks (refused e) = marks
 
 unfoldable pub marks_after : Search → List ℕ → List ℕ → List ℕ
 marks_after s buffer marks = marks_by buffer marks (served s (ListN.length marks))
+
+unfoldable pub marks_taken : Search → List ℕ → List ℕ → List ℕ
+marks_taken s buffer marks = marks_by buffer marks (taken s (ListN.length marks))
 
 -- A job with another count, and the jobs with another count at an index.
 abbrev pub recount : Job → ℕ → Job

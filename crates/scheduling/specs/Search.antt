@@ -56,12 +56,17 @@ found_at (Left at) s i job = cond (comes_first s i) (found_next s i job at) s
 
 unfoldable pub looked : Search → ℕ → Job → List ℕ → Search
 looked s i job buffer =
+    cond (is_allowed s.jobs s.last) (cond (is_some s.bad) s (found_at (standing_of job buffer) s i job)) s
+
+-- The same, where a `bad` that is no job's index counts as none.
+unfoldable pub visited : Search → ℕ → Job → List ℕ → Search
+visited s i job buffer =
     cond (is_allowed s.jobs s.last) (cond (is_some (bad_index s)) s (found_at (standing_of job buffer) s i job)) s
 
 -- The search once the first i jobs have been looked at.
 abbrev pub scanned : List Job → List ℕ → ℕ → ℕ → Search
 scanned jobs buffer last zero = begun (ListN.length jobs) last
-scanned jobs buffer last (suc i) = looked (scanned jobs buffer last i) i (job_at jobs i) buffer
+scanned jobs buffer last (suc i) = visited (scanned jobs buffer last i) i (job_at jobs i) buffer
 
 -- A job that was found is one of so many, its book is in the buffer, and it has rules left, the next of which begins
 -- there.

@@ -4,8 +4,8 @@
 ghost use Rattle.std.specs.Prelude.{◌≡◌, ◌<◌, length, MatchResult, IfSome};
 ghost use Rattle.operations.specs.Enums.{reply_of};
 ghost use Rattle.operations.specs.Jobs.{max_jobs};
-ghost use Rattle.scheduling.specs.Search.{standing_of, is_allowed, comes_first, begun, looked, Ready};
-ghost use Rattle.scheduling.specs.Run.{served, marks_after};
+ghost use Rattle.scheduling.specs.Search.{standing_of, is_allowed, comes_first, begun, visited, looked, Ready};
+ghost use Rattle.scheduling.specs.Run.{taken, served, marks_taken, marks_after};
 
 use format::{ErrorCode, MAX_RULES};
 use operations::{Error, Job};
@@ -22,7 +22,8 @@ pub struct Found {
 }
 
 // What a search over jobs has found so far: the first that is not sound, and, of those with rules left, the one that
-// comes first after the last served, going round. A `bad` that is no job's index counts as none.
+// comes first after the last served, going round. To `visit` and `take_next` a `bad` that is no job's index counts as
+// none.
 #[derive(Clone, Copy)]
 pub struct Search {
     pub jobs: usize,
@@ -77,9 +78,9 @@ impl Search {
 
     // What is found once a job has been looked at too, nothing at an index that is no job's. After a fault no further
     // book is read.
-    #[tactic(auto, unfolding(crate::specs::Search::looked))]
-    pub fn look(self, index: usize, job: Job, buffer: &[u8]) -> Search
-        ensures { result ≡ looked self index job buffer.now }
+    #[tactic(auto, unfolding(crate::specs::Search::visited))]
+    pub fn visit(self, index: usize, job: Job, buffer: &[u8]) -> Search
+        ensures { result ≡ visited self index job buffer.now }
     {
         if !is_allowed(self.jobs, self.last) || self.bad.is_some_and(|bad| bad < self.jobs) {
             return self;
@@ -97,13 +98,24 @@ impl Search {
         }
     }
 
+    // What `visit` finds, but that a `bad` of any index is a fault.
+    #[tactic(auto, unfolding(crate::specs::Search::visited, crate::specs::Search::looked))]
+    pub fn look(self, index: usize, job: Job, buffer: &[u8]) -> Search
+        ensures { result ≡ looked self index job buffer.now }
+    {
+        if self.bad.is_some() {
+            return self;
+        }
+        self.visit(index, job, buffer)
+    }
+
     // The turn of the job that was found, which is answered: its next rule is marked. The jobs' errors come in the order
     // 24, 25, 12.
-    #[tactic(auto, unfolding(crate::specs::Run::served, crate::specs::Run::marks_after))]
-    pub fn run_next(self, buffer: &[u8], marks: &mut [u8]) -> Result<Option<Found>, Error>
+    #[tactic(auto, unfolding(crate::specs::Run::taken, crate::specs::Run::marks_taken))]
+    pub fn take_next(self, buffer: &[u8], marks: &mut [u8]) -> Result<Option<Found>, Error>
         requires { Ready self buffer.now }
-        ensures result_value { reply_of result ≡ served self (length marks.old) }
-        ensures marks_after { marks.new ≡ marks_after self buffer.now marks.old }
+        ensures result_value { reply_of result ≡ taken self (length marks.old) }
+        ensures marks_after { marks.new ≡ marks_taken self buffer.now marks.old }
         ensures small { MatchResult result (λ next. IfSome next (λ found. found.index < max_jobs))
             (λ error. error.offset < max_jobs) }
     {
@@ -140,5 +152,82 @@ impl Search {
         let book = &buffer[job.start..job.start + job.length];
         marks[MAX_RULES * found.index + job.marked] = seeking::mark_at(book, found.at);
         Ok(Some(found))
+    }
+
+    // What `take_next` does, but that a `bad` of any index is told.
+    #[tactic(auto, unfolding(crate::specs::Run::taken, crate::specs::Run::marks_taken, crate::specs::Run::served, crate::specs::Run::marks_after))]
+    pub fn run_next(self, buffer: &[u8], marks: &mut [u8]) -> Result<Option<Found>, Error>
+        requires { Ready self buffer.now }
+        ensures result_value { reply_of result ≡ served self (length marks.old) }
+        ensures marks_after { marks.new ≡ marks_after self buffer.now marks.old }
+    {
+        match self.bad {
+            Some(offset) if is_allowed(self.jobs, self.last) => Err(Error {
+                code: ErrorCode::BadJob,
+                input: 0,
+                offset,
+            }),
+            _ => self.take_next(buffer, marks),
+        }
+    }
+}
+
+#[cfg(test)]
+mod tests {
+    use super::*;
+
+    // One job, whose book is no part of the empty buffer, and searches over it.
+    const JOB: Job = Job {
+        start: 1,
+        length: 0,
+        marked: 0,
+    };
+
+    const BEGUN: Search = Search {
+        jobs: 1,
+        last: 0,
+        bad: None,
+        next: None,
+    };
+
+    const BAD_5: Search = Search {
+        bad: Some(5),
+        ..BEGUN
+    };
+
+    #[test]
+    fn fault_of_any_index(rt: HostRuntime) {
+        let mut marks = [7u8; 1023];
+        assert_eq!(rt; BAD_5.look(0, JOB, &[]).bad, Some(5));
+        assert_eq!(rt; BEGUN.look(0, JOB, &[]).bad, Some(0));
+        let told = BAD_5.run_next(&[], &mut marks).err();
+        assert_eq!(rt;
+            told.map(|error| (error.code as u8, error.offset)),
+            Some((25, 5))
+        );
+        assert!(rt;
+            BEGUN
+                .run_next(&[], &mut marks)
+                .is_ok_and(|next| next.is_none())
+        );
+        assert_eq!(rt; marks, [7; 1023]);
+    }
+
+    #[test]
+    fn fault_of_a_job(rt: HostRuntime) {
+        let mut marks = [7u8; 1023];
+        let bad = BAD_5.visit(0, JOB, &[]).bad;
+        assert_eq!(rt; bad, Some(0));
+        assert!(rt;
+            BAD_5
+                .take_next(&[], &mut marks)
+                .is_ok_and(|next| next.is_none())
+        );
+        let told = Search { bad, ..BEGUN }.take_next(&[], &mut marks).err();
+        assert_eq!(rt;
+            told.map(|error| (error.code as u8, error.offset)),
+            Some((25, 0))
+        );
+        assert_eq!(rt; marks, [7; 1023]);
     }
 }

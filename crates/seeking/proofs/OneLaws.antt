@@ -1,8 +1,9 @@
 -- Marking a rule that was found.
 --     rule-at                           the rule with a number, and where it is read
---     one-marked                        marking one rule, under a table
+--     first-marked                      marking one rule, under a table
+--     one-marked, one-unread            the mark of a rule that is read and marked
 --     never-found, found_within, mark-found      and in a file
-use Rattle.std.specs.Prelude.{Ok, Err}
+use Rattle.std.specs.Prelude.{Result, Ok, Err}
 use mathlib.Core.List.{List, [], ◌∷◌, map}
 use mathlib.Core.Path.{◌≡◌, refl, sym, ap, ◌∙◌}
 use mathlib.Core.Bool.{true, false≢true}
@@ -28,12 +29,14 @@ use Rattle.format.proofs.FaultLaws.{within-got, whole-within, bits-bounded}
 use Rattle.operations.specs.Jobs.{book_marks}
 use Rattle.reader.specs.Source.Input.{from_bytes}
 use Rattle.reader.specs.File.{rest_reader}
-use Rattle.answers.specs.Answer.{Answer}
+use Rattle.operations.specs.Enums.{mark_number}
+use Rattle.answers.specs.Answer.{Answer, Fault}
 use Rattle.reader.proofs.RuleLaws.{rules-step, done_none, done_more, done_all}
 use Rattle.seeking.specs.declared.Standing.TheVariants.{Bad, Done, Left}
-use Rattle.marking.specs.Rule.{sides_mark, AllMarked}
+use Rattle.marking.specs.declared.rule.MarkedRule.{MarkedRule}
+use Rattle.marking.specs.Rule.{sides_mark, MarksRead, AllMarked}
 use Rattle.seeking.specs.One.{rules_bits, standing_in, file_standing}
-use Rattle.marking.proofs.WalkLaws.{marks-sides}
+use Rattle.marking.proofs.WalkLaws.{sides_themselves, marks-sides}
 use Rattle.seeking.proofs.FindLaws.{rules-end, rest-whole}
 
 -- ---- where a rule is read
@@ -113,17 +116,31 @@ module _ (source : Source) (unused : ℕ) (σ : Signature) (at : ℕ) (sides : S
       (done_more source unused σ 1 at 0 at [] (done_none source unused σ 1 at) (omega arith) sides next e) (omega arith)
 
   -- Where one rule is marked, its mark stands first.
-  pub one-marked : (r : Answer) (mark : ℕ) (marks₀ marks : List ℕ) (margins₀ margins : List ℤ) →
+  pub first-marked : (r : Answer) (mark : ℕ) (marks₀ marks : List ℕ) (margins₀ margins : List ℤ) →
       AllMarked σ (rules_reader source unused σ 1 at) r (mark ∷ marks₀) marks margins₀ margins →
       get_or marks 0 0 ≡ sides_mark σ sides
-  one-marked (Ok (decreasing, end)) mark marks₀ marks margins₀ margins (rules, read, listed) =
+  first-marked (Ok (decreasing, end)) mark marks₀ marks margins₀ margins (rules, read, listed) =
       let z : got rules end ≡ got (sides ∷ []) next = sym read ∙ one-read in
       let q : rules ≡ sides ∷ [] = cc in
       let stored : marks ≡ sets (mark ∷ marks₀) 0 (sides_mark σ sides ∷ []) = rw q at listed.marks in
       ap (λ (l : List ℕ). get_or l 0 0) stored
-  one-marked (Err f) mark marks₀ marks margins₀ margins read =
+  first-marked (Err f) mark marks₀ marks margins₀ margins read =
       let z : fault (number_of f.code) f.offset ≡ got (sides ∷ []) next = sym read ∙ one-read in
       absurd (false≢true (cc))
+
+-- A rule that is read there and marked has its mark.
+module _ (σ : Signature) (reading : Reading Sides) (r : Result MarkedRule Fault)
+    (read : MarksRead σ sides_themselves reading r) (sides : Sides) (next : ℕ) (e : reading ≡ got sides next) where
+  pub one-marked : (m : MarkedRule) → r ≡ Ok m → mark_number m.mark ≡ sides_mark σ sides
+  one-marked m q =
+      let (a, f, x) = rw q at read in
+      let z : got a m.cursor.at ≡ got sides next = sym f ∙ e in
+      let same : a ≡ sides = cc in
+      rw (← same) x.mark
+
+  pub one-unread : {A : Type 0} (f : Fault) → r ≡ Err f → A
+  one-unread f q =
+      let z : fault (number_of f.code) f.offset ≡ got sides next = sym (rw q at read) ∙ e in absurd (false≢true (cc))
 
 -- A rule that is found has its number below the count of rules.
 left_is : (file : RuleFile) (marked last at : ℕ) → standing_in marked (got file last) ≡ Left at →

@@ -5,7 +5,7 @@ use native.Mathlib.Omega.{arith}
 use Rattle.operations.specs.Jobs.{book_of}
 use Rattle.seeking.proofs.OneLaws.{found_within}
 use Rattle.scheduling.proofs.StandingLaws.{allowed-numbers, left-few}
-use Rattle.scheduling.proofs.Search.run_next.Goals as goal
+use Rattle.scheduling.proofs.Search.take_next.Goals as goal
 
 pub overflow_mul-self : goal.overflow_mul-self
 overflow_mul-self c =

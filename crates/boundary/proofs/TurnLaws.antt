@@ -61,14 +61,6 @@ module _ (jobs : List Job) (buffer marks : List ℕ) (last : ℕ) where
       (omega (arith, F.all, r.listed), few, (left-few buffer f.job r.unfinished).1))
       λ bars. let idle : None ≡ Some f = rw (scanned-idle jobs buffer last bars n) at e in absurd (cc)
 
-  end-bad : (b : ℕ) → (end jobs buffer last).bad ≡ Some b → b < max_jobs
-  unfolding begun
-  end-bad b e =
-      by_test (is_allowed n last)
-      (λ ok. let (within, few) = allowed-numbers n last ok in
-      let F = scanned-found jobs buffer last within ok n (omega arith) in omega (arith, (F.first_bad b e).0))
-      λ bars. let idle : None ≡ Some b = rw (scanned-idle jobs buffer last bars n) at e in absurd (cc)
-
   pub found-listed : (s : Search) (f : Found) → s ≡ end jobs buffer last →
       accepted (Some f) ≡ taken s (ListN.length marks) → (f.index < n) × (n ≤ max_jobs) × (f.job.marked < 1023)
   found-listed s f found e =
@@ -76,19 +68,19 @@ module _ (jobs : List Job) (buffer marks : List ℕ) (last : ℕ) where
       ap (λ (t : Search). taken t (ListN.length marks)) (sym found) ∙ sym e in
       end-next f (taken-next (end jobs buffer last) (ListN.length marks) (Some f) same).1
 
-  taken-small : (s : Search) (room : ℕ) → ((b : ℕ) → s.bad ≡ Some b → b < max_jobs) →
-      ((f : Found) → s.next ≡ Some f → Small f.index) → Small (number_of terms_of (index_reply (taken s room)))
+  taken-small : (s : Search) (room : ℕ) → ((f : Found) → s.next ≡ Some f → Small f.index) →
+      Small (number_of terms_of (index_reply (taken s room)))
   unfolding taken
-  taken-small s room bad next =
+  taken-small s room next =
       by_test (is_allowed s.jobs s.last)
       (λ may. by_option (bad_index s)
       (λ none. by_test (leb (job_marks * s.jobs) room)
       (λ long. by_option s.next (λ e. rw (may, none, long, e) (omega arith)) λ f e. rw (may, none, long, e) (next f e))
       λ short. rw (may, none, short) (omega arith))
-      λ b e. rw (may, e) (omega (arith, bad b (bad-listed s b e).0)))
+      λ b e. rw (may, e) (omega (arith, (bad-listed s b e).1, (allowed-numbers s.jobs s.last may).1)))
       λ bars. rw bars (omega arith)
 
   pub turned-small : Small (number_of terms_of (turned jobs buffer marks last).reply)
   turned-small =
       rw (← scanned-replied jobs buffer last marks)
-      (taken-small (end jobs buffer last) (ListN.length marks) end-bad λ f e. let k = end-next f e in omega (arith, k))
+      (taken-small (end jobs buffer last) (ListN.length marks) λ f e. let k = end-next f e in omega (arith, k))

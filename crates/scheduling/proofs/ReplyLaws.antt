@@ -1,6 +1,6 @@
 -- The turn after a search over all jobs is the definition's.
 --     taken-next, served-next                          what a turn serves is what was found
---     served-taken                                     the two definitions agree where a job is not sound, or none is
+--     served-taken                                     `served` and `taken` agree where `bad` is a job's or none
 --     scanned-replied, scanned-jobs, scanned-marks     the reply, the jobs and the marks
 use Rattle.std.specs.Prelude.{Option, Some, None}
 use mathlib.Core.List.{List, [], ◌∷◌}
@@ -24,7 +24,8 @@ use Rattle.operations.proofs.RoundLaws.{first_some, first-none}
 use Rattle.scheduling.specs.declared.Found.{Found}
 use Rattle.scheduling.specs.declared.Search.{Search}
 use Rattle.scheduling.specs.Search.{is_allowed, begun, bad_index}
-use Rattle.scheduling.specs.Run.{sound_reply, taken, served, index_reply, taken_reply, marks_by, marks_taken, recounted, jobs_by}
+use Rattle.scheduling.specs.Run.{sound_reply, served_by, served, taken, index_reply, taken_reply}
+use Rattle.scheduling.specs.Run.{marks_by, marks_taken, recounted, jobs_by}
 use Rattle.scheduling.proofs.StandingLaws.{allowed-numbers}
 use Rattle.scheduling.proofs.SearchLaws.{by_option, bad-listed, Searched, scanned-found, scanned-idle, end}
 
@@ -56,11 +57,9 @@ reply-then : {A B : Type 0} (x : Reply A) (r : Reply B) (t : B) → ◌>>◌ x r
 reply-then (accepted a) r t e = e
 reply-then (refused f) r t e = absurd (false≢true (cc))
 
-next-of : (s : Search) (room : ℕ) (bad : Option ℕ) (x : Option Found) →
-    ◌>>◌ (demand (is_allowed s.jobs s.last) no_such_job 0)
-    (◌>>◌ (sound_reply bad) (◌>>◌ (demand (leb (job_marks * s.jobs) room) marks_too_short 2) (accepted s.next)))
-    ≡ accepted x → (is_allowed s.jobs s.last ≡ true) × (s.next ≡ x)
-next-of s room bad x e =
+next-by : (bad : Option ℕ) (s : Search) (room : ℕ) (x : Option Found) → served_by bad s room ≡ accepted x →
+    (is_allowed s.jobs s.last ≡ true) × (s.next ≡ x)
+next-by bad s room x e =
     let (may, a) = demand-then (is_allowed s.jobs s.last) no_such_job 0 _ x e in
     let b = reply-then (sound_reply bad) _ x a in
     let (long, q) = demand-then (leb (job_marks * s.jobs) room) marks_too_short 2 _ x b in (may, cc)
@@ -68,12 +67,12 @@ next-of s room bad x e =
 pub taken-next : (s : Search) (room : ℕ) (x : Option Found) → taken s room ≡ accepted x →
     (is_allowed s.jobs s.last ≡ true) × (s.next ≡ x)
 unfolding taken
-taken-next s room x e = next-of s room (bad_index s) x e
+taken-next s room x e = next-by (bad_index s) s room x e
 
 pub served-next : (s : Search) (room : ℕ) (x : Option Found) → served s room ≡ accepted x →
     (is_allowed s.jobs s.last ≡ true) × (s.next ≡ x)
 unfolding served
-served-next s room x e = next-of s room s.bad x e
+served-next s room x e = next-by s.bad s room x e
 
 pub served-taken : (s : Search) (room : ℕ) → bad_index s ≡ s.bad → served s room ≡ taken s room
 unfolding served taken
@@ -99,7 +98,8 @@ module _ (jobs : List Job) (buffer : List ℕ) (last : ℕ) where
     sound-same : sound_from buffer 0 jobs ≡ sound_reply (bad_index found)
     sound-same =
         by_option (bad_index found) (λ none. rw none (sound-all buffer 0 jobs (F.none_bad none)))
-        λ b e. let (h, y, before) = F.first_bad b (bad-listed found b e).0 in rw e (sound-until buffer 0 jobs b h y before ∙ rw zero-add)
+        λ b e. let (h, y, before) = F.first_bad b (bad-listed found b e).0 in
+        rw e (sound-until buffer 0 jobs b h y before ∙ rw zero-add)
 
     next-same : bad_index found ≡ None → index_reply (accepted found.next) ≡ accepted (next_turn jobs buffer last)
     next-same sound =

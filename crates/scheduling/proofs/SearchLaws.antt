@@ -3,7 +3,7 @@
 --     scanned-idle             nothing is looked at where the numbers are not allowed
 --     by_option                an option by cases
 --     bad-listed, scanned-bad  the index of a job that is not sound
---     looked-visited           the two definitions agree where it is one of the jobs, or none is
+--     looked-visited           `looked` and `visited` agree where `bad` is a job's or none
 --     end, scanned-ready       the search over all jobs, which is ready for the turn
 use Rattle.std.specs.Prelude.{Option, Some, None, is_some}
 use mathlib.Core.List.{List}
@@ -24,15 +24,14 @@ use Rattle.seeking.specs.declared.Standing.{Standing}
 use Rattle.seeking.specs.declared.Standing.TheVariants.{Bad, Done, Left}
 use Rattle.seeking.specs.One.{file_standing}
 use Rattle.scheduling.specs.Search.{standing_of, is_allowed, comes_first, begun, found_bad, found_next, found_at}
-use Rattle.scheduling.specs.Search.{bad_index, visited, looked}
-use Rattle.scheduling.specs.Search.{scanned, Ready}
+use Rattle.scheduling.specs.Search.{bad_index, looked, visited, scanned, Ready}
 use Rattle.scheduling.proofs.StandingLaws.{Known, known, allowed-numbers}
 
 pub by_option : {A B : Type 0} (o : Option A) → (o ≡ None → B) → ((a : A) → o ≡ Some a → B) → B
 by_option None f g = f refl
 by_option (Some a) f g = g a refl
 
--- An index that is one of the jobs'.
+-- A `bad_index` is `bad`, and one of the jobs'.
 pub bad-listed : (s : Search) (b : ℕ) → bad_index s ≡ Some b → (s.bad ≡ Some b) × (b < s.jobs)
 bad-listed s b e =
     by_option s.bad (λ none. absurd (cc))

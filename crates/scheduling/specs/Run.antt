@@ -15,21 +15,20 @@ abbrev pub sound_reply : Option ℕ → Reply (Unit {0})
 sound_reply (Some i) = refused (record { code = bad_job; input = 0; offset = i })
 sound_reply None = accepted tt
 
--- The job that a turn serves, by what was found and the count of bytes of the marks.
-unfoldable pub served : Search → ℕ → Reply (Option Found)
-served s room = do
+-- The job that a turn serves, by the index of one that is not sound, what was found and how many bytes the marks have.
+abbrev pub served_by : Option ℕ → Search → ℕ → Reply (Option Found)
+served_by bad s room = do
   demand (is_allowed s.jobs s.last) no_such_job 0
-  sound_reply s.bad
+  sound_reply bad
   demand (leb (job_marks * s.jobs) room) marks_too_short 2
   accepted s.next
 
--- The same, where a `bad` that is no job's index counts as none.
+unfoldable pub served : Search → ℕ → Reply (Option Found)
+served s room = served_by s.bad s room
+
+-- The same, but that a `bad` that is no job's index counts as none.
 unfoldable pub taken : Search → ℕ → Reply (Option Found)
-taken s room = do
-  demand (is_allowed s.jobs s.last) no_such_job 0
-  sound_reply (bad_index s)
-  demand (leb (job_marks * s.jobs) room) marks_too_short 2
-  accepted s.next
+taken s room = served_by (bad_index s) s room
 
 -- The reply to the turn: the index of that job.
 abbrev pub index_reply : Reply (Option Found) → Reply (Option ℕ)

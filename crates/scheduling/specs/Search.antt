@@ -54,14 +54,17 @@ found_at Bad s i job = found_bad s i
 found_at Done s i job = s
 found_at (Left at) s i job = cond (comes_first s i) (found_next s i job at) s
 
-unfoldable pub looked : Search → ℕ → Job → List ℕ → Search
-looked s i job buffer =
-    cond (is_allowed s.jobs s.last) (cond (is_some s.bad) s (found_at (standing_of job buffer) s i job)) s
+-- The search once a job has been looked at too, by the index of one that is not sound: then nothing more is found.
+abbrev pub looked_by : Option ℕ → Search → ℕ → Job → List ℕ → Search
+looked_by bad s i job buffer =
+    cond (is_allowed s.jobs s.last) (cond (is_some bad) s (found_at (standing_of job buffer) s i job)) s
 
--- The same, where a `bad` that is no job's index counts as none.
+unfoldable pub looked : Search → ℕ → Job → List ℕ → Search
+looked s i job buffer = looked_by s.bad s i job buffer
+
+-- The same, but that a `bad` that is no job's index counts as none.
 unfoldable pub visited : Search → ℕ → Job → List ℕ → Search
-visited s i job buffer =
-    cond (is_allowed s.jobs s.last) (cond (is_some (bad_index s)) s (found_at (standing_of job buffer) s i job)) s
+visited s i job buffer = looked_by (bad_index s) s i job buffer
 
 -- The search once the first i jobs have been looked at.
 abbrev pub scanned : List Job → List ℕ → ℕ → ℕ → Search

@@ -197,7 +197,7 @@ mod tests {
 
     #[test]
     fn fault_of_any_index(rt: HostRuntime) {
-        let mut marks = [7u8; 1023];
+        let mut marks = [7u8; MAX_RULES];
         assert_eq!(rt; BAD_5.look(0, JOB, &[]).bad, Some(5));
         assert_eq!(rt; BEGUN.look(0, JOB, &[]).bad, Some(0));
         let told = BAD_5.run_next(&[], &mut marks).err();
@@ -210,12 +210,12 @@ mod tests {
                 .run_next(&[], &mut marks)
                 .is_ok_and(|next| next.is_none())
         );
-        assert_eq!(rt; marks, [7; 1023]);
+        assert_eq!(rt; marks, [7; MAX_RULES]);
     }
 
     #[test]
     fn fault_of_a_job(rt: HostRuntime) {
-        let mut marks = [7u8; 1023];
+        let mut marks = [7u8; MAX_RULES];
         let bad = BAD_5.visit(0, JOB, &[]).bad;
         assert_eq!(rt; bad, Some(0));
         assert!(rt;
@@ -228,6 +228,6 @@ mod tests {
             told.map(|error| (error.code as u8, error.offset)),
             Some((25, 0))
         );
-        assert_eq!(rt; marks, [7; 1023]);
+        assert_eq!(rt; marks, [7; MAX_RULES]);
     }
 }
